@@ -1,5 +1,5 @@
 -- What an agenda contains, and what its timers must be (this project's profile).
-use Rattle.std.specs.Prelude.{◌≡◌, ◌≢◌, ◌≤◌, ℕ, Bool, true, false, List, Option, Some, None, IsSome, if◌then◌else◌, map, slice_index}
+use Rattle.std.specs.Prelude.{◌≡◌, ◌≢◌, ◌<◌, ◌≤◌, ℕ, Bool, true, false, List, Option, Some, None, IsSome, if◌then◌else◌, map, slice_index}
 use Rattle.std.specs.List.{AllByRecursion}
 use Rattle.std.specs.List.Sorted.{IsStrictlySortedBy}
 use Rattle.std.specs.Map.{keys_of, lookup}
@@ -73,6 +73,11 @@ IsFirstTick es t = (k : Key) × (k.tick ≡ t) × IsFirst es k
 pub record IsLeast (c : Contents) (k : Key) : Type 0 where
   pub waits : IsSome (waiting c k)
   pub none_before : (j : Key) → Precedes j k → waiting c j ≡ None
+
+-- No event waits at this tick in this resource, nor before.
+pub record IsClear (tick resource : ℕ) (c : Contents) : Type 0 where
+  pub below : (j : Key) → j.tick < tick → waiting c j ≡ None
+  pub up_to : (j : Key) → j.tick ≡ tick → j.resource ≤ resource → waiting c j ≡ None
 
 -- Nothing waits below this tick, and something waits at it.
 pub record IsNext (c : Contents) (t : ℕ) : Type 0 where

@@ -6,7 +6,7 @@ ghost use Rattle.std.specs.Map.{lookup};
 ghost use Rattle.fb_types.specs.Keys.{Precedes, changed_to, found, local_key, or_else, same_key, timer_key};
 ghost use Rattle.fb_types.specs.Takes.{is_timer_of};
 ghost use Rattle.fb_types.specs.declared.run.Event.TheVariants.{Local, Timer};
-ghost use Rattle.fb_agenda.specs.Agendas.{waiting, AreRising, IsNext, IsTimed, IsInResource, local_events, timer_set};
+ghost use Rattle.fb_agenda.specs.Agendas.{waiting, AreRising, IsClear, IsNext, IsTimed, IsInResource, local_events, timer_set};
 ghost use Rattle.fb_agenda.specs.Arrivals.{AreNew, arrivals_at};
 ghost use Rattle.fb_agenda.specs.Calendars.{BeginsAt, Leads, Sets};
 ghost use Rattle.fb_agenda.specs.Indexes.{taken};
@@ -20,6 +20,7 @@ use crate::queue::{self, Queue};
 use fb_types::{Event, Key, Message, Target, TimerAsk};
 use std::alloc::{AllocError, Global};
 use std::marker::Model;
+use std::mem;
 
 /// The events that wait, at most one under each key, and the ticks at which the timers of the instances go off.
 pub struct Agenda {
@@ -118,6 +119,29 @@ fn pop_later(later: &mut Calendar, horizon: u64, index: &mut Least) -> bool
 }
 
 impl Agenda {
+    /// An agenda without events, for the instances that have these ticks of timers.
+    fn of(alloc: Global, due: Vec<u64>) -> Agenda
+        ensures empty { (j : Key) → waiting result j ≡ None }
+        ensures due { result.due ≡ due.items }
+    {
+        let later = Later {
+            events: Calendar::new(alloc),
+            due,
+            has_local: false,
+        };
+        Agenda {
+            later,
+            now: Queue::new(alloc),
+        }
+    }
+
+    /// An agenda without events, for no instance. It takes no memory, and stands in for one that is used elsewhere.
+    pub fn none(alloc: Global) -> Agenda
+        ensures { (j : Key) → waiting result j ≡ None }
+    {
+        Agenda::of(alloc, Vec::new(alloc))
+    }
+
     /// An agenda without events, for this number of instances.
     ///
     /// # Errors
@@ -128,15 +152,7 @@ impl Agenda {
         ensures due { IfOk result (λ a. length a.due ≡ instances) }
     {
         let due = vec![in alloc; 0u64; instances]?;
-        let later = Later {
-            events: Calendar::new(alloc),
-            due,
-            has_local: false,
-        };
-        Ok(Agenda {
-            later,
-            now: Queue::new(alloc),
-        })
+        Ok(Agenda::of(alloc, due))
     }
 
     /// Puts an event under its key. It replaces an event that waits there.
@@ -228,6 +244,43 @@ impl Agenda {
         Ok(())
     }
 
+    /// Puts the event in the slot back on the agenda, under its key. The slot keeps the key, and has an empty event if the
+    /// event moved. It replaces an event that waits there.
+    ///
+    /// # Errors
+    ///
+    /// When memory runs out. The agenda is then as it was.
+    #[inline(always)]
+    pub fn put_back(&mut self, least: &mut Least) -> Result<(), AllocError>
+        ensures put { OnOk result ((j : Key) → waiting self.new j ≡ (if same_key least.old.key j then Some least.old.event else waiting self.old j)) }
+        ensures due { self.new.due ≡ self.old.due }
+        ensures err { OnErr result (self.new ≡ self.old) }
+        ensures key { least.new.key ≡ least.old.key }
+    {
+        match least.local_target() {
+            Some(target) => {
+                self.put_local(least.key.tick, least.key.resource, least.key.a, target)
+            }
+            None => self.put_back_aside(least),
+        }
+    }
+
+    /// The same as `put_back`, for any event. It is apart so that `put_back` moves no event.
+    ///
+    /// # Errors
+    ///
+    /// As `put_back`.
+    #[inline(never)]
+    fn put_back_aside(&mut self, least: &mut Least) -> Result<(), AllocError>
+        ensures put { OnOk result ((j : Key) → waiting self.new j ≡ (if same_key least.old.key j then Some least.old.event else waiting self.old j)) }
+        ensures due { self.new.due ≡ self.old.due }
+        ensures err { OnErr result (self.new ≡ self.old) }
+        ensures key { least.new.key ≡ least.old.key }
+    {
+        let event = mem::replace(&mut least.event, Event::Stimulus(0));
+        self.put(least.key, event)
+    }
+
     /// Puts messages for a resource under their keys: all of them or none.
     ///
     /// # Errors
@@ -252,12 +305,11 @@ impl Agenda {
         Ok(())
     }
 
-    /// Whether no event waits at this tick (in milliseconds) in this resource, nor before, where the queue is empty. So a local
-    /// event of them would be the next one.
+    /// Whether no event waits at this tick (in milliseconds) in this resource, nor before, where the queue is empty. So an event
+    /// of them would be the next one.
     #[inline(always)]
     pub fn is_clear(&mut self, tick: u64, resource: u32) -> bool
-        ensures before { OnTrue result ((j : Key) (n : ℕ) → Precedes j (local_key tick resource n) → waiting self.old j ≡ None) }
-        ensures itself { OnTrue result ((n : ℕ) → waiting self.old (local_key tick resource n) ≡ None) }
+        ensures clear { OnTrue result (IsClear tick resource self.old) }
         ensures kept { self.new ≡ self.old }
     {
         if !self.now.is_empty() {

@@ -1,11 +1,9 @@
 -- The blocks, the counts and the queues at the beginning.
 use Rattle.std.proofs.Common.{◌≡◌, ℕ, All, length, refl, sym, subst, Option}
-use Rattle.std.specs.Global.{Vec}
 use Rattle.std.proofs.lemmas.List.Elements.{All-nil}
 use Rattle.fb_types.specs.Headline.{Inputs, AreAccepted, system_of}
 use Rattle.fb_types.specs.Simulation.{opening_state}
 use Rattle.fb_types.specs.Takes.{world_of}
-use Rattle.fb_agenda.specs.Agendas.{Contents}
 use Rattle.fb_system.specs.Lines.{BelongsTo}
 use Rattle.fb_net.specs.Worlds.{IsForest}
 use Rattle.fb_net.specs.declared.resource.Forest.{Forest}
@@ -13,9 +11,9 @@ use Rattle.fb_laws.proofs.Accepted.{accepted_typed}
 use Rattle.fb_laws.proofs.Simulated.{opening_state-typed}
 use Rattle.fb_resource.specs.Openings.{IsOpened}
 use Rattle.fb_resource.specs.Posts.{IsMessage}
-use Rattle.fb_resource.specs.Takings.{AreReady, IsEmpty, IsHere, queues_of}
+use Rattle.fb_resource.specs.Takings.{AreReady, IsEmpty, IsHere}
 use Rattle.fb_resource.specs.Waiting.{IsInOrder}
-use Rattle.fb_resource.specs.declared.given.Given.{Given}
+use Rattle.fb_resource.specs.declared.queues.Queues.{Queues}
 use Rattle.fb_resource.specs.Counts.{IsMetered}
 use Rattle.fb_resource.proofs.Meters.{fresh_counts, metered_fresh}
 
@@ -31,9 +29,9 @@ pub metered_opened : (limit : ℕ) → IsMetered limit fresh_counts
 metered_opened limit = metered_fresh limit fresh_counts refl
 
 -- an agenda in order is ready before anything was given
-pub ready_empty : (i : Inputs) (tick : ℕ) (a : Contents) (sent : Vec ℕ) (g : Given) → IsInOrder i tick a → length a.due ≡ length (system_of i).paths
-    → length sent.items ≡ (system_of i).links → IsEmpty g → AreReady i tick (queues_of a sent g)
-ready_empty i tick a sent g order due counted empty = record {
+pub ready_empty : (i : Inputs) (tick : ℕ) (q : Queues) → IsInOrder i tick q.agenda → length q.agenda.due ≡ length (system_of i).paths
+    → length q.sent.items ≡ (system_of i).links → IsEmpty q → AreReady i tick q
+ready_empty i tick q order due counted empty = record {
   order = order;
   due = due;
   counted = counted;
@@ -43,6 +41,5 @@ ready_empty i tick a sent g order due counted empty = record {
   keeps = empty.keeps;
 }
 
-pub ready_opened : (i : Inputs) (of : Option ℕ) (a : Contents) (sent : Vec ℕ) (g : Given) → IsOpened i of a → length sent.items ≡ (system_of i).links → IsEmpty g
-    → AreReady i 0 (queues_of a sent g)
-ready_opened i of a sent g opened counted empty = ready_empty i 0 a sent g opened.order opened.due counted empty
+pub ready_opened : (i : Inputs) (of : Option ℕ) (q : Queues) → IsOpened i of q.agenda → length q.sent.items ≡ (system_of i).links → IsEmpty q → AreReady i 0 q
+ready_opened i of q opened counted empty = ready_empty i 0 q opened.order opened.due counted empty

@@ -1,15 +1,15 @@
 -- The event that is taken next, where a local event waits in addition.
 use Rattle.std.proofs.Common.{◌≡◌, ◌<◌, ℕ, Bool, true, false, cond, Option, Some, None, refl, sym, ap, subst, ◌∙◌}
 use Rattle.std.specs.Bool.{OnFalse, OnTrue}
-use Rattle.fb_types.specs.Keys.{Precedes, local_key, same_key}
+use Rattle.fb_types.specs.Keys.{Precedes, same_key}
 use Rattle.fb_types.specs.declared.key.Key.{Key}
 use Rattle.fb_types.specs.declared.run.Event.{Event}
-use Rattle.fb_types.specs.declared.run.Event.TheVariants.{Local}
-use Rattle.fb_types.specs.declared.run.Target.{Target}
 use Rattle.fb_types.proofs.KeyLaws.{same_key_is, same_key_itself}
-use Rattle.fb_agenda.specs.Agendas.{Contents, waiting}
+use Rattle.fb_agenda.specs.Agendas.{Contents, IsClear, waiting}
 use Rattle.fb_agenda.proofs.Apart.{not_itself}
-use Rattle.fb_resource.specs.Takings.{Finds, IsRaised, with_event}
+use Rattle.fb_agenda.proofs.Clear.{clear_before, clear_itself}
+use Rattle.fb_resource.specs.Posts.{IsPut}
+use Rattle.fb_resource.specs.Takings.{Finds, with_event}
 use Rattle.fb_resource.proofs.Lone.{with_put}
 
 -- what is found on an agenda is found on one on which the same waits
@@ -60,13 +60,9 @@ module _ (horizon : ℕ) (a : Contents) (k : Key) (e : Event) where
       left j false other =
           sym (apart j other) ∙ ap (λ b. cond b None (waiting (with_event k e a) j)) (sym other)
 
--- .. a local one, where nothing waits up to its moment
-pub finds_local : (horizon : ℕ) (a : Contents) (k : Key) (e : Event) → IsRaised k e → k.tick < horizon → ((j : Key) (n : ℕ) → Precedes j (local_key k.tick k.resource n) → waiting a j ≡ None)
-    → ((n : ℕ) → waiting a (local_key k.tick k.resource n) ≡ None) → Finds horizon (with_event k e a) true k e a
-finds_local horizon a k e raised below before itself =
-    finds_raised horizon a k e below
-    (λ j first. before j raised.number (subst (λ (z : Key). Precedes j z) raised.key first))
-    (ap (waiting a) raised.key ∙ itself raised.number)
+-- .. where no event waits at its moment or before
+pub finds_clear : (horizon : ℕ) (a : Contents) (k : Key) (e : Event) → k.tick < horizon → IsClear k.tick k.resource a → Finds horizon (with_event k e a) true k e a
+finds_clear horizon a k e below clear = finds_raised horizon a k e below (clear_before a k clear) (clear_itself a k clear)
 
 -- what taking the least event of an agenda found
 pub finds_taken :
@@ -77,11 +73,6 @@ finds_taken horizon a now true k e found below least left none kept = record { f
 finds_taken horizon a now false k e found below least left none kept =
     record { found = tt; below = tt; least = tt; left = tt; none = none; kept = λ j. ap (λ (c : Contents). waiting c j) kept }
 
--- Putting a raised event under the numbers of its key puts it where it waits in addition.
-pub put_raised : (k : Key) (e : Event) (a new : Contents) (t : Target) → IsRaised k e → e ≡ Local t
-    → ((j : Key) → waiting new j ≡ cond (same_key (local_key k.tick k.resource k.a) j) (Some (Local t)) (waiting a j)) → (j : Key) → waiting new j ≡ waiting (with_event k e a) j
-put_raised k e a new t raised is put j =
-    put j
-    ∙ ap (λ (z : Key). cond (same_key z j) (Some (Local t)) (waiting a j)) (ap (λ n. local_key k.tick k.resource n) (ap (λ (z : Key). z.a) raised.key) ∙ sym raised.key)
-    ∙ ap (λ (x : Event). cond (same_key k j) (Some x) (waiting a j)) (sym is)
-    ∙ sym (with_put k e a j)
+-- Putting an event puts it where it waits in addition.
+pub put_next : (k : Key) (e : Event) (a new : Contents) → IsPut a new k e → (j : Key) → waiting new j ≡ waiting (with_event k e a) j
+put_next k e a new put j = put j ∙ sym (with_put k e a j)

@@ -9,7 +9,8 @@ use Rattle.fb_types.proofs.KeyLaws.{earlier_precedes}
 use Rattle.fb_agenda.specs.Agendas.{Contents, waiting}
 use Rattle.fb_types.specs.declared.run.Event.{Event}
 use Rattle.fb_net.specs.Events.{event_of}
-use Rattle.fb_resource.specs.Takings.{AreReady, Queues}
+use Rattle.fb_resource.specs.Takings.{AreReady}
+use Rattle.fb_resource.specs.declared.queues.Queues.{Queues}
 use Rattle.fb_resource.specs.Waiting.{IsInOrder, meaning}
 
 -- an agenda from which one key was taken

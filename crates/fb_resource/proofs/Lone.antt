@@ -27,9 +27,9 @@ use Rattle.fb_net.specs.declared.outbox.Outbox.{Outbox}
 use Rattle.fb_net.specs.declared.resource.Forest.{Forest}
 use Rattle.fb_system.specs.Lines.{BelongsTo}
 use Rattle.fb_resource.specs.Posts.{ArePosted, CountsAre, IsPostable, IsPut, arriving}
-use Rattle.fb_resource.specs.Takings.{AreReady, IsEmptied, IsLone, IsSettled, IsTakenHere, Queues, queues_of, with_event, with_next}
+use Rattle.fb_resource.specs.Takings.{AreReady, IsEmptied, IsLone, IsSettled, IsTakenHere, with_event, with_next}
 use Rattle.fb_resource.specs.Waiting.{IsInOrder, meaning}
-use Rattle.fb_resource.specs.declared.given.Given.{Given}
+use Rattle.fb_resource.specs.declared.queues.Queues.{Queues}
 use Rattle.fb_resource.specs.declared.tick_counts.TickCounts.{TickCounts}
 use Rattle.fb_resource.proofs.PostLaws.{local_waits, order_put, posted_local}
 
@@ -114,10 +114,10 @@ order_alike i tick a b same due order = record {
   home = λ j e is one. order.home j e (sym (same j) ∙ is) one;
 }
 
-pub ready_alike : (i : Inputs) (tick : ℕ) (a b : Contents) (sent : Vec ℕ) (g : Given) → ((j : Key) → waiting b j ≡ waiting a j) → b.due ≡ a.due
-    → AreReady i tick (queues_of a sent g) → AreReady i tick (queues_of b sent g)
-ready_alike i tick a b sent g same due had = record {
-  order = order_alike i tick a b same due had.order;
+pub ready_alike : (i : Inputs) (tick : ℕ) (q : Queues) (b : Contents) → ((j : Key) → waiting b j ≡ waiting q.agenda j) → b.due ≡ q.agenda.due
+    → AreReady i tick q → AreReady i tick (record q { agenda = b })
+ready_alike i tick q b same due had = record {
+  order = order_alike i tick q.agenda b same due had.order;
   due = ap length due ∙ had.due;
   counted = had.counted;
   mail = had.mail;
@@ -126,9 +126,9 @@ ready_alike i tick a b sent g same due had = record {
   keeps = had.keeps;
 }
 
-pub taken_alike : (i : Inputs) (limit : ℕ) (s : State) (k : Key) (e : model.Event) (stop : Option Reason) (from : ℕ) (t : Forest) (x : TickCounts) (old : Queues) (a b : Contents) (sent : Vec ℕ) (g : Given)
-    → ((j : Key) → waiting b j ≡ waiting a j) → IsTakenHere i limit s k e stop from t x old (queues_of a sent g) → IsTakenHere i limit s k e stop from t x old (queues_of b sent g)
-taken_alike i limit s k e stop from t x old a b sent g same had = record {
+pub taken_alike : (i : Inputs) (limit : ℕ) (s : State) (k : Key) (e : model.Event) (stop : Option Reason) (from : ℕ) (t : Forest) (x : TickCounts) (old q : Queues) (b : Contents)
+    → ((j : Key) → waiting b j ≡ waiting q.agenda j) → IsTakenHere i limit s k e stop from t x old q → IsTakenHere i limit s k e stop from t x old (record q { agenda = b })
+taken_alike i limit s k e stop from t x old q b same had = record {
   effect = had.effect;
   takes = had.takes;
   stops = had.stops;

@@ -1,5 +1,6 @@
 -- A run of a resource in code has the result of a run of what represents it.
 use Rattle.std.proofs.Common.{◌≡◌, ◌<◌, ◌≤◌, ℕ, List, [], map, Option, Some, None, refl, sym, ap, subst, ◌∙◌, arith}
+use Rattle.std.specs.Global.{Vec}
 use Rattle.std.specs.Prelude.{option_map, unwrap_or}
 use Rattle.fb_types.specs.Headline.{Inputs, system_of}
 use Rattle.fb_types.specs.Machines.{Item, Local, Run, TakesAlone, after, end}
@@ -8,6 +9,8 @@ use Rattle.fb_types.specs.Parts.{count_of, machine, IsAtResource}
 use Rattle.fb_types.specs.States.{State}
 use Rattle.fb_types.specs.States as model
 use Rattle.fb_types.specs.declared.key.Key.{Key}
+use Rattle.fb_types.specs.declared.run.Line.{Line}
+use Rattle.fb_types.specs.declared.run.Message.{Message}
 use Rattle.fb_types.specs.declared.run.StopMark.{StopMark}
 use Rattle.fb_types.specs.declared.value.Reason.{Reason}
 use Rattle.fb_types.proofs.Lookups.{none_some}
@@ -17,10 +20,10 @@ use Rattle.fb_types.specs.declared.run.Event.{Event}
 use Rattle.fb_net.specs.Events.{event_of}
 use Rattle.fb_resource.specs.Counts.{IsMetered, IsUnused, meter_of}
 use Rattle.fb_resource.specs.Posts.{arriving}
-use Rattle.fb_resource.specs.Takings.{AreReady, IsEmpty, IsHere, IsTakenHere, Queues}
+use Rattle.fb_resource.specs.Takings.{AreReady, IsEmpty, IsHere, IsTakenHere}
+use Rattle.fb_resource.specs.declared.queues.Queues.{Queues}
 use Rattle.fb_resource.specs.Resources.{HasRun, IsOf, RanTo, Represents, mark_of}
-use Rattle.fb_resource.specs.Runs.{ComesTo, HasEnded, IsRunning, Running, RepresentsRunning, at_rest, in_run}
-use Rattle.fb_resource.specs.declared.given.Given.{Given}
+use Rattle.fb_resource.specs.Runs.{ComesTo, HasEnded, IsRunning, Running, RepresentsRunning, at_rest, in_run, with_queues}
 use Rattle.fb_resource.specs.declared.resource.Resource.{Resource}
 use Rattle.fb_resource.specs.declared.resource.WindowDone.TheVariants.{Ran}
 use Rattle.fb_resource.specs.declared.tick_counts.TickCounts.{TickCounts}
@@ -56,18 +59,18 @@ ready_to i t to q ready none = record {
 
 -- ---- The beginning
 
-module _ (i : Inputs) (limit : ℕ) (x : Resource) (m : TickCounts) (g : Given) (empty : IsEmpty g) where
-  pub running_first : IsOf i x → IsMetered limit m → unwrap_or m.tick 0 ≤ x.clock → IsRunning i limit (in_run x m g)
+module _ (i : Inputs) (limit : ℕ) (x : Resource) (m : TickCounts) (q : Queues) (empty : IsEmpty q) where
+  pub running_first : IsOf i (with_queues x q) → IsMetered limit m → unwrap_or m.tick 0 ≤ x.clock → IsRunning i limit (in_run x m q)
   running_first of metered past = record {
     named = of.named;
     metered = metered;
     past = past;
-    ready = ready_empty i x.clock x.agenda x.sent g of.order of.due of.counted empty;
+    ready = ready_empty i x.clock q of.order of.due of.counted empty;
     home = of.home;
   }
 
-  pub comes_first : (t : ℕ) (l : Local (machine (system_of i) limit)) → x.stopped ≡ None → IsUnused x.clock (meter_of m) → Represents i limit l x
-      → ComesTo i limit x.tree.resource t l (in_run x m g)
+  pub comes_first : (t : ℕ) (l : Local (machine (system_of i) limit)) → x.stopped ≡ None → IsUnused x.clock (meter_of m) → Represents i limit l (with_queues x q)
+      → ComesTo i limit x.tree.resource t l (in_run x m q)
   comes_first t l live unused represents = record {
     at = l;
     represents = record {
@@ -94,6 +97,24 @@ module _ (i : Inputs) (limit : ℕ) (x : Resource) (m : TickCounts) (g : Given) 
       sent = ap (map (arriving i)) empty.mail;
     };
   }
+
+-- ---- Its queues
+
+-- to it come back the agenda and the counts that it had
+pub queues_back : (x : Resource) (q : Queues) → q.agenda ≡ x.agenda → q.sent ≡ x.sent → with_queues x q ≡ x
+queues_back x q agenda sent = ap (λ (a : Contents). record x { agenda = a; sent = q.sent }) agenda ∙ ap (λ (v : Vec ℕ). record x { sent = v }) sent
+
+-- .. and those that its run left
+pub run_back :
+    (i : Inputs) (limit : ℕ) (x y : Resource) (q r : Queues) (to : ℕ) (a : Contents) (sent : Vec ℕ) (lines : Vec Line) (mail : Vec Message) (stop : Option StopMark)
+    → q.agenda ≡ x.agenda → q.sent ≡ x.sent → a ≡ r.agenda → sent ≡ r.sent → lines ≡ r.outbox.lines → mail ≡ r.mail
+    → HasRun i limit (with_queues x q) to (Ran (with_queues y r) r.outbox.lines r.mail stop) → HasRun i limit x to (Ran (record y { agenda = a; sent = sent }) lines mail stop)
+run_back i limit x y q r to a sent lines mail stop had_agenda had_sent agenda_is sent_is lines_are mail_is ran =
+    subst (λ (z : Resource). HasRun i limit z to (Ran (record y { agenda = a; sent = sent }) lines mail stop)) (queues_back x q had_agenda had_sent)
+    (subst (λ (z : Contents). HasRun i limit (with_queues x q) to (Ran (record y { agenda = z; sent = sent }) lines mail stop)) (sym agenda_is)
+    (subst (λ (z : Vec ℕ). HasRun i limit (with_queues x q) to (Ran (record y { agenda = r.agenda; sent = z }) lines mail stop)) (sym sent_is)
+    (subst (λ (z : Vec Line). HasRun i limit (with_queues x q) to (Ran (with_queues y r) z mail stop)) (sym lines_are)
+    (subst (λ (z : Vec Message). HasRun i limit (with_queues x q) to (Ran (with_queues y r) r.outbox.lines z stop)) (sym mail_is) ran))))
 
 -- ---- One event
 
@@ -213,7 +234,7 @@ module _ (i : Inputs) (limit : ℕ) (old : Running) (a : Contents) (to : ℕ) (s
         named = running.named;
         metered = running.metered;
         past = omega (arith, past, ahead);
-        ready = ready_alike i to old.queues.agenda a old.queues.sent (record { mail = old.queues.mail; outbox = old.queues.outbox }) same due (ready_to i old.clock to old.queues running.ready none);
+        ready = ready_alike i to old.queues a same due (ready_to i old.clock to old.queues running.ready none);
         home = λ j f h. running.home j f (sym (same j) ∙ h);
       }
 

@@ -16,7 +16,8 @@ use Rattle.fb_agenda.specs.Agendas.{Contents, waiting}
 use Rattle.fb_types.specs.declared.run.Event.{Event}
 use Rattle.fb_net.specs.Events.{event_of}
 use Rattle.fb_resource.specs.Runs.{Running, RepresentsRunning}
-use Rattle.fb_resource.specs.Takings.{IsHere, IsTakenHere, Queues}
+use Rattle.fb_resource.specs.Takings.{IsHere, IsTakenHere}
+use Rattle.fb_resource.specs.declared.queues.Queues.{Queues}
 use Rattle.fb_resource.specs.Waiting.{meaning}
 use Rattle.fb_resource.proofs.Leaving.{Left, still}
 use Rattle.fb_laws.proofs.Effects.{takes_good}

@@ -29,7 +29,8 @@ use Rattle.fb_laws.proofs.Agendas.{holds_none}
 use Rattle.fb_laws.proofs.Simulated.{IsTypedConfig, takes-typed}
 use Rattle.fb_resource.specs.Counts.{meter_of}
 use Rattle.fb_resource.specs.Posts.{CountsAre, arriving}
-use Rattle.fb_resource.specs.Takings.{IsHere, IsSettled, IsTakenHere, Queues}
+use Rattle.fb_resource.specs.Takings.{IsHere, IsSettled, IsTakenHere}
+use Rattle.fb_resource.specs.declared.queues.Queues.{Queues}
 use Rattle.fb_resource.specs.Waiting.{meaning}
 use Rattle.fb_resource.specs.declared.tick_counts.TickCounts as counted
 use Rattle.fb_resource.proofs.Meters.{alike_same}

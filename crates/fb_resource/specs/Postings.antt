@@ -15,9 +15,10 @@ use Rattle.fb_net.specs.Outs.{out_of}
 use Rattle.fb_net.specs.declared.outbox.Out.{Out}
 use Rattle.fb_net.specs.declared.outbox.Outbox.{Outbox}
 use Rattle.fb_resource.specs.Posts.{ArePosted, CountsAre, IsMessage, IsPostable}
-use Rattle.fb_resource.specs.Takings.{IsSettled, Queues}
+use Rattle.fb_resource.specs.Takings.{IsSettled}
 use Rattle.fb_resource.specs.Waiting.{IsInOrder, meaning}
 use Rattle.fb_resource.specs.declared.posting.Posting.{Posting}
+use Rattle.fb_resource.specs.declared.queues.Queues.{Queues}
 
 abbrev pub system_in : Posting → System
 system_in p = system_of p.system.now

@@ -14,9 +14,9 @@ use Rattle.fb_types.specs.declared.value.Reason.{Reason}
 use Rattle.fb_net.specs.declared.resource.Forest.{Forest}
 use Rattle.fb_resource.specs.Counts.{IsMetered}
 use Rattle.fb_resource.specs.Posts.{CountsAre, arriving}
-use Rattle.fb_resource.specs.Takings.{AreReady, IsHere, Queues, queues_of}
+use Rattle.fb_resource.specs.Takings.{AreReady, IsHere}
 use Rattle.fb_resource.specs.Waiting.{meaning}
-use Rattle.fb_resource.specs.declared.given.Given.{Given}
+use Rattle.fb_resource.specs.declared.queues.Queues.{Queues}
 use Rattle.fb_resource.specs.declared.resource.Resource.{Resource}
 use Rattle.fb_resource.specs.declared.tick_counts.TickCounts.{TickCounts}
 
@@ -52,8 +52,12 @@ pub record Running : Type 0 where
   pub queues : Queues
   pub stopped : Option Reason
 
-abbrev pub in_run : Resource → TickCounts → Given → Running
-in_run x m g = record { tree = x.tree; clock = x.clock; meter = m; queues = queues_of x.agenda x.sent g; stopped = x.stopped }
+abbrev pub in_run : Resource → TickCounts → Queues → Running
+in_run x m q = record { tree = x.tree; clock = x.clock; meter = m; queues = q; stopped = x.stopped }
+
+-- the resource to which the agenda and the counts of its queues have come back
+abbrev pub with_queues : Resource → Queues → Resource
+with_queues x q = record x { agenda = q.agenda; sent = q.sent }
 
 -- the resource by itself
 abbrev pub at_rest : Running → Resource

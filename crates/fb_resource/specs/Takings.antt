@@ -1,10 +1,10 @@
 -- Taking one event in its resource (this project's profile).
 use Rattle.std.specs.Bool.{OnFalse, OnTrue}
-use Rattle.std.specs.Global.{Vec}
-use Rattle.std.specs.Prelude.{◌≡◌, ◌+◌, ◌<◌, ◌≤◌, ◌++◌, ◌∷◌, ℕ, Bool, true, false, [], All, if◌then◌else◌, length, map, Option, Some, None}
+use Rattle.std.specs.Prelude.{◌≡◌, ◌+◌, ◌^◌, ◌<◌, ◌≤◌, ◌++◌, ◌∷◌, ℕ, Bool, true, false, [], All, if◌then◌else◌, length, map, Option, Some, None}
 use Rattle.fb_types.specs.Headline.{Inputs, system_of}
 use Rattle.fb_types.specs.Keys.{Precedes, changed_to, local_key, same_key}
 use Rattle.fb_types.specs.Names.{Path}
+use Rattle.fb_types.specs.Reactions.{World}
 use Rattle.fb_types.specs.Numbers.{line_of}
 use Rattle.fb_types.specs.States.{State, path_of}
 use Rattle.fb_types.specs.States as model
@@ -12,46 +12,35 @@ use Rattle.fb_types.specs.Takes.{Effect, Posts, Takes, post_all, timer_change, w
 use Rattle.fb_types.specs.declared.key.Key.{Key}
 use Rattle.fb_types.specs.declared.run.Event as waiting
 use Rattle.fb_types.specs.declared.run.Event.TheVariants as waits
-use Rattle.fb_types.specs.declared.run.Message.{Message}
 use Rattle.fb_types.specs.declared.run.Target.{Target}
 use Rattle.fb_types.specs.declared.run.TimerAsk.{TimerAsk}
 use Rattle.fb_types.specs.declared.run.TimerAsk.TheVariants.{Keep, Clear, At}
 use Rattle.fb_types.specs.declared.value.Reason.{Reason}
 use Rattle.fb_agenda.specs.Agendas as agendas
 use Rattle.fb_agenda.specs.Agendas.{Contents}
+use Rattle.fb_agenda.specs.declared.least.Least.{Least}
 use Rattle.fb_system.specs.Lines.{BelongsTo}
-use Rattle.fb_net.specs.Events.{event_of}
-use Rattle.fb_net.specs.Outs.{out_of}
+use Rattle.fb_net.specs.Events.{IsEventIn, event_of}
+use Rattle.fb_net.specs.Outs.{AreOuts, out_of}
 use Rattle.fb_net.specs.Worlds.{IsForest}
 use Rattle.fb_net.specs.declared.outbox.Out.TheVariants.{Local}
 use Rattle.fb_net.specs.declared.outbox.Outbox.{Outbox}
 use Rattle.fb_net.specs.declared.resource.Forest.{Forest}
-use Rattle.fb_laws.specs.Typed.{AreTyped}
+use Rattle.fb_laws.specs.Typed.{AreTyped, IsTypedEvent}
 use Rattle.fb_resource.specs.Counts.{BeginAlike, meter_of}
 use Rattle.fb_resource.specs.Posts.{ArePosted, CountsAre, IsMessage, IsPostable, IsPut, arriving}
 use Rattle.fb_resource.specs.Waiting.{IsInOrder, meaning}
-use Rattle.fb_resource.specs.declared.given.Given.{Given}
+use Rattle.fb_resource.specs.declared.queues.Queues.{Queues}
 use Rattle.fb_resource.specs.declared.tick_counts.TickCounts.{TickCounts}
 
 -- ---- Before and after
 
--- Where the events of takings come from, and where what they give goes.
-pub record Queues : Type 0 where
-  pub agenda : Contents
-  pub sent : Vec ℕ
-  pub mail : Vec Message
-  pub outbox : Outbox
-
--- an agenda, the counts of the messages that were sent, and what takings gave
-abbrev pub queues_of : Contents → Vec ℕ → Given → Queues
-queues_of a sent g = record { agenda = a; sent = sent; mail = g.mail; outbox = g.outbox }
-
 -- Nothing was given yet, and nothing is asked of a timer.
-pub record IsEmpty (g : Given) : Type 0 where
-  pub mail : g.mail.items ≡ []
-  pub lines : g.outbox.lines.items ≡ []
-  pub none : g.outbox.outs.items ≡ []
-  pub keeps : g.outbox.timer ≡ Keep
+pub record IsEmpty (q : Queues) : Type 0 where
+  pub mail : q.mail.items ≡ []
+  pub lines : q.outbox.lines.items ≡ []
+  pub none : q.outbox.outs.items ≡ []
+  pub keeps : q.outbox.timer ≡ Keep
 
 -- The blocks of a resource are those of a state, all of whose values are of their types, and from a tick on its counts are the state's too.
 pub record IsHere (i : Inputs) (s : State) (r from : ℕ) (t : Forest) (x : TickCounts) : Type 0 where
@@ -82,6 +71,18 @@ pub record IsTakenHere (i : Inputs) (limit : ℕ) (s : State) (k : Key) (e : mod
 
 -- ---- On the way
 
+-- The event in the slot may be taken in the tree of its resource. The outbox has lines alone.
+pub record MayTake (i : Inputs) (l : Least) (t : Forest) (x : Outbox) : Type 0 where
+  pub here : l.key.resource ≡ t.resource
+  pub event : IsEventIn i t.resource l.event
+  pub named : t.resource < length (system_of i).resource_names
+  pub early : l.key.tick ≤ 10 ^ 12
+  pub belongs : (w : World) × IsForest i t w × AreTyped (system_of i) w
+  pub typed : IsTypedEvent (system_of i) (event_of i l.event)
+  pub outs : AreOuts (system_of i) t.resource x
+  pub none : x.outs.items ≡ []
+  pub keeps : x.timer ≡ Keep
+
 -- A timer that is set goes off at a tick or later.
 abbrev pub IsLater : (tick : ℕ) → TimerAsk → Type 0
 IsLater tick Keep = Unit {0}
@@ -94,14 +95,17 @@ pub record IsSettled (i : Inputs) (k : Key) (at : Path) (ask : TimerAsk) (x : Po
   pub set : (j : Key) → meaning i mid j ≡ changed_to (timer_change (system_of i) k.resource at ask j) (meaning i old.agenda j)
   pub posted : ArePosted i x mid new.agenda old.mail.items new.mail.items locals new.sent.items
 
--- What taking an event put out may be posted, and its timer set.
-pub record MaySettle (i : Inputs) (k : Key) (q : Queues) : Type 0 where
-  pub order : IsInOrder i k.tick q.agenda
+-- What taking the event in the slot put out may be posted, and its timer set.
+pub record MaySettle (i : Inputs) (l : Least) (q : Queues) : Type 0 where
+  pub event : IsEventIn i l.key.resource l.event
+  pub named : l.key.resource < length (system_of i).resource_names
+  pub early : l.key.tick ≤ 10 ^ 12
+  pub order : IsInOrder i l.key.tick q.agenda
   pub due : length q.agenda.due ≡ length (system_of i).paths
   pub counted : length q.sent.items ≡ (system_of i).links
   pub mail : All (IsMessage i) q.mail.items
-  pub later : IsLater k.tick q.outbox.timer
-  pub outs : All (IsPostable (system_of i) k.resource) q.outbox.outs.items
+  pub later : IsLater l.key.tick q.outbox.timer
+  pub outs : All (IsPostable (system_of i) l.key.resource) q.outbox.outs.items
   pub lines : All (BelongsTo (system_of i)) q.outbox.lines.items
 
 -- The timer was set and what the outbox puts out was posted, whatever was sent before.
@@ -110,6 +114,15 @@ AreSettled i k e before old new after =
     (counts : ℕ → ℕ) → CountsAre old.sent.items counts
     → IsSettled i k (path_of (event_of i e)) old.outbox.timer
     (post_all (system_of i) k (map (out_of (system_of i)) old.outbox.outs.items) (record { locals = before; sent = counts; raised = []; messages = [] })) old new after
+
+-- .. and events may be taken again. The messages arrive later than the event, at most 2^64 local events were counted, and the
+-- lines stay.
+pub record Settles (i : Inputs) (l : Least) (before : ℕ) (old : Queues) (after : ℕ) (new : Queues) : Type 0 where
+  pub settled : AreSettled i l.key l.event before old new after
+  pub ready : AreReady i l.key.tick new
+  pub later : All (λ m. l.key.tick < m.arrives) old.mail.items → All (λ m. l.key.tick < m.arrives) new.mail.items
+  pub few : after ≤ before + 2 ^ 64
+  pub lines : new.outbox.lines.items ≡ old.outbox.lines.items
 
 -- All was posted and nothing is asked of a timer; the lines stay.
 pub record IsEmptied (old new : Outbox) : Type 0 where
@@ -136,6 +149,10 @@ with_event k e a = record a { running = (k, e) ∷ a.running }
 abbrev pub with_next : Bool → Key → waiting.Event → Contents → Contents
 with_next true k e a = with_event k e a
 with_next false k e a = a
+
+-- .. on the agenda of queues
+abbrev pub with_slot : Bool → Least → Queues → Queues
+with_slot b l q = record q { agenda = with_next b l.key l.event q.agenda }
 
 -- An event with the key of a local one.
 pub record IsRaised (k : Key) (e : waiting.Event) : Type 0 where

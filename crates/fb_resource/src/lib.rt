@@ -6,28 +6,28 @@
 //! opening on the agendas (`IsOpened`). A `Resource` runs by itself below a tick, takes messages in between, and answers
 //! when its next event is. What it does is what the resource of the definitions does, so the laws here hold of it.
 //!
-//! Read in this order: `tick_counts`, what is counted in a tick; `given`, what takings give; `one_taking`, the taking;
-//! `posting`, what a taking puts out; `opening`, the agendas before the first event. Then `laws` and `determined`, what
-//! holds of the definitions; `resource`, what a resource holds, with `open`, how it begins, `run`, its run below a tick,
-//! and `receive`, how it gets messages.
+//! Read in this order: `tick_counts`, what is counted in a tick; `queues`, where events come from and go to; `one_taking`,
+//! the taking; `posting`, what a taking puts out; `opening`, the agendas before the first event. Then `laws` and
+//! `determined`, what holds of the definitions; `resource`, what a resource holds, with `open`, how it begins, `run`, its
+//! run below a tick, and `receive`, how it gets messages.
 #![tactic(auto)]
 
 pub mod determined;
-pub mod given;
 pub mod laws;
 pub mod next;
 pub mod one_taking;
 pub mod opening;
 mod posting;
+pub mod queues;
 pub mod resource;
 pub mod taken;
 pub mod tick_counts;
 
 pub use determined::{keys_rise, simulation_exists};
-pub use given::Given;
 pub use next::{find_next, put_next};
 pub use one_taking::take;
 pub use opening::{open_agenda, open_agendas, open_sent};
+pub use queues::Queues;
 pub use resource::{Output, Resource, WindowDone};
 pub use taken::Taken;
 pub use tick_counts::TickCounts;

@@ -3,37 +3,46 @@
 ghost use Rattle.std.specs.Prelude.{◌≡◌, ◌<◌, IfOk, OnOk};
 ghost use Rattle.std.specs.Bool.{OnTrue};
 ghost use Rattle.fb_types.specs.declared.key.Key as keys;
-ghost use Rattle.fb_agenda.specs.Agendas.{waiting};
-ghost use Rattle.fb_resource.specs.Takings.{Finds, IsRaised, with_next};
+ghost use Rattle.fb_agenda.specs.Agendas.{IsClear, waiting};
+ghost use Rattle.fb_resource.specs.Takings.{Finds, with_next};
 
 use fb_agenda::{Agenda, Least};
-use fb_types::Event;
+use fb_types::Key;
 use std::alloc::AllocError;
 
-/// Puts the local event in the slot on the agenda, if it was raised.
+/// Puts the event in the slot back on the agenda, if it was raised. The slot keeps its key.
 ///
 /// # Errors
 /// When memory runs out.
 #[inline(always)]
-pub fn put_next(agenda: &mut Agenda, raised: bool, least: &Least) -> Result<(), AllocError>
-    requires { OnTrue raised (IsRaised least.now.key least.now.event) }
-    ensures put { OnOk result ((j : keys.Key) → waiting agenda.new j ≡ waiting (with_next raised least.now.key least.now.event agenda.old) j) }
+pub fn put_next(agenda: &mut Agenda, raised: bool, least: &mut Least) -> Result<(), AllocError>
+    ensures put { OnOk result ((j : keys.Key) → waiting agenda.new j ≡ waiting (with_next raised least.old.key least.old.event agenda.old) j) }
     ensures due { agenda.new.due ≡ agenda.old.due }
+    ensures key { least.new.key ≡ least.old.key }
 {
     if raised {
-        match &least.event {
-            Event::Local(target) => {
-                agenda.put_local(least.key.tick, least.key.resource, least.key.a, *target)
-            }
-            _ => unreachable!(),
-        }
+        agenda.put_back(least)
     } else {
         Ok(())
     }
 }
 
+/// Whether an event of this key, whose tick is below the horizon, would be taken before all that wait. It is known where no
+/// event waits at its tick and resource, nor before.
+#[inline(always)]
+fn is_next(agenda: &mut Agenda, horizon: u64, key: &Key) -> bool
+    ensures below { OnTrue result (key.now.tick < horizon) }
+    ensures clear { OnTrue result (IsClear key.now.tick key.now.resource agenda.old) }
+    ensures kept { agenda.new ≡ agenda.old }
+{
+    if key.tick >= horizon {
+        return false;
+    }
+    agenda.is_clear(key.tick, key.resource)
+}
+
 /// Takes the event with the least key, if its tick is below the horizon (in milliseconds), and moves it into the slot. Returns
-/// whether it did. The local event in the slot is one of those that wait, if it was raised. Mostly it is the least: then it
+/// whether it did. The event in the slot is one of those that wait, if it was raised. Mostly it is the least: then it
 /// stays in the slot, and never goes onto the agenda.
 ///
 /// # Errors
@@ -45,15 +54,13 @@ pub fn find_next(
     raised: bool,
     least: &mut Least,
 ) -> Result<bool, AllocError>
-    requires early { least.old.key.tick < horizon }
-    requires raised { OnTrue raised (IsRaised least.old.key least.old.event) }
     ensures finds { IfOk result (λ b. Finds horizon (with_next raised least.old.key least.old.event agenda.old) b least.new.key least.new.event agenda.new) }
     ensures due { OnOk result (agenda.new.due ≡ agenda.old.due) }
 {
     if !raised {
         return Ok(agenda.take_least_into(horizon, least));
     }
-    if agenda.is_clear(least.key.tick, least.key.resource) {
+    if is_next(agenda, horizon, &least.key) {
         return Ok(true);
     }
     put_next(agenda, raised, least)?;

@@ -64,9 +64,9 @@ fn post_message(
     sent[sending.link as usize] = next;
     mail.reserve(1)?;
     mail.push_reserved(Message {
-        link: sending.link,
         number,
         arrives,
+        link: sending.link,
         target: sending.target,
         values: sending.values,
     });

@@ -14,7 +14,6 @@ use Rattle.fb_agenda.specs.Agendas.{Contents, waiting}
 use Rattle.fb_types.specs.declared.run.Event.{Event}
 use Rattle.fb_net.specs.Events.{event_of}
 use Rattle.fb_resource.specs.Counts.{fuel}
-use Rattle.fb_resource.specs.Takings.{queues_of}
 use Rattle.fb_resource.specs.Waiting.{meaning}
 use Rattle.fb_resource.specs.declared.tick_counts.TickCounts.{TickCounts}
 use Rattle.fb_resource.proofs.Fuel.{fuel_falls}
@@ -29,10 +28,10 @@ use Rattle.fb_sim.specs.declared.one_agenda.machine.Machine.{Machine}
 
 -- the machine from whose agenda the least key was taken
 abbrev pub without_least : Machine → Contents → Machine
-without_least m a = record m { agenda = a }
+without_least m a = record m { queues = record m.queues { agenda = a } }
 
-pub machine_left : (i : Inputs) (limit t : ℕ) (k : Key) (e : Event) (m : Machine) (a : Contents) → IsReady i limit t m → Left k m.agenda a
-    → waiting m.agenda k ≡ Some e → ((q : Key) → Precedes q k → waiting m.agenda q ≡ None) → a.due ≡ m.agenda.due
+pub machine_left : (i : Inputs) (limit t : ℕ) (k : Key) (e : Event) (m : Machine) (a : Contents) → IsReady i limit t m → Left k m.queues.agenda a
+    → waiting m.queues.agenda k ≡ Some e → ((q : Key) → Precedes q k → waiting m.queues.agenda q ≡ None) → a.due ≡ m.queues.agenda.due
     → IsReady i limit k.tick (without_least m a)
 machine_left i limit t k e m a ready left found least due = record {
   trees_counted = ready.trees_counted;
@@ -40,16 +39,16 @@ machine_left i limit t k e m a ready left found least due = record {
   meters_counted = ready.meters_counted;
   meters = ready.meters;
   past = λ r x h. let was = ready.past r x h in let later = (ready.queues.order.waits k e found).later in omega (arith, was, later);
-  queues = ready_left i t k (queues_of m.agenda m.sent m.given) a ready.queues left least due;
+  queues = ready_left i t k m.queues a ready.queues left least due;
   delivered = ready.delivered;
 }
 
-pub at_left : (i : Inputs) (k : Key) (d : Config) (m : Machine) (a : Contents) → IsAt i d.state d.agenda m → Left k m.agenda a
+pub at_left : (i : Inputs) (k : Key) (d : Config) (m : Machine) (a : Contents) → IsAt i d.state d.agenda m → Left k m.queues.agenda a
     → IsAt i d.state (without k d.agenda) (without_least m a)
 at_left i k d m a is left = record {
   here = is.here;
   sent = is.sent;
-  agenda = meaning_left i k m.agenda a d.agenda is.agenda left;
+  agenda = meaning_left i k m.queues.agenda a d.agenda is.agenda left;
 }
 
 -- ---- One taking more

@@ -11,8 +11,8 @@ use Rattle.fb_types.specs.declared.run.Message.{Message}
 use Rattle.fb_agenda.specs.Agendas.{Contents, waiting}
 use Rattle.fb_net.specs.Events.{event_of}
 use Rattle.fb_resource.specs.Posts.{arriving}
-use Rattle.fb_resource.specs.Takings.{Queues}
 use Rattle.fb_resource.specs.Waiting.{meaning}
+use Rattle.fb_resource.specs.declared.queues.Queues.{Queues}
 use Rattle.fb_resource.proofs.Lone.{ready_alike}
 use Rattle.fb_sim.specs.Machines.{IsAt, IsReady}
 use Rattle.fb_sim.specs.declared.one_agenda.machine.Machine.{Machine}
@@ -28,7 +28,7 @@ nothing_delivered i q none j = ap (λ ms. or_else (found j (map (arriving i) ms)
 
 -- the machine with another agenda
 abbrev pub on_agenda : Contents → Machine → Machine
-on_agenda a m = record m { agenda = a }
+on_agenda a m = record m { queues = record m.queues { agenda = a } }
 
 -- on which the same waits
 module _ (i : Inputs) (m : Machine) (a b : Contents) (same : (j : Key) → waiting b j ≡ waiting a j) where
@@ -42,6 +42,6 @@ module _ (i : Inputs) (m : Machine) (a b : Contents) (same : (j : Key) → waiti
     meters_counted = ready.meters_counted;
     meters = ready.meters;
     past = ready.past;
-    queues = ready_alike i tick a b m.sent m.given same due ready.queues;
+    queues = ready_alike i tick (record m.queues { agenda = a }) b same due ready.queues;
     delivered = ready.delivered;
   }

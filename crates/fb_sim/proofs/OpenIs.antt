@@ -10,7 +10,7 @@ use Rattle.fb_net.specs.declared.resource.Forest.{Forest}
 use Rattle.fb_resource.specs.Counts.{IsMetered}
 use Rattle.fb_resource.specs.Openings.{IsOpened}
 use Rattle.fb_resource.specs.Posts.{CountsAre}
-use Rattle.fb_resource.specs.Takings.{AreReady, IsHere, queues_of}
+use Rattle.fb_resource.specs.Takings.{AreReady, IsHere}
 use Rattle.fb_resource.specs.declared.tick_counts.TickCounts.{TickCounts}
 use Rattle.fb_resource.proofs.Begins.{here_opened, metered_opened}
 use Rattle.fb_types.proofs.ByIndex.{slice_get-push}
@@ -24,7 +24,7 @@ abbrev fresh : TickCounts
 fresh = record { tick = None; left = 0; locals = 0 }
 
 pub at_opened : (i : Inputs) (m : Machine) (n : ℕ) → AreAccepted i → AreOpened i n m.trees.items → m.meters.items ≡ replicate n fresh
-    → CountsAre m.sent.items (opening_state (system_of i)).sent → IsOpened i None m.agenda
+    → CountsAre m.queues.sent.items (opening_state (system_of i)).sent → IsOpened i None m.queues.agenda
     → IsAt i (opening_state (system_of i)) (opening_agenda (system_of i) (stimuli_of i)) m
 at_opened i m n accepted trees meters sent opened = record {
   here = λ r t x its_tree its_meter.
@@ -35,7 +35,7 @@ at_opened i m n accepted trees meters sent opened = record {
 }
 
 pub ready_opened : (i : Inputs) (limit : ℕ) (m : Machine) → AreOpened i (length (system_of i).resource_names) m.trees.items
-    → m.meters.items ≡ replicate (length (system_of i).resource_names) fresh → AreReady i 0 (queues_of m.agenda m.sent m.given) → m.given.mail.items ≡ []
+    → m.meters.items ≡ replicate (length (system_of i).resource_names) fresh → AreReady i 0 m.queues → m.queues.mail.items ≡ []
     → IsReady i limit 0 m
 ready_opened i limit m trees meters queues delivered = record {
   trees_counted = trees.counted;

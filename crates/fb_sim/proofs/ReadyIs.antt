@@ -6,7 +6,7 @@ use Rattle.fb_types.specs.Headline.{Inputs}
 use Rattle.fb_types.specs.declared.key.Key.{Key}
 use Rattle.fb_net.specs.declared.resource.Forest.{Forest}
 use Rattle.fb_resource.specs.Counts.{IsMetered}
-use Rattle.fb_resource.specs.Takings.{AreReady, queues_of}
+use Rattle.fb_resource.specs.Takings.{AreReady}
 use Rattle.fb_resource.specs.declared.tick_counts.TickCounts.{TickCounts}
 use Rattle.fb_resource.proofs.Lists.{set_each}
 use Rattle.fb_sim.specs.Machines.{IsReady}
@@ -16,7 +16,7 @@ pub ready_after : (i : Inputs) (limit : ℕ) (k : Key) (old new : Machine) (tree
     → k.resource < length old.trees.items → k.resource < length old.meters.items → slice_get old.meters.items k.resource ≡ Some before
     → IsMetered limit meter → unwrap_or meter.tick 0 ≤ max (unwrap_or before.tick 0) k.tick → tree.resource ≡ k.resource
     → new.trees.items ≡ slice_set old.trees.items k.resource tree → new.meters.items ≡ slice_set old.meters.items k.resource meter
-    → AreReady i k.tick (queues_of new.agenda new.sent new.given) → new.given.mail.items ≡ []
+    → AreReady i k.tick new.queues → new.queues.mail.items ≡ []
     → IsReady i limit k.tick new
 ready_after i limit k old new tree before meter ready has_tree has_meter was metered tick here trees meters queues delivered = record {
   trees_counted = ap length trees ∙ length-set old.trees.items k.resource tree ∙ ready.trees_counted;

@@ -11,13 +11,15 @@ use Rattle.fb_types.specs.States.{Line}
 use Rattle.fb_types.specs.Text.{last_line, trace_text}
 use Rattle.fb_types.specs.declared.run.StopMark.{StopMark}
 use Rattle.fb_laws.specs.Sound.{AreGood}
+use Rattle.fb_trace.specs.End as trace
+use Rattle.fb_trace.specs.End.{EndsIn}
 use Rattle.fb_trace.specs.Progress.{IsPartWritten, bounded}
 use Rattle.fb_laws.specs.Finality.{core_of}
 use Rattle.fb_window.specs.Settling.{IsUnderWay, lists_of}
 use Rattle.fb_window.specs.declared.cores.CoreState.{CoreState}
 use Rattle.fb_sim.specs.Given.{Given}
 use Rattle.fb_sim.specs.Serial.{AreTrace, AreWithin, Declares, IsRefusal, Writes, WritesPart}
-use Rattle.fb_sim.specs.Rounds.{AreAll, Begin, RoundsWithCounts, FailsRun, HasCome, IsFinished, IsShort, RunsOn, WritesFront, after_bytes, text_of}
+use Rattle.fb_sim.specs.Rounds.{AreAll, Begin, RoundsWithCounts, FailsRun, HasCome, IsFinished, IsShort, RunsOn, WritesFront, after_bytes, outcome_at, text_of}
 use Rattle.fb_sim.specs.declared.drive.Finish.{Finish}
 use Rattle.fb_sim.specs.declared.drive.Finish.TheVariants.{AtEnd, AtMark}
 use Rattle.fb_sim.specs.declared.options.Options.{Options}
@@ -153,10 +155,14 @@ module _ (given : Given) (o : Options) (within : AreWithin o) (old : Option (Lis
   fails_wanting = inl (within, refl)
 
 -- a run that was stopped, was so by one of its resources
-pub stop_counted : (i : Inputs) (o : Options) (finish : Finish) (n : Written) (old mid : Option (List ℕ)) → RunsOn i o [] old mid (Ok (finish, n)) → (mark : StopMark)
-    → finish ≡ AtMark mark → mark.resource < count_of (system_of i)
-stop_counted i o finish n old mid ran mark is =
-    let r = subst (λ (f : Finish). RunsOn i o [] old mid (Ok (f, n))) is ran in r.1.0
+pub stop_counted : (i : Inputs) (o : Options) (finish : Finish) (n : Written) (old mid : Option (List ℕ)) → RunsOn i o [] old mid (Ok (finish, n)) → EndsIn (system_of i) (outcome_at o.horizon finish)
+stop_counted i o (AtEnd core) n old mid ran = tt
+stop_counted i o (AtMark mark) n old mid ran = ran.1.0
+
+-- whichever way it has ended, these are all lines
+all_of : (i : Inputs) (o : Options) (finish : Finish) (out : List Line) → IsFinished i o.steps o.horizon finish out → AreAll i o.steps o.horizon out (trace.ending_of (outcome_at o.horizon finish))
+all_of i o (AtEnd core) out finished = finished.2
+all_of i o (AtMark mark) out finished = finished.1
 
 module _ (given : Given) (o : Options) (i : Inputs) (within : AreWithin o) (declares : Declares given i) where
   -- all lines, and then the last line
@@ -247,21 +253,12 @@ module _ (given : Given) (o : Options) (i : Inputs) (within : AreWithin o) (decl
   fails_at n old mid new end out all got counted Failed s = absurd s
 
   module _ (finish : Finish) (n : Written) (old mid new : Option (List ℕ)) (ran : RunsOn i o [] old mid (Ok (finish, n))) where
-    at_end : (core : CoreState) → finish ≡ AtEnd core → RunsOn i o [] old mid (Ok (AtEnd core, n))
-    at_end core is = subst (λ (f : Finish). RunsOn i o [] old mid (Ok (f, n))) is ran
-
-    at_mark : (mark : StopMark) → finish ≡ AtMark mark → RunsOn i o [] old mid (Ok (AtMark mark, n))
-    at_mark mark is = subst (λ (f : Finish). RunsOn i o [] old mid (Ok (f, n))) is ran
+    abbrev end : Ending
+    end = trace.ending_of (outcome_at o.horizon finish)
 
     -- with the last line after it
-    pub ended : (core : CoreState) → finish ≡ AtEnd core → Appends mid new (last_line (system_of i) (AtHorizon o.horizon)) → Writes given o old new (AtHorizon o.horizon)
-    ended core is last = let r = at_end core is in writes_all old mid new r.0 (AtHorizon o.horizon) r.1.2 r.2 last
+    pub ended : Appends mid new (last_line (system_of i) (trace.ending_of (outcome_at o.horizon finish))) → Writes given o old new (trace.ending_of (outcome_at o.horizon finish))
+    ended last = writes_all old mid new ran.0 end (all_of i o finish ran.0 ran.1) ran.2 last
 
-    pub stopped : (mark : StopMark) → finish ≡ AtMark mark → Appends mid new (last_line (system_of i) (AtStop mark.tick mark.resource mark.reason)) → Writes given o old new (AtStop mark.tick mark.resource mark.reason)
-    stopped mark is last = let r = at_mark mark is in writes_all old mid new r.0 (AtStop mark.tick mark.resource mark.reason) r.1.1 r.2 last
-
-    pub ended_short : (core : CoreState) → finish ≡ AtEnd core → (e : RunError) → IsShort mid new (last_line (system_of i) (AtHorizon o.horizon)) n.bytes e → FailsRun given o old new e
-    ended_short core is e s = let r = at_end core is in fails_at n.bytes old mid new (AtHorizon o.horizon) r.0 r.1.2 r.2 r.3 e s
-
-    pub stopped_short : (mark : StopMark) → finish ≡ AtMark mark → (e : RunError) → IsShort mid new (last_line (system_of i) (AtStop mark.tick mark.resource mark.reason)) n.bytes e → FailsRun given o old new e
-    stopped_short mark is e s = let r = at_mark mark is in fails_at n.bytes old mid new (AtStop mark.tick mark.resource mark.reason) r.0 r.1.1 r.2 r.3 e s
+    pub ended_short : (e : RunError) → IsShort mid new (last_line (system_of i) (trace.ending_of (outcome_at o.horizon finish))) n.bytes e → FailsRun given o old new e
+    ended_short e s = fails_at n.bytes old mid new end ran.0 (all_of i o finish ran.0 ran.1) ran.2 ran.3 e s

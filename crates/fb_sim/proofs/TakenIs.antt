@@ -18,8 +18,9 @@ use Rattle.fb_system.specs.Ports.{variable_of}
 use Rattle.fb_net.specs.Worlds.{IsForest, SeatedAt, RepresentsAt}
 use Rattle.fb_net.specs.declared.resource.Forest.{Forest}
 use Rattle.fb_resource.specs.Posts.{arriving}
-use Rattle.fb_resource.specs.Takings.{IsHere, IsTakenHere, Queues, queues_of}
+use Rattle.fb_resource.specs.Takings.{IsHere, IsTakenHere}
 use Rattle.fb_resource.specs.Waiting.{meaning}
+use Rattle.fb_resource.specs.declared.queues.Queues.{Queues}
 use Rattle.fb_resource.specs.declared.tick_counts.TickCounts as counted
 use Rattle.fb_resource.proofs.Lists.{set_apart, set_here}
 use Rattle.fb_sim.specs.Machines.{IsAt, IsTaken}
@@ -77,11 +78,11 @@ elsewhere sys limit s k e x q other h = let m = begun limit k.tick (s.meters k.r
 pub taken_at : (i : Inputs) (limit : ℕ) (s : State) (a : Agenda) (k : Key) (e : AnEvent) (stop : Option Reason) (old new : Machine) (mid : Queues) (tree : Forest) (meter : counted.TickCounts)
     → ((q : ℕ) (t : Forest) → slice_get old.trees.items q ≡ Some t → t.resource ≡ q)
     → k.resource < length old.trees.items → k.resource < length old.meters.items → (system_of i).resource (path_of e) ≡ k.resource
-    → IsAt i s (without k a) old → old.given.mail.items ≡ []
-    → IsTakenHere i limit s k e stop 0 tree meter (queues_of old.agenda old.sent old.given) mid
-    → ((j : Key) → meaning i new.agenda j ≡ or_else (found j (map (arriving i) mid.mail.items)) (meaning i mid.agenda j))
+    → IsAt i s (without k a) old → old.queues.mail.items ≡ []
+    → IsTakenHere i limit s k e stop 0 tree meter old.queues mid
+    → ((j : Key) → meaning i new.queues.agenda j ≡ or_else (found j (map (arriving i) mid.mail.items)) (meaning i mid.agenda j))
     → new.trees.items ≡ slice_set old.trees.items k.resource tree → new.meters.items ≡ slice_set old.meters.items k.resource meter
-    → new.sent.items ≡ mid.sent.items → new.given.outbox.lines.items ≡ mid.outbox.lines.items
+    → new.queues.sent.items ≡ mid.sent.items → new.queues.outbox.lines.items ≡ mid.outbox.lines.items
     → IsTaken i limit s a k e stop old new
 taken_at i limit s a k e stop old new mid tree meter ours has_tree has_meter home at none taken put trees meters sent lines = record {
   effect = effect;

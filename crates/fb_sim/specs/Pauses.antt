@@ -16,10 +16,10 @@ abbrev pub Pauses : (i : Inputs) (horizon limit : ℕ) (c : Config) (old new : M
 Pauses i horizon limit c old new Lines =
     (d : Config) × (taken : List Taken)
     × IsAt i d.state d.agenda new × Reaches i horizon limit c d taken
-    × (map (line_of (system_of i)) new.given.outbox.lines.items ≡ map (line_of (system_of i)) old.given.outbox.lines.items ++ lines_of taken)
-Pauses i horizon limit c old new Horizon = Completes i horizon limit c old.given.outbox.lines.items new.given.outbox.lines.items None
+    × (map (line_of (system_of i)) new.queues.outbox.lines.items ≡ map (line_of (system_of i)) old.queues.outbox.lines.items ++ lines_of taken)
+Pauses i horizon limit c old new Horizon = Completes i horizon limit c old.queues.outbox.lines.items new.queues.outbox.lines.items None
 Pauses i horizon limit c old new (Stop m) =
-    (m.resource < length (system_of i).resource_names) × Completes i horizon limit c old.given.outbox.lines.items new.given.outbox.lines.items (Some m)
+    (m.resource < length (system_of i).resource_names) × Completes i horizon limit c old.queues.outbox.lines.items new.queues.outbox.lines.items (Some m)
 
 -- a run that can go on has used up steps
 abbrev pub IsSooner : (horizon limit : ℕ) (old new : Machine) → Pause → Type 0

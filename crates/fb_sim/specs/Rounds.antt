@@ -17,6 +17,8 @@ use Rattle.fb_types.specs.declared.value.Reason.{Reason}
 use Rattle.fb_system.specs.Lines.{BelongsTo}
 use Rattle.fb_trace.specs.Merging.{Lists}
 use Rattle.fb_trace.specs.Progress.{IsPartWritten, bounded}
+use Rattle.fb_trace.specs.declared.last.Outcome.{Outcome}
+use Rattle.fb_trace.specs.declared.last.Outcome.TheVariants.{End, Stop}
 use Rattle.fb_laws.specs.Finality.{HasKept, core_of}
 use Rattle.fb_laws.specs.Phases.{Turn, IsPhase}
 use Rattle.fb_window.specs.Bounding.{AreGreatest}
@@ -175,6 +177,11 @@ IsFinished i limit horizon (AtEnd core) ls =
     × IsAtHorizon (machine (system_of i) limit) (count_of (system_of i)) horizon (core_of i limit come.steps)
     × AreAll i limit horizon ls (AtHorizon horizon)
 IsFinished i limit horizon (AtMark mark) ls = (mark.resource < count_of (system_of i)) × AreAll i limit horizon ls (AtStop mark.tick mark.resource mark.reason)
+
+-- how a run to a horizon has ended
+abbrev pub outcome_at : (horizon : ℕ) → Finish → Outcome
+outcome_at horizon (AtEnd core) = End horizon
+outcome_at horizon (AtMark mark) = Stop mark
 
 -- From a core out of which these lines were handed, the rest is run and written.
 abbrev pub RunsOn : Inputs → Options → (ls : List Line) → (old new : Option (List ℕ)) → Result (Finish × Written) RunError → Type 0

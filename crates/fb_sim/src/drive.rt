@@ -3,7 +3,7 @@
 ghost use Rattle.std.specs.Prelude.{◌≡◌, ◌≤◌, List};
 ghost use Rattle.fb_types.specs.States as model;
 ghost use Rattle.fb_sim.specs.Serial.{AreWithin};
-ghost use Rattle.fb_sim.specs.Rounds.{HasCome, RunsOn, after_bytes};
+ghost use Rattle.fb_sim.specs.Rounds.{HasCome, RunsOn, after_bytes, outcome_at};
 
 use crate::options::Options;
 use crate::outcome::RunError;
@@ -12,6 +12,7 @@ use crate::rounds::round_with_counts;
 use crate::tally::{RoundPlan, Written, first_window};
 use fb_phase::Gate;
 use fb_system::System;
+use fb_trace::Outcome;
 use fb_types::StopMark;
 use fb_window::Core;
 use std::alloc::Global;
@@ -26,6 +27,16 @@ pub enum Finish {
     AtEnd(Core),
     /// A resource has stopped.
     AtMark(StopMark),
+}
+
+/// How a run to this horizon, in milliseconds, has ended.
+pub(crate) fn outcome_of(finish: Finish, horizon: u64) -> Outcome
+    ensures { result ≡ outcome_at horizon finish }
+{
+    match finish {
+        Finish::AtEnd(_) => Outcome::End(horizon),
+        Finish::AtMark(mark) => Outcome::Stop(mark),
+    }
 }
 
 /// The error of a round, where this many bytes were written before it.

@@ -1,11 +1,11 @@
 //! Runs of a simulation, from the bytes of its inputs to those of its trace.
 //!
-//! The guarantee to callers is the headline: `run`, with workers, and `run_serial`, on one thread, write the trace of the
-//! one-thread simulation of accepted inputs. So does a `Simulation` that its caller advances. `run_with_progress` also
-//! reports the progress of a run. This crate has no rule about simulation.
+//! The guarantee to callers is the headline: `run`, with workers, and `run_serial`, on one thread, write the trace of
+//! the one-thread simulation of accepted inputs. So does a `Simulation` that its caller advances. `run_with_progress`
+//! also reports the progress of a run. This crate has no rule about simulation.
 //!
-//! Read in this order: `options` and `outcome`; `reading`, the steps before a run; `serial` with `one_agenda`, a run on one
-//! thread. A run with workers: `runs` with `trial`, `drive` and `rounds`; `pace`, `progress`, `tally`, `work`,
+//! Read in this order: `options` and `outcome`; `reading`, the steps before a run; `serial` with `one_agenda`, a run on
+//! one thread. A run with workers: `runs` with `trial`, `drive` and `rounds`; `pace`, `progress`, `tally`, `work`,
 //! `printing` and `weave`. Then `simulation` and `state`; `with_progress`, a run that reports its progress.
 #![tactic(auto)]
 

@@ -1,8 +1,8 @@
 //! A run on one thread: one agenda of all resources, of which the least event is always taken. The lines are written as
 //! the run goes on.
 //!
-//! `run_serial` uses it, and so does `run` with one worker. What one taking does is `fb_resource`'s; here are the loop over it
-//! and the delivery of messages to the one agenda.
+//! `run_serial` uses it, and so does `run` with one worker. What one taking does is `fb_resource`'s; here are the loop
+//! over it and the delivery of messages to the one agenda.
 //!
 //! Read in this order: `machine` and `pause`, the state and the taking of events; `deliver`, messages; `open`, the
 //! beginning; then the run itself, below.
@@ -53,7 +53,7 @@ fn run_through<W: Write>(
     requires options { AreWithin options }
     requires ready { IsReady system.now options.steps 0 machine.old }
     requires at { IsAt system.now (opening_state system.now) (opening_agenda system.now (stimuli_of system.now)) machine.old }
-    requires none { machine.old.given.outbox.lines.items ≡ [] }
+    requires none { machine.old.queues.outbox.lines.items ≡ [] }
     ensures ends { IfOk result (λ r. EndsIn system.now r.0) }
     ensures ran { IfOk result (λ r. RunsThrough system.now options (W.contents out.old) (W.contents out.new) (ending_of r.0) r.1) }
     ensures failed { IfErr result (λ e. RunsOn system.now options [] (W.contents out.old) (W.contents out.new) (Err e)) }

@@ -176,8 +176,8 @@ impl RoundTrial {
         self.rounds >= ROUNDS && self.all.nanoseconds >= LONG
     }
 
-    /// What the timed rounds have taken, if the clock can be read. The slowest is left out, since other programs may have
-    /// disturbed it.
+    /// What the timed rounds have taken, if the clock can be read. The slowest is left out, since other programs may
+    /// have disturbed it.
     pub(crate) fn pace(&self) -> Option<Pace> {
         self.watch.began?;
         Some(self.all.without(self.slowest))
@@ -247,8 +247,8 @@ impl AgendaTrial {
         }
     }
 
-    /// What one agenda is that took these nanoseconds. Rounds get quicker as they go on, so one agenda has to be quicker by
-    /// a fifth. The trial ends early where one of the two takes half as long again as the other.
+    /// What one agenda is that took these nanoseconds. Rounds get quicker as they go on, so one agenda has to be
+    /// quicker by a fifth. The trial ends early where one of the two takes half as long again as the other.
     fn judge(&self, nanoseconds: u128) -> Verdict {
         let agenda = self.pace(nanoseconds);
         let is_whole = nanoseconds >= self.rounds.nanoseconds || self.lines >= self.rounds.lines;

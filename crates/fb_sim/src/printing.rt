@@ -47,7 +47,8 @@ fn one_text(
     Ok(texts)
 }
 
-/// The text of the lines of lists in parts, each of which one of this many threads makes: all but the last one, and this.
+/// The text of the lines of lists in parts, each of which one of this many threads makes: all but the last one, and
+/// this.
 #[cycle(parts)]
 fn parts_by<R: Threads + Sync>(
     rt: &R,

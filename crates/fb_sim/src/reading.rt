@@ -73,8 +73,8 @@ fn stimuli_of(
 
 /// What was found, next to what is read next.
 ///
-/// A value of a type parameter is dropped by one call, so what was found is dropped here where the next reading fails, and no
-/// reading is followed by the drop of all that was read before.
+/// A value of a type parameter is dropped by one call, so what was found is dropped here where the next reading fails,
+/// and no reading is followed by the drop of all that was read before.
 fn paired<A: Drop, B: Drop>(found: A, read: Result<B, RunError>) -> Result<(A, B), RunError>
     ensures found { IfOk result (λ both. both.0 ≡ found) }
     ensures read { IfOk result (λ both. read ≡ Ok both.1) }
@@ -149,7 +149,7 @@ pub fn open(alloc: Global, inputs: &Inputs<'_>) -> Result<System, RunError>
     }
 }
 
-/// Drops a system. What it owns is proved to be dropped here, and so not once more in a crate above.
+/// Drops a system. The destructors of what it owns are proved here, and not again in a crate above.
 pub fn discard(system: System) {
     drop(system);
 }

@@ -1,9 +1,9 @@
 //! One round: each resource runs to its bound, the messages are exchanged, and the lines that have become final are
 //! written.
 //!
-//! `round` is the round that callers make themselves. A run and a simulation that is advanced use `round_with_counts`: turns of
-//! single resources before the window, a cap and a number of workers that depend on the round before, and no board with
-//! one worker. Both write the same lines.
+//! `round` is the round that callers make themselves. A run and a simulation that is advanced use `round_with_counts`:
+//! turns of single resources before the window, a cap and a number of workers that depend on the round before, and no
+//! board with one worker. Both write the same lines.
 
 ghost use Rattle.std.specs.Global.{Vec};
 ghost use Rattle.std.specs.Prelude.{◌≡◌, ◌≤◌, List, map, length, vec_len, All, IfOk, IfErr};
@@ -137,8 +137,8 @@ struct WindowResult {
     lines: usize,
 }
 
-/// Runs each resource to its bound, with the workers, and puts all back together. A bound is at most this many ticks past
-/// the least event.
+/// Runs each resource to its bound, with the workers, and puts all back together. A bound is at most this many ticks
+/// past the least event.
 fn window<R: Threads + Wait + Sync, P: Gate>(
     rt: &R,
     alloc: Global,
@@ -195,7 +195,7 @@ fn round_of(settled: Settled) -> Round
     }
 }
 
-/// The progress of the run, where its lines are apart.
+/// The progress of the run, where its lines are not merged.
 fn round_at(reach: Reach) -> Round
     ensures { (all : Vec Line) → result ≡ spec.round_of (settled_of reach all) }
 {
@@ -287,10 +287,10 @@ fn one_phase<R: Threads + Wait + Sync, P: Gate>(
 }
 
 /// Runs each resource to its bound, exchanges their messages, and writes the lines that have become final, but no last
-/// line: one phase and one exchange, for every number of workers. The bounds are the greatest legal ones that are at most
-/// 1,024 ticks past the least event. A chain of rounds from the opening writes the text of the final lines. While a run
-/// goes on, the least tick of all events rises in each round and is below the horizon: so there is at most one round more
-/// than there are ticks below the horizon.
+/// line: one phase and one exchange, for every number of workers. The bounds are the greatest legal ones that are at
+/// most 1,024 ticks past the least event. A chain of rounds from the opening writes the text of the final lines. While
+/// a run goes on, the least tick of all events rises in each round and is below the horizon: so there is at most one
+/// round more than there are ticks below the horizon.
 ///
 /// It waits for its workers, and for the gate where that waits.
 ///

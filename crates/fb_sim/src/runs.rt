@@ -9,7 +9,7 @@ ghost use Rattle.fb_sim.specs.Given.{Given};
 ghost use Rattle.fb_sim.specs.Serial.{AreWithin, Declares, Writes};
 ghost use Rattle.fb_sim.specs.Rounds.{FailsRun, HasCome, IsShort};
 
-use crate::drive::Finish;
+use crate::drive::outcome_of;
 use crate::one_agenda::run_one_agenda;
 use crate::options::{Inputs, Options};
 use crate::outcome::RunError;
@@ -91,16 +91,9 @@ fn run_workers<R: Threads + Wait + Sync, W: Write, P: Gate, C: Clock + CpuClock>
     };
     let text = text.as_slice();
     let (finish, written) = run_rest(rt, alloc, system, leg, begun, text, fewer, out, gate)?;
-    match finish {
-        Finish::AtEnd(_) => {
-            close(out, system, Outcome::End(options.horizon), written.bytes)?;
-            Ok(Outcome::End(options.horizon))
-        }
-        Finish::AtMark(mark) => {
-            close(out, system, Outcome::Stop(mark), written.bytes)?;
-            Ok(Outcome::Stop(mark))
-        }
-    }
+    let end = outcome_of(finish, options.horizon);
+    close(out, system, end, written.bytes)?;
+    Ok(end)
 }
 
 /// Runs an accepted system with one worker or with several, and writes its trace. One resource leaves nothing to do for
@@ -127,12 +120,12 @@ fn run_system<R: Threads + Wait + Sync, W: Write, P: Gate, C: Clock + CpuClock>(
 /// Runs the application of the inputs with workers, and writes its trace, which is that of a run on one thread.
 ///
 /// One worker always takes the least event of all, and writes the lines piece by piece, without a gate: it runs as
-/// `run_serial` does. So does any number of workers if there is one resource. Otherwise several run in rounds: each round
-/// runs every resource as far as no message can reach it any more, then exchanges the messages, and then writes the lines
-/// that have become final. After a light round the run makes up to 256 turns of single resources, on the calling thread
-/// and without a gate. There are no more threads than processors, but two at least. The text of the first round is
-/// gathered in memory. No memory is allocated between the first byte of a piece or a round and its last. It waits for its
-/// workers, and for the gate where that waits. It reads no clock: `run_with_clock` does.
+/// `run_serial` does. So does any number of workers if there is one resource. Otherwise several run in rounds: each
+/// round runs every resource as far as no message can reach it any more, then exchanges the messages, and then writes
+/// the lines that have become final. After a light round the run makes up to 256 turns of single resources, on the
+/// calling thread and without a gate. There are no more threads than processors, but two at least. The text of the
+/// first round is gathered in memory. No memory is allocated between the first byte of a piece or a round and its last.
+/// It waits for its workers, and for the gate where that waits. It reads no clock: `run_with_clock` does.
 ///
 /// # Errors
 /// `BadOption` before all else; then `Refused`, after which nothing was written; `Memory`, after which a beginning of
@@ -182,8 +175,8 @@ pub fn run<R: Threads + Wait + Sync, W: Write, P: Gate>(
 }
 
 /// Runs the application of the inputs as `run` does, and lets clocks decide how. Several workers make three rounds, and
-/// then rounds for two milliseconds, two at least, whose text waits in memory. Then one agenda gives at most as many lines
-/// as these: if it is quicker by a fifth, by the processor time of this thread, the run begins again on it. If a
+/// then rounds for two milliseconds, two at least, whose text waits in memory. Then one agenda gives at most as many
+/// lines as these: if it is quicker by a fifth, by the processor time of this thread, the run begins again on it. If a
 /// clock can't be read, rounds go on. The trace is the same.
 ///
 /// # Errors

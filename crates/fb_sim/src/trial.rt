@@ -52,8 +52,8 @@ fn make_room(text: &mut Vec<u8>, more: usize)
     text.truncate(count);
 }
 
-/// Makes the first rounds of a run, one at least, as long as the trial takes. Their text goes into memory. The answer has
-/// what is written so, and what the rounds took, if the clock can be read.
+/// Makes the first rounds of a run, one at least, as long as the trial takes. Their text goes into memory. The answer
+/// has what is written so, and what the rounds took, if the clock can be read.
 ///
 /// # Errors
 /// `Memory`.

@@ -198,7 +198,8 @@ fn go_through<R: Threads + Wait + Sync, W: Write, E: Write>(
             },
         },
         Err(error) => {
-            // Dropping the ended simulation is one step of the proof; at the end of its scope it would be proved part by part.
+            // Dropping the ended simulation is one step of the proof; at the end of its scope it would be proved part
+            // by part.
             let _ = simulation.finish(&mut Vec::new(alloc));
             ReportedRun {
                 end: Err(error),

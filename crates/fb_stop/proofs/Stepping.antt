@@ -274,7 +274,7 @@ has_stepped i limit s a k e o from mid new t none run copies = record {
     effect = t.effect;
     takes = t.takes;
     stops = t.stops ∙ none;
-    lines = ap (λ (r : Run). map (line_of (system_of i)) r.given.outbox.lines.items) run ∙ t.lines;
+    lines = ap (λ (r : Run). map (line_of (system_of i)) r.queues.outbox.lines.items) run ∙ t.lines;
     at = subst (λ (r : Run). IsAt i t.effect.state (agenda_after k a t.effect) (machine_of r)) (sym run) t.at;
   };
   copies = copies;

@@ -4,4 +4,4 @@ use Rattle.fb_stop.specs.declared.run.Run.{Run}
 
 -- the run as one that is not looked at
 abbrev pub machine_of : Run → Machine
-machine_of m = record { agenda = m.agenda; sent = m.sent; given = m.given; trees = m.trees; meters = m.meters }
+machine_of m = record { queues = m.queues; trees = m.trees; meters = m.meters }

@@ -83,8 +83,8 @@ fn statement_of(fault: Fault, reason: Reason) -> Option<usize>
     }
 }
 
-/// The statement of a body at which a reason comes, and the operation, from these variables and with that many steps left
-/// before the action. `None` if no step is left for the action, or the body does not stop for this reason.
+/// The statement of a body at which a reason comes, and the operation, from these variables and with that many steps
+/// left before the action. `None` if no step is left for the action, or the body does not stop for this reason.
 fn inside_body(body: &Body, frame: &mut Frame, left: u64, reason: Reason) -> Option<Inside>
     requires { AllKnown (declared_in frame.old) (body_of body.now) }
     ensures found { IfSome result (StopsInStatements (types_in (declared_in frame.old)) body.now (values_of frame.old) left reason) }
@@ -107,8 +107,8 @@ fn inside_body(body: &Body, frame: &mut Frame, left: u64, reason: Reason) -> Opt
     }
 }
 
-/// The statement at which a reason comes that stops the action at an index of a state, from these variables and with that
-/// many steps left before it. `None` if no step is left for the action, or it does not stop for this reason.
+/// The statement at which a reason comes that stops the action at an index of a state, from these variables and with
+/// that many steps left before it. `None` if no step is left for the action, or it does not stop for this reason.
 pub(crate) fn inside_action(
     block: &BasicType,
     state: usize,
@@ -135,8 +135,8 @@ pub(crate) fn inside_action(
     }
 }
 
-/// The operation at which the guard of a transition has no value for a reason. The transition is the one at an index among
-/// those that leave a state. `None` if the guard has a value, or none for another reason.
+/// The operation at which the guard of a transition has no value for a reason. The transition is the one at an index
+/// among those that leave a state. `None` if the guard has a value, or none for another reason.
 pub(crate) fn inside_guard(
     block: &BasicType,
     state: usize,

@@ -10,8 +10,8 @@ use fb_types::{LATEST_TICK, MOST_STEPS};
 use std::alloc::{AllocError, Global};
 
 /// Where the simulation of a system stops below the horizon, with a limit on the steps of a resource in one tick. `None`
-/// if it reaches its horizon, or if the horizon or the limit is greater than a run may have. The simulation is run once
-/// more for that, up to the stop, and nothing is written.
+/// if it reaches its horizon, or if the horizon or the limit is greater than a run may have. The simulation is run
+/// again for that, up to the stop, and nothing is written.
 ///
 /// # Errors
 /// When memory runs out, or a link has carried 2^128 messages.

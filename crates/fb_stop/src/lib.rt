@@ -1,21 +1,22 @@
-//! Where a simulation stops: the event, the block at which it arrives, the state of its chart, and the transition or the
-//! action that gives the reason. In an algorithm this is the statement, and for the count of steps the loop in which it ran
-//! out.
+//! Where a simulation stops: the event, the block at which it arrives, the state of its chart, and the transition or
+//! the action that gives the reason. In an algorithm this is the statement, and for the count of steps the loop in
+//! which it ran out.
 //!
-//! A run keeps no places, and after a stop its blocks have what the reaction left. So the simulation is run again up to the
-//! stop, and nothing is written. A copy of each basic block reacts to the same events.
+//! A run keeps no places, and after a stop its blocks have what the reaction left. So the simulation is run again up to
+//! the stop, and nothing is written. A copy of each basic block reacts to the same events.
 //!
 //! Guarantees to callers: `find::find_stop` returns the stop of the simulation (`IsStop`), or none if it reaches its
 //! horizon. `place::position_of` returns the position of a stop in the declaration. `body::run_body` runs a body as
-//! `fb_st::exec` does, and a reason comes with the statement that gives it; after it the frame has what the variables hold
-//! there. Within the crate `reaction::locate` returns where the reaction of one block stops (`ReactionStops`), and
+//! `fb_st::exec` does, and a reason comes with the statement that gives it; after it the frame has what the variables
+//! hold there. Within the crate `reaction::locate` returns where the reaction of one block stops (`ReactionStops`), and
 //! `spent::steps_spent` adds up the steps of a tick by blocks (`AreSpent`). The words of `words` are only tested.
 //!
 //! Read in this order: `fault`, a reason and its statement, and `number`, how statements are counted; `part`, what
-//! statements do that hold no statements, `running`, the runs of statements, and `body`. Then `site`, a place in a chart,
-//! and `before` and `reaction`, which find it; `found`, a stop; `run`, the run event by event; `copies` and `replay`, the
-//! copies that react to its events; `find`; `spent`, the steps of a tick. Last `operation` and `statement`, the operation that
-//! has no value; `place`, `shown` and `words`, how a stop is shown. All of this runs only after a stop.
+//! statements do that hold no statements, `running`, the runs of statements, and `body`. Then `site`, a place in a
+//! chart, and `before` and `reaction`, which find it; `found`, a stop; `run`, the run event by event; `copies` and
+//! `replay`, the copies that react to its events; `find`; `spent`, the steps of a tick. Last `operation` and
+//! `statement`, the operation that has no value; `place`, `shown` and `words`, how a stop is shown. All of this runs
+//! only after a stop.
 #![tactic(auto)]
 
 mod before;

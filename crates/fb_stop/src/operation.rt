@@ -9,7 +9,8 @@ use crate::number::next;
 use fb_st::{Frame, eval};
 use fb_types::{Expr, Reason};
 
-/// An operation with its operands, or a call with its arguments. Tokens are counted from one of the statement or the guard.
+/// An operation with its operands, or a call with its arguments. Tokens are counted from one of the statement or the
+/// guard.
 #[derive(Clone, Copy)]
 pub struct Operation {
     /// The first token.

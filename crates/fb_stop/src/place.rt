@@ -44,8 +44,8 @@ fn algorithm_index(block: &BasicType, name: &Name) -> Option<usize>
     None
 }
 
-/// The part of the algorithm at an index from which the tokens of an operation of a statement are counted: the statement,
-/// or its clause after ELSIF or UNTIL.
+/// The part of the algorithm at an index from which the tokens of an operation of a statement are counted: the
+/// statement, or its clause after ELSIF or UNTIL.
 fn part_from(index: usize, statement: usize, anchor: Anchor) -> BasicPart
     ensures { result ≡ spec.part_from index statement anchor }
 {
@@ -66,7 +66,8 @@ fn part_with(index: usize, statement: usize, operation: Option<Placed>) -> Basic
     }
 }
 
-/// The part of a basic type at which the algorithm at an index is shown: the statement or a clause of it, or else its name.
+/// The part of a basic type at which the algorithm at an index is shown: the statement or a clause of it, or else its
+/// name.
 fn statement_part(index: usize, inside: Option<Inside>) -> BasicPart
     ensures { IsShown inside index result }
 {

@@ -103,7 +103,7 @@ impl Replay {
     ) -> Result<(), AllocError>
         requires copies { (s : State) × AreAllCopies system.now s self.old.copies.items }
         requires arrives { (e : model.Event) × ArrivesAt system.now e at }
-        ensures followed { OnOk result (IsFollowed system.now at left self.old.run.given.outbox.lines.items self.old.copies.items self.new.copies.items) }
+        ensures followed { OnOk result (IsFollowed system.now at left self.old.run.queues.outbox.lines.items self.old.copies.items self.new.copies.items) }
         ensures run { self.new.run ≡ self.old.run }
     {
         let EventSite::Port(target) = at else {
@@ -115,7 +115,7 @@ impl Replay {
         let Some(block) = basic_type(system, target.instance) else {
             return Ok(());
         };
-        let Some(line) = self.run.given.outbox.lines.first() else {
+        let Some(line) = self.run.queues.outbox.lines.first() else {
             return Ok(());
         };
         follow(
@@ -133,8 +133,8 @@ impl Replay {
     /// # Errors
     /// When memory runs out.
     fn locate_at(&mut self, system: &System, at: EventSite, left: u64) -> Result<Site, AllocError>
-        requires { Stopping system.now at left self.old.run.given.outbox.lines.items self.old.copies.items }
-        ensures located { IfOk result (IsLocated system.now at left self.old.run.given.outbox.lines.items self.old.copies.items) }
+        requires { Stopping system.now at left self.old.run.queues.outbox.lines.items self.old.copies.items }
+        ensures located { IfOk result (IsLocated system.now at left self.old.run.queues.outbox.lines.items self.old.copies.items) }
         ensures run { self.new.run ≡ self.old.run }
     {
         let EventSite::Port(target) = at else {
@@ -143,7 +143,7 @@ impl Replay {
         let Some(block) = basic_type(system, target.instance) else {
             unreachable!();
         };
-        let Some(line) = self.run.given.outbox.lines.first() else {
+        let Some(line) = self.run.queues.outbox.lines.first() else {
             unreachable!();
         };
         let stop = locate_in(
@@ -170,8 +170,8 @@ impl Replay {
         at: EventSite,
         left: Option<u64>,
     ) -> Result<StopSite, AllocError>
-        requires { IfSome left (λ n. Stopping system.now at n self.old.run.given.outbox.lines.items self.old.copies.items) }
-        ensures site { IfOk result (IsSiteBy system.now at left self.old.run.given.outbox.lines.items self.old.copies.items) }
+        requires { IfSome left (λ n. Stopping system.now at n self.old.run.queues.outbox.lines.items self.old.copies.items) }
+        ensures site { IfOk result (IsSiteBy system.now at left self.old.run.queues.outbox.lines.items self.old.copies.items) }
         ensures run { self.new.run ≡ self.old.run }
     {
         match left {
@@ -180,8 +180,8 @@ impl Replay {
         }
     }
 
-    /// Takes the event in the slot, which has left the agenda; the copy of its block reacts to it too. `Some` is where the event
-    /// stops the run.
+    /// Takes the event in the slot, which has left the agenda; the copy of its block reacts to it too. `Some` is where
+    /// the event stops the run.
     ///
     /// # Errors
     /// When memory runs out, or a link has carried 2^128 messages.
@@ -240,7 +240,7 @@ impl Replay {
         ensures { IfOk result (Finds system.now horizon limit) }
     {
         let mut least = Least::new();
-        while self.run.agenda.take_least_into(horizon, &mut least) {
+        while self.run.queues.agenda.take_least_into(horizon, &mut least) {
             if let Some(found) = self.step(system, limit, &mut least)? {
                 return Ok(Some(found));
             }

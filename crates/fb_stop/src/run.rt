@@ -1,5 +1,5 @@
-//! A run of all resources from one agenda, event by event. It does what `fb_sim::one_agenda` does, and nothing else; here
-//! a caller looks at each event before and after it is taken.
+//! A run of all resources from one agenda, event by event. It does what `fb_sim::one_agenda` does, and nothing else;
+//! here a caller looks at each event before and after it is taken.
 
 ghost use Rattle.std.specs.Prelude.{◌≡◌, ◌^◌, ◌<◌, ◌≤◌, ℕ, [], map, All, IfOk, None, OnOk};
 ghost use Rattle.fb_types.specs.Headline.{Inputs, stimuli_of};
@@ -20,7 +20,7 @@ ghost use Rattle.fb_stop.specs.Runs.{machine_of};
 
 use fb_agenda::{Agenda, Least};
 use fb_net::Tree;
-use fb_resource::{Given, TickCounts, open_agenda, open_sent, put_next, take};
+use fb_resource::{Queues, TickCounts, open_agenda, open_sent, put_next, take};
 use fb_system::System;
 use fb_types::{Event, Key, Message, Reason};
 use std::alloc::{AllocError, Global};
@@ -28,9 +28,7 @@ use std::alloc::{AllocError, Global};
 /// The one agenda of all resources, with the counts of their messages and what events give, and the blocks and the
 /// counts of each.
 pub(crate) struct Run {
-    pub(crate) agenda: Agenda,
-    pub(crate) sent: Vec<u128>,
-    pub(crate) given: Given,
+    pub(crate) queues: Queues,
     pub(crate) trees: Vec<Tree>,
     pub(crate) meters: Vec<TickCounts>,
 }
@@ -39,9 +37,7 @@ pub(crate) struct Run {
 impl Drop for Run {
     fn drop(self) {
         let Run {
-            agenda: _,
-            sent: _,
-            given: _,
+            queues: _,
             trees: _,
             meters: _,
         } = self;
@@ -103,11 +99,9 @@ impl Run {
         let sent = open_sent(alloc, system)?;
         let trees = open_trees(alloc, system)?;
         let meters = vec![in alloc; TickCounts::new(); system.resources()]?;
-        let given = Given::new(alloc);
+        let queues = Queues::new(alloc, agenda, sent);
         Ok(Run {
-            agenda,
-            sent,
-            given,
+            queues,
             trees,
             meters,
         })
@@ -115,16 +109,16 @@ impl Run {
 
     /// Drops the lines of the events before. Their memory is kept for the next ones.
     pub(crate) fn clear_lines(&mut self)
-        ensures none { self.new.given.outbox.lines.items ≡ [] }
+        ensures none { self.new.queues.outbox.lines.items ≡ [] }
         ensures at { (i : Inputs) (s : State) (a : model.Agenda) → IsAt i s a (machine_of self.old) → IsAt i s a (machine_of self.new) }
         ensures ready { (i : Inputs) (limit tick : ℕ) → IsReady i limit tick (machine_of self.old) → IsReady i limit tick (machine_of self.new) }
         ensures meters { self.new.meters ≡ self.old.meters }
     {
-        self.given.outbox.lines.clear();
+        self.queues.outbox.lines.clear();
     }
 
-    /// Takes the event in the slot, which has left the agenda, and delivers the messages that it gave. `Some` is the reason for
-    /// which the resource stops. The slot may have another event then, which is on the agenda too.
+    /// Takes the event in the slot, which has left the agenda, and delivers the messages that it gave. `Some` is the
+    /// reason for which the resource stops. The slot may have another event then.
     ///
     /// # Errors
     /// When memory runs out, or a link has carried 2^128 messages.
@@ -151,15 +145,13 @@ impl Run {
         let taken = take(
             &mut self.trees[resource],
             &mut self.meters[resource],
-            &mut self.agenda,
-            &mut self.sent,
-            &mut self.given,
+            &mut self.queues,
             system,
             limit,
             least,
         )?;
-        put_next(&mut self.agenda, taken.raised, least)?;
-        deliver(&mut self.agenda, &mut self.given.mail, system)?;
+        put_next(&mut self.queues.agenda, taken.raised, least)?;
+        deliver(&mut self.queues.agenda, &mut self.queues.mail, system)?;
         Ok(taken.stop)
     }
 }

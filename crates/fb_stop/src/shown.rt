@@ -90,8 +90,8 @@ fn shown_from(
     }))
 }
 
-/// The bytes of an operation in a declaration, whose tokens are counted from the one at a position. `None` if there is no
-/// such operation.
+/// The bytes of an operation in a declaration, whose tokens are counted from the one at a position. `None` if there is
+/// no such operation.
 ///
 /// # Errors
 /// When memory runs out.

@@ -77,8 +77,8 @@ fn charge_event(spent: &mut Vec<u64>, system: &System, at: EventSite, used: u64)
     charge(spent, instance_of(at), used);
 }
 
-/// Takes the event in the slot, which has left the agenda, and adds its steps up if it is one of the tick and the resource.
-/// `Some` is the reason for which the resource stops.
+/// Takes the event in the slot, which has left the agenda, and adds its steps up if it is one of the tick and the
+/// resource. `Some` is the reason for which the resource stops.
 ///
 /// # Errors
 /// When memory runs out, or a link has carried 2^128 messages.
@@ -137,7 +137,7 @@ fn go_on(
     ensures counted { OnOk result (length spent.new.items ≡ instance_count system.now) }
 {
     let mut least = Least::new();
-    while run.agenda.take_least_into(horizon, &mut least) {
+    while run.queues.agenda.take_least_into(horizon, &mut least) {
         let stop = step(run, spent, moment, system, limit, &mut least)?;
         if let Some(_) = stop {
             return Ok(true);
@@ -146,8 +146,8 @@ fn go_on(
     Ok(false)
 }
 
-/// How many steps the events of each instance used in a tick of a resource, up to the stop of the simulation. `None` if it
-/// does not stop below the horizon. The simulation is run once more for that, up to the stop, and nothing is written.
+/// How many steps the events of each instance used in a tick of a resource, up to the stop of the simulation. `None` if
+/// it does not stop below the horizon. The simulation is run again for that, up to the stop, and nothing is written.
 ///
 /// # Errors
 /// When memory runs out, or a link has carried 2^128 messages.

@@ -107,7 +107,8 @@ fn push_block(text: &mut String, block: &BlockType, site: StopSite) -> Result<()
     Ok(())
 }
 
-/// Appends an instance, with its type and where in it the stop is. Nothing is appended for a number that is no instance's.
+/// Appends an instance, with its type and where in it the stop is. Nothing is appended for a number that is no
+/// instance's.
 fn push_instance(
     text: &mut String,
     system: &System,
@@ -163,8 +164,8 @@ fn push_written(text: &mut String, bytes: &[u8]) -> Result<(), AllocError> {
     Ok(())
 }
 
-/// The words of a stop: the block with its type, its state, the transition or the action, the operation as it is written in
-/// the text, and the reason.
+/// The words of a stop: the block with its type, its state, the transition or the action, the operation as it is
+/// written in the text, and the reason.
 ///
 /// # Errors
 /// When memory runs out.
@@ -213,8 +214,8 @@ fn push_most(
     Ok(())
 }
 
-/// Where the count of steps ran out: how they were used in that tick, a line for each of the blocks that used the most, at
-/// most three. Each line begins with a line feed. The text is empty after another stop.
+/// Where the count of steps ran out: how they were used in that tick, a line for each of the blocks that used the most,
+/// at most three. Each line begins with a line feed. The text is empty after another stop.
 ///
 /// # Errors
 /// When memory runs out, or a link has carried 2^128 messages.

@@ -2,67 +2,66 @@
 
 ghost use Rattle.std.specs.Prelude.{◌≡◌, ◌^◌, ◌≤◌, None, IfOk};
 ghost use Rattle.fb_resource.specs.Resources.{HasRun, IsOf};
+ghost use Rattle.fb_resource.specs.Runs.{with_queues};
 ghost use Rattle.fb_resource.specs.Takings.{IsEmpty};
 ghost use Rattle.fb_resource.specs.declared.resource.WindowDone.TheVariants.{Ran};
 
-use crate::given::Given;
 use crate::next::{find_next, put_next};
 use crate::one_taking::take;
+use crate::queues::Queues;
 use crate::resource::{Output, Resource, WindowDone};
 use crate::tick_counts::TickCounts;
-use fb_agenda::Least;
+use fb_agenda::{Agenda, Least};
 use fb_system::System;
 use fb_types::StopMark;
 use std::alloc::{AllocError, Global};
 use std::mem;
 
 impl Resource {
-    /// Takes all events below a tick, least key first, or up to the stop, which is returned. The lines and the messages
-    /// gather in what is given. Every event of a later run has a later tick, so that each run counts afresh.
+    /// Takes all events of its queues below a tick, least key first, or up to the stop, which is returned. The lines and the
+    /// messages gather in the queues. Every event of a later run has a later tick, so that each run counts afresh.
     ///
     /// # Errors
     /// When memory runs out, or a link has carried 2^128 messages.
     fn take_all(
         &mut self,
-        given: &mut Given,
+        queues: &mut Queues,
         system: &System,
         to: u64,
         steps: u64,
     ) -> Result<Option<StopMark>, AllocError>
-        requires of { IsOf system.now self.old }
-        requires empty { IsEmpty given.old }
+        requires of { IsOf system.now (with_queues self.old queues.old) }
+        requires empty { IsEmpty queues.old }
         requires live { self.old.stopped ≡ None }
         requires ahead { self.old.clock ≤ to }
         requires early { to ≤ 10 ^ 12 }
         requires few { steps ≤ 10 ^ 7 }
-        ensures { IfOk result (λ stop. HasRun system.now steps self.old to (Ran self.new given.new.outbox.lines given.new.mail stop)) }
+        ensures { IfOk result (λ stop. HasRun system.now steps (with_queues self.old queues.old) to (Ran (with_queues self.new queues.new) queues.new.outbox.lines queues.new.mail stop)) }
     {
         system.facts();
         let mut counts = TickCounts::new();
         let mut least = Least::new();
-        let mut found = self.agenda.take_least_into(to, &mut least);
+        let mut found = queues.agenda.take_least_into(to, &mut least);
         'events: while found {
             self.clock = least.key.tick;
             let taken = take(
                 &mut self.tree,
                 &mut counts,
-                &mut self.agenda,
-                &mut self.sent,
-                given,
+                queues,
                 system,
                 steps,
                 &mut least,
             )?;
             self.stopped = taken.stop;
             if let Some(reason) = self.stopped {
-                put_next(&mut self.agenda, taken.raised, &least)?;
+                put_next(&mut queues.agenda, taken.raised, &mut least)?;
                 return Ok(Some(StopMark {
                     tick: least.key.tick,
                     resource: least.key.resource,
                     reason,
                 }));
             }
-            found = find_next(&mut self.agenda, to, taken.raised, &mut least)?;
+            found = find_next(&mut queues.agenda, to, taken.raised, &mut least)?;
         }
         self.clock = to;
         Ok(None)
@@ -134,10 +133,19 @@ impl Resource {
         requires few { steps ≤ 10 ^ 7 }
         ensures { IfOk result (λ o. HasRun system.now steps self.old to (Ran self.new o.lines o.sent o.stop)) }
     {
-        let mut given = Given::new(alloc);
-        let stop = self.take_all(&mut given, system, to, steps)?;
-        let lines = mem::replace(&mut given.outbox.lines, Vec::new(alloc));
-        let sent = mem::replace(&mut given.mail, Vec::new(alloc));
-        Ok(Output { lines, sent, stop })
+        let agenda = mem::replace(&mut self.agenda, Agenda::none(alloc));
+        let sent = mem::replace(&mut self.sent, Vec::new(alloc));
+        let mut queues = Queues::new(alloc, agenda, sent);
+        let stop = self.take_all(&mut queues, system, to, steps)?;
+        let lines = mem::replace(&mut queues.outbox.lines, Vec::new(alloc));
+        let mail = mem::replace(&mut queues.mail, Vec::new(alloc));
+        let (agenda, sent) = queues.into_kept();
+        self.agenda = agenda;
+        self.sent = sent;
+        Ok(Output {
+            lines,
+            sent: mail,
+            stop,
+        })
     }
 }

@@ -18,30 +18,26 @@ ghost use Rattle.fb_sim.specs.Runs.{IsSpent};
 
 use crate::one_agenda::deliver::deliver;
 use crate::one_agenda::pause::Pause;
-use fb_agenda::{Agenda, Least};
+use fb_agenda::Least;
 use fb_net::Tree;
-use fb_resource::{Given, Taken, TickCounts, find_next, put_next, take};
+use fb_resource::{Queues, Taken, TickCounts, find_next, put_next, take};
 use fb_system::System;
 use fb_types::{Line, StopMark};
 use std::alloc::AllocError;
 
-/// The one agenda of all resources, with the counts of their messages and what takings give, and the blocks and the counts
-/// of each.
+/// The one agenda of all resources, with the counts of their messages and what takings give, and the blocks and the
+/// counts of each.
 pub(crate) struct Machine {
-    pub(super) agenda: Agenda,
-    pub(super) sent: Vec<u128>,
-    pub(super) given: Given,
+    pub(super) queues: Queues,
     pub(super) trees: Vec<Tree>,
     pub(super) meters: Vec<TickCounts>,
 }
 
-// By hand, so that it is proved once what is dropped with a machine, and not at each exit of a function that owns one.
+// Drop is written by hand, so that callers need not prove it again (docs/DECISIONS.md, "Drop").
 impl Drop for Machine {
     fn drop(self) {
         let Machine {
-            agenda: _,
-            sent: _,
-            given: _,
+            queues: _,
             trees: _,
             meters: _,
         } = self;
@@ -49,8 +45,8 @@ impl Drop for Machine {
 }
 
 impl Machine {
-    /// Takes the event in the slot, which has left the agenda, and delivers the messages that it gave. A local event that was put
-    /// out alone moves into the slot.
+    /// Takes the event in the slot, which has left the agenda, and delivers the messages that it gave. A local event
+    /// that was put out alone moves into the slot.
     #[inline(always)]
     fn take(&mut self, system: &System, limit: u64, least: &mut Least) -> Result<Taken, AllocError>
         requires ready { IsReady system.now limit least.old.key.tick self.old }
@@ -62,8 +58,8 @@ impl Machine {
         requires early { least.old.key.tick ≤ 10 ^ 12 }
         requires few { limit ≤ 10 ^ 7 }
         ensures taken { IfOk result (λ t. (s : State) (a : model.Agenda) → IsAt system.now s (without least.old.key a) self.old
-            → IsTaken system.now limit s a least.old.key (event_of system.now least.old.event) t.stop self.old (with_raised t.raised least.new.key least.new.event self.new)) }
-        ensures ready { IfOk result (λ t. IsReady system.now limit least.old.key.tick (with_raised t.raised least.new.key least.new.event self.new)) }
+            → IsTaken system.now limit s a least.old.key (event_of system.now least.old.event) t.stop self.old (with_raised t.raised least.new self.new)) }
+        ensures ready { IfOk result (λ t. IsReady system.now limit least.old.key.tick (with_raised t.raised least.new self.new)) }
         ensures raised { IfOk result (λ t. OnTrue t.raised (IsRaised least.new.key least.new.event)) }
         ensures moment { OnOk result ((least.new.key.tick ≡ least.old.key.tick) × (least.new.key.resource ≡ least.old.key.resource)) }
         ensures spent { IfOk result (λ t. t.stop ≡ None → IsSpent limit least.old.key self.old.meters.items self.new.meters.items) }
@@ -72,9 +68,7 @@ impl Machine {
         let taken = take(
             &mut self.trees[resource],
             &mut self.meters[resource],
-            &mut self.agenda,
-            &mut self.sent,
-            &mut self.given,
+            &mut self.queues,
             system,
             limit,
             least,
@@ -83,12 +77,12 @@ impl Machine {
         if taken.raised {
             return Ok(taken);
         }
-        deliver(&mut self.agenda, &mut self.given.mail, system)?;
+        deliver(&mut self.queues.agenda, &mut self.queues.mail, system)?;
         Ok(taken)
     }
 
-    /// Takes events below the horizon, least key first, until there are `many` lines, or up to the first stop. It takes at
-    /// least one event where there is one, and appends its lines to those that are there.
+    /// Takes events below the horizon, least key first, until there are `many` lines, or up to the first stop. It takes
+    /// at least one event where there is one, and appends its lines to those that are there.
     ///
     /// # Errors
     /// When memory runs out, or a link has carried 2^128 messages.
@@ -108,40 +102,40 @@ impl Machine {
         ensures sooner { IfOk result (IsSooner horizon limit self.old self.new) }
     {
         let mut least = Least::new();
-        let mut found = self.agenda.take_least_into(horizon, &mut least);
+        let mut found = self.queues.agenda.take_least_into(horizon, &mut least);
         'events: while found {
             let taken = self.take(system, limit, &mut least)?;
             if let Some(reason) = taken.stop {
-                put_next(&mut self.agenda, taken.raised, &least)?;
+                put_next(&mut self.queues.agenda, taken.raised, &mut least)?;
                 return Ok(Pause::Stop(StopMark {
                     tick: least.key.tick,
                     resource: least.key.resource,
                     reason,
                 }));
             }
-            if self.given.outbox.lines.len() >= many {
-                put_next(&mut self.agenda, taken.raised, &least)?;
+            if self.queues.outbox.lines.len() >= many {
+                put_next(&mut self.queues.agenda, taken.raised, &mut least)?;
                 return Ok(Pause::Lines);
             }
-            found = find_next(&mut self.agenda, horizon, taken.raised, &mut least)?;
+            found = find_next(&mut self.queues.agenda, horizon, taken.raised, &mut least)?;
         }
         Ok(Pause::Horizon)
     }
 
     /// The lines that are there.
     pub(super) fn lines(&self) -> &[Line]
-        ensures { result.now ≡ self.now.given.outbox.lines.items }
+        ensures { result.now ≡ self.now.queues.outbox.lines.items }
     {
-        self.given.outbox.lines.as_slice()
+        self.queues.outbox.lines.as_slice()
     }
 
     /// Drops the lines, and nothing else. Their memory is kept for the next ones.
     pub(super) fn clear_lines(&mut self)
-        ensures none { self.new.given.outbox.lines.items ≡ [] }
+        ensures none { self.new.queues.outbox.lines.items ≡ [] }
         ensures at { (i : Inputs) (s : State) (a : model.Agenda) → IsAt i s a self.old → IsAt i s a self.new }
         ensures ready { (i : Inputs) (limit tick : ℕ) → IsReady i limit tick self.old → IsReady i limit tick self.new }
         ensures meters { self.new.meters ≡ self.old.meters }
     {
-        self.given.outbox.lines.clear();
+        self.queues.outbox.lines.clear();
     }
 }

@@ -8,7 +8,7 @@ ghost use Rattle.fb_sim.specs.Openings.{AreOpened};
 
 use crate::one_agenda::machine::Machine;
 use fb_net::Tree;
-use fb_resource::{Given, TickCounts, open_agenda, open_sent};
+use fb_resource::{Queues, TickCounts, open_agenda, open_sent};
 use fb_system::System;
 use std::alloc::{AllocError, Global};
 
@@ -33,18 +33,16 @@ impl Machine {
     pub(super) fn open(alloc: Global, system: &System) -> Result<Machine, AllocError>
         ensures ready { IfOk result (λ m. (limit : ℕ) → IsReady system.now limit 0 m) }
         ensures at { IfOk result (IsAt system.now (opening_state system.now) (opening_agenda system.now (stimuli_of system.now))) }
-        ensures lines { IfOk result (λ m. m.given.outbox.lines.items ≡ []) }
+        ensures lines { IfOk result (λ m. m.queues.outbox.lines.items ≡ []) }
     {
         system.facts();
         let agenda = open_agenda(alloc, system, None)?;
         let sent = open_sent(alloc, system)?;
         let trees = open_trees(alloc, system)?;
         let meters = vec![in alloc; TickCounts::new(); system.resources()]?;
-        let given = Given::new(alloc);
+        let queues = Queues::new(alloc, agenda, sent);
         Ok(Machine {
-            agenda,
-            sent,
-            given,
+            queues,
             trees,
             meters,
         })

@@ -1,8 +1,7 @@
 use Rattle.std.proofs.Common.{true, false, sym, ap, subst, ◌∙◌}
-use Rattle.std.specs.Bool.{OnTrue}
 use Rattle.fb_agenda.specs.Agendas.{Contents, waiting}
-use Rattle.fb_resource.specs.Takings.{Finds, IsRaised, with_event, with_next}
-use Rattle.fb_resource.proofs.Finding.{finds_alike, finds_local, finds_taken}
+use Rattle.fb_resource.specs.Takings.{Finds, with_event, with_next}
+use Rattle.fb_resource.proofs.Finding.{finds_alike, finds_clear, finds_taken}
 use Rattle.fb_resource.proofs.next.find_next.Goals as goal
 
 pub returns-then-not-raised-clause-finds : goal.returns-then-not-raised-clause-finds
@@ -14,16 +13,14 @@ returns-then-not-raised-clause-finds c =
     subst (λ b. Finds c.args.horizon (with_next b c.args.least.now.key c.args.least.now.event a) c.take_least_into.result slot.key slot.event now) (sym c.if-not-raised.true)
     (finds_taken c.args.horizon a now c.take_least_into.result slot.key slot.event is.found is.below is.least is.left is.none is.kept)
 
-pub returns-then-is_clear-clause-finds : goal.returns-then-is_clear-clause-finds
-returns-then-is_clear-clause-finds c =
+pub returns-then-is_next-clause-finds : goal.returns-then-is_next-clause-finds
+returns-then-is_next-clause-finds c =
     let a = c.args.agenda.now in
     let k = c.args.least.now.key in
     let e = c.args.least.now.event in
-    let raised = subst (λ b. OnTrue b (IsRaised k e)) c.if-not-raised.false c.requires.raised in
-    let clear = c.if-is_clear.ensures in
-    subst (λ b. Finds c.args.horizon (with_next b k e a) true k e c.is_clear.new.self) (sym c.if-not-raised.false)
-    (subst (λ (z : Contents). Finds c.args.horizon (with_event k e a) true k e z) (sym c.is_clear.ensures.kept)
-    (finds_local c.args.horizon a k e raised c.requires.early clear.before clear.itself))
+    subst (λ b. Finds c.args.horizon (with_next b k e a) true k e c.is_next.new.agenda) (sym c.if-not-raised.false)
+    (subst (λ (z : Contents). Finds c.args.horizon (with_event k e a) true k e z) (sym c.is_next.ensures.kept)
+    (finds_clear c.args.horizon a k e c.if-is_next.ensures.below c.if-is_next.ensures.clear))
 
 pub returns-clause-finds : goal.returns-clause-finds
 returns-clause-finds c =
@@ -35,5 +32,5 @@ returns-clause-finds c =
     let now = c.take_least_into-2.new.self in
     let slot = c.take_least_into-2.new.index in
     finds_alike c.args.horizon (with_next b k e c.args.agenda.now) mid now c.take_least_into-2.result slot.key slot.event
-    (λ j. c.in_ok-put_next.ensures.put j ∙ ap (λ (z : Contents). waiting (with_next b k e z) j) c.is_clear.ensures.kept)
+    (λ j. c.in_ok-put_next.ensures.put j ∙ ap (λ (z : Contents). waiting (with_next b k e z) j) c.is_next.ensures.kept)
     (finds_taken c.args.horizon mid now c.take_least_into-2.result slot.key slot.event is.found is.below is.least is.left is.none is.kept)

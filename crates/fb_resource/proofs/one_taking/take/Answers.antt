@@ -1,4 +1,5 @@
 use Rattle.std.proofs.Common.{◌≡◌, Some, All, length, refl, sym, ap, subst, ◌∙◌, arith}
+use Rattle.std.proofs.lemmas.List.Elements.{All-nil}
 use Rattle.fb_types.specs.Headline.{system_of}
 use Rattle.fb_types.specs.Keys.{local_key}
 use Rattle.fb_types.specs.Takes.{begun, world_of}
@@ -8,10 +9,12 @@ use Rattle.fb_types.specs.declared.run.Event.TheVariants.{Local}
 use Rattle.fb_net.specs.Outs.{IsOut}
 use Rattle.fb_net.specs.Events.{IsEventIn, event_of}
 use Rattle.fb_types.specs.States.{path_of}
+use Rattle.fb_types.specs.OfSystem.{IsResource}
 use Rattle.fb_laws.proofs.Accepted.{accepted_typed}
 use Rattle.fb_types.specs.declared.value.Reason.TheVariants.{Steps}
 use Rattle.fb_resource.specs.Counts.{IsMetered, before_step, meter_of}
-use Rattle.fb_resource.specs.Takings.{AreReady, IsTakenHere, Queues, queues_of, with_event}
+use Rattle.fb_resource.specs.Takings.{AreReady, IsTakenHere, with_event}
+use Rattle.fb_resource.specs.declared.queues.Queues.{Queues}
 use Rattle.fb_resource.specs.declared.tick_counts.TickCounts.{TickCounts}
 use Rattle.fb_resource.proofs.Lone.{lone_ready, lone_settled, raised_lone}
 use Rattle.fb_resource.proofs.ReadyIs.{came_good, metered_after}
@@ -23,7 +26,7 @@ returns-then-not-step-clause-taken c s from le here counts =
     let i = c.args.system.now in
     let k = c.args.least.now.key in
     let e = event_of i c.args.least.now.event in
-    let q = queues_of c.args.agenda.now c.args.sent.now c.args.given.now in
+    let q = c.args.queues.now in
     let none = taken_none i c.args.limit s k e (begun c.args.limit k.tick (meter_of c.args.counts.now)) from c.args.tree.now c.args.counts.now q
     (here.meter c.args.limit k.tick le) c.if-not-step.ensures.none here counts in
     subst (λ (m : TickCounts). IsTakenHere i c.args.limit s k e (Some Steps) from c.args.tree.now m q q) (sym c.if-not-step.ensures.kept) none
@@ -34,13 +37,28 @@ returns-then-not-step-clause-queues c = c.requires.queues
 pub returns-then-not-step-clause-counts : goal.returns-then-not-step-clause-counts
 returns-then-not-step-clause-counts c = subst (IsMetered c.args.limit) (sym c.if-not-step.ensures.kept) c.requires.counts
 
-pub take_in-requires-clause-event : goal.take_in-requires-clause-event
-take_in-requires-clause-event c = subst (λ n. IsEventIn c.args.system.now n c.args.least.now.event) (sym c.requires.tree) c.requires.event
-
-pub take_in-requires-clause-belongs : goal.take_in-requires-clause-belongs
-take_in-requires-clause-belongs c =
+pub take_in-requires : goal.take_in-requires
+take_in-requires c =
+    let i = c.args.system.now in
+    let l = c.args.least.now in
+    let q = c.args.queues.now in
+    let r = c.args.tree.now.resource in
     let represents = c.requires.represents in
-    (world_of represents.0 c.args.least.now.key.resource, represents.1.blocks, represents.1.typed c.args.least.now.key.resource)
+    let here = sym c.requires.tree in
+    record {
+      here = here;
+      event = subst (λ n. IsEventIn i n l.event) here c.requires.event;
+      named = subst (λ n. IsResource i n) here c.requires.named;
+      early = c.requires.early;
+      belongs = (world_of represents.0 l.key.resource, represents.1.blocks, represents.1.typed l.key.resource);
+      typed = c.requires.typed;
+      outs = record {
+        lines = c.requires.queues.lines;
+        outs = subst (All (IsOut (system_of i) r)) (sym c.requires.queues.none) (All-nil (IsOut (system_of i) r));
+      };
+      none = c.requires.queues.none;
+      keeps = c.requires.queues.keeps;
+    }
 
 pub settle-requires-clause-may : goal.settle-requires-clause-may
 settle-requires-clause-may c =
@@ -52,16 +70,26 @@ settle-requires-clause-may c =
     let w = world_of represents.0 k.resource in
     let good = came_good i k c.args.least.now.event _ _ _ c.take_in.new.tree c.take_in.new.outbox _ w c.facts.ensures.accepted c.facts.ensures.limits c.requires.event.here (represents.1.typed k.resource) c.requires.typed
     (c.in_ok-stop.ensures.came w represents.1.blocks) (subst (λ n. All (IsOut (system_of i) n) c.take_in.new.outbox.outs.items) here c.in_ok-stop.ensures.outs.outs) in
-    record { order = had.order; due = had.due; counted = had.counted; mail = had.mail; later = good.1; outs = good.0; lines = c.in_ok-stop.ensures.outs.lines }
+    record {
+      event = c.requires.event;
+      named = c.requires.named;
+      early = c.requires.early;
+      order = had.order;
+      due = had.due;
+      counted = had.counted;
+      mail = had.mail;
+      later = good.1;
+      outs = good.0;
+      lines = c.in_ok-stop.ensures.outs.lines;
+    }
 
 pub returns-clause-taken : goal.returns-clause-taken
 returns-clause-taken c s from le here counts =
     let i = c.args.system.now in
     let k = c.args.least.now.key in
-    let q = c.args.given.now in
-    let old = queues_of c.args.agenda.now c.args.sent.now q in
-    let mid : Queues = record { agenda = c.args.agenda.now; sent = c.args.sent.now; mail = q.mail; outbox = c.take_in.new.outbox } in
-    taken_one i c.args.limit s k c.args.least.now.event (before_step c.step.new.self) _ _ _ old mid (queues_of c.settle.new.agenda c.settle.new.sent c.settle.new.given)
+    let old = c.args.queues.now in
+    let mid : Queues = record old { outbox = c.take_in.new.outbox } in
+    taken_one i c.args.limit s k c.args.least.now.event (before_step c.step.new.self) _ _ _ old mid c.settle.new.queues
     from c.args.tree.now c.args.counts.now c.take_in.new.tree c.take_in.new.outbox
     (accepted_typed i c.facts.ensures.accepted).system c.requires.typed
     here counts (here.meter c.args.limit k.tick le ∙ sym c.if-not-step.ensures.used) refl
@@ -95,35 +123,34 @@ pub returns-in-Some-clause-taken : goal.returns-in-Some-clause-taken
 returns-in-Some-clause-taken c s from le here counts =
     let i = c.args.system.now in
     let k = c.args.least.now.key in
-    let q = c.args.given.now in
+    let old = c.args.queues.now in
     let x = c.take_in.new.outbox in
     let y = c.count_lone.new.outbox in
     let t = c.in-Some.target.now in
     let m = before_step c.step.new.self in
     let z = c.follow.new.self in
-    let a = with_event (local_key k.tick k.resource m.locals) (Local t) c.args.agenda.now in
-    let old = queues_of c.args.agenda.now c.args.sent.now q in
-    let mid : Queues = record { agenda = c.args.agenda.now; sent = c.args.sent.now; mail = q.mail; outbox = x } in
-    let new : Queues = record { agenda = a; sent = c.args.sent.now; mail = q.mail; outbox = y } in
-    let lone = raised_lone k t c.args.agenda.now m.locals c.count_lone.new.locals x y c.in-Some.ensures.alone c.in-Some.ensures.keeps c.count_lone.ensures.counted c.count_lone.ensures.emptied in
+    let a = with_event (local_key k.tick k.resource m.locals) (Local t) old.agenda in
+    let mid : Queues = record old { outbox = x } in
+    let new : Queues = record old { agenda = a; outbox = y } in
+    let lone = raised_lone k t old.agenda m.locals c.count_lone.new.locals x y c.in-Some.ensures.alone c.in-Some.ensures.keeps c.count_lone.ensures.counted c.count_lone.ensures.emptied in
     let n : TickCounts = record { tick = c.step.new.self.tick; left = c.take_in.new.left; locals = c.count_lone.new.locals } in
     subst (λ (j : Key). IsTakenHere i c.args.limit s k (event_of i c.args.least.now.event) c.in_ok-stop.stop from c.take_in.new.tree n old
-    (record { agenda = with_event j z.event c.args.agenda.now; sent = c.args.sent.now; mail = q.mail; outbox = y })) (sym c.follow.ensures.key)
+    (record old { agenda = with_event j z.event old.agenda; outbox = y })) (sym c.follow.ensures.key)
     (subst (λ (e : Event). IsTakenHere i c.args.limit s k (event_of i c.args.least.now.event) c.in_ok-stop.stop from c.take_in.new.tree n old
-    (record { agenda = with_event (local_key k.tick k.resource m.locals) e c.args.agenda.now; sent = c.args.sent.now; mail = q.mail; outbox = y })) (sym c.follow.ensures.event)
+    (record old { agenda = with_event (local_key k.tick k.resource m.locals) e old.agenda; outbox = y })) (sym c.follow.ensures.event)
     (taken_one i c.args.limit s k c.args.least.now.event m n _ _ old mid new
     from c.args.tree.now c.args.counts.now c.take_in.new.tree x
     (accepted_typed i c.facts.ensures.accepted).system c.requires.typed
     here counts (here.meter c.args.limit k.tick le ∙ sym c.if-not-step.ensures.used) refl
     (c.in_ok-stop.ensures.came (world_of s k.resource) here.blocks) refl
-    (lone_settled i k t c.args.agenda.now a m.locals c.count_lone.new.locals x y lone c.args.sent.now q.mail (path_of (event_of i c.args.least.now.event)))
+    (lone_settled i k t old.agenda a m.locals c.count_lone.new.locals x y lone old.sent old.mail (path_of (event_of i c.args.least.now.event)))
     c.if-not-step.ensures.tick c.count_lone.ensures.emptied.lines))
 
 pub returns-in-Some-clause-queues : goal.returns-in-Some-clause-queues
 returns-in-Some-clause-queues c =
     let i = c.args.system.now in
     let k = c.args.least.now.key in
-    let q = c.args.given.now in
+    let old = c.args.queues.now in
     let x = c.take_in.new.outbox in
     let y = c.count_lone.new.outbox in
     let t = c.in-Some.target.now in
@@ -134,11 +161,11 @@ returns-in-Some-clause-queues c =
     let w = world_of represents.0 k.resource in
     let good = came_good i k c.args.least.now.event _ _ _ c.take_in.new.tree x _ w c.facts.ensures.accepted c.facts.ensures.limits c.requires.event.here (represents.1.typed k.resource) c.requires.typed
     (c.in_ok-stop.ensures.came w represents.1.blocks) (subst (λ n. All (IsOut (system_of i) n) x.outs.items) here c.in_ok-stop.ensures.outs.outs) in
-    let lone = raised_lone k t c.args.agenda.now n c.count_lone.new.locals x y c.in-Some.ensures.alone c.in-Some.ensures.keeps c.count_lone.ensures.counted c.count_lone.ensures.emptied in
-    subst (λ (j : Key). AreReady i k.tick (record { agenda = with_event j z.event c.args.agenda.now; sent = c.args.sent.now; mail = q.mail; outbox = y })) (sym c.follow.ensures.key)
-    (subst (λ (e : Event). AreReady i k.tick (record { agenda = with_event (local_key k.tick k.resource n) e c.args.agenda.now; sent = c.args.sent.now; mail = q.mail; outbox = y })) (sym c.follow.ensures.event)
-    (lone_ready i k t c.args.agenda.now (with_event (local_key k.tick k.resource n) (Local t) c.args.agenda.now) n c.count_lone.new.locals x y lone c.args.sent.now q.mail
-    q.outbox c.requires.named good.0 c.in_ok-stop.ensures.outs.lines c.requires.queues))
+    let lone = raised_lone k t old.agenda n c.count_lone.new.locals x y c.in-Some.ensures.alone c.in-Some.ensures.keeps c.count_lone.ensures.counted c.count_lone.ensures.emptied in
+    subst (λ (j : Key). AreReady i k.tick (record old { agenda = with_event j z.event old.agenda; outbox = y })) (sym c.follow.ensures.key)
+    (subst (λ (e : Event). AreReady i k.tick (record old { agenda = with_event (local_key k.tick k.resource n) e old.agenda; outbox = y })) (sym c.follow.ensures.event)
+    (lone_ready i k t old.agenda (with_event (local_key k.tick k.resource n) (Local t) old.agenda) n c.count_lone.new.locals x y lone old.sent old.mail
+    old.outbox c.requires.named good.0 c.in_ok-stop.ensures.outs.lines c.requires.queues))
 
 pub returns-in-Some-clause-counts : goal.returns-in-Some-clause-counts
 returns-in-Some-clause-counts c =

@@ -1,8 +1,13 @@
 use Rattle.std.proofs.Common.{arith, subst, sym}
+use Rattle.std.specs.Io.KnownBytes.{Appends}
+use Rattle.fb_types.specs.Headline.{system_of}
+use Rattle.fb_types.specs.Text.{last_line}
+use Rattle.fb_trace.specs.End.{ending_of}
+use Rattle.fb_trace.specs.declared.last.Outcome.{Outcome}
 use Rattle.fb_sim.specs.declared.outcome.RunError.{RunError}
 use Rattle.fb_sim.specs.declared.outcome.RunError.TheVariants.{Memory}
-use Rattle.fb_sim.specs.Rounds.{FailsRun}
-use Rattle.fb_sim.proofs.RunIs.{ended, ended_short, err_is, fails_on, fails_wanting, stop_counted, stopped, stopped_short}
+use Rattle.fb_sim.specs.Rounds.{FailsRun, IsShort}
+use Rattle.fb_sim.proofs.RunIs.{ended, ended_short, err_is, fails_on, fails_wanting, stop_counted}
 use Rattle.fb_sim.proofs.runs.run_workers.Goals as goal
 
 pub run_first-requires-clause-options : goal.run_first-requires-clause-options
@@ -67,47 +72,34 @@ returns-in_err-finish-clause-failed g c given is =
     (fails_on given o c.args.system.now c.requires is old new e
     c.in_err-finish.ensures)
 
-pub close-requires-in-AtMark : goal.close-requires-in-AtMark
-close-requires-in-AtMark g c =
+pub close-requires : goal.close-requires
+close-requires g c =
+    let i = c.args.system.now in
     let o = c.args.options in
     let old = g.W.Write.contents c.args.out.now in
     let mid = g.W.Write.contents c.run_rest.new.out in
-    stop_counted c.args.system.now o c.in_ok-finish.finish c.in_ok-finish.written old mid c.in_ok-finish.ensures c.in-AtMark.mark c.in-AtMark.is
+    rw c.outcome_of-end.ensures
+    (stop_counted i o c.in_ok-finish.finish c.in_ok-finish.written old mid c.in_ok-finish.ensures)
 
-pub returns-in_err-close-in-AtEnd-clause-failed : goal.returns-in_err-close-in-AtEnd-clause-failed
-returns-in_err-close-in-AtEnd-clause-failed g c given is =
+pub returns-in_err-close-clause-failed : goal.returns-in_err-close-clause-failed
+returns-in_err-close-clause-failed g c given is =
+    let i = c.args.system.now in
     let o = c.args.options in
     let old = g.W.Write.contents c.args.out.now in
     let mid = g.W.Write.contents c.run_rest.new.out in
     let new = g.W.Write.contents c.close.new.out in
-    let e = c.in_err-close-in-AtEnd.field-0.0 in
-    err_is (FailsRun given o old new) c.from_residual-in_err-close-in-AtEnd.result e c.from_residual-in_err-close-in-AtEnd.ensures.1
-    (ended_short given o c.args.system.now c.requires is c.in_ok-finish.finish c.in_ok-finish.written old mid new
-    c.in_ok-finish.ensures c.in-AtEnd.field-0 c.in-AtEnd.is e c.in_err-close-in-AtEnd.ensures.part)
-
-pub returns-in-AtEnd-clause-trace : goal.returns-in-AtEnd-clause-trace
-returns-in-AtEnd-clause-trace g c given is =
-    let o = c.args.options in
-    let old = g.W.Write.contents c.args.out.now in
-    let mid = g.W.Write.contents c.run_rest.new.out in
-    ended given o c.args.system.now c.requires is c.in_ok-finish.finish c.in_ok-finish.written old mid _
-    c.in_ok-finish.ensures c.in-AtEnd.field-0 c.in-AtEnd.is c.in_ok-close-in-AtEnd.ensures.whole
+    let e = c.in_err-close.field-0.0 in
+    err_is (FailsRun given o old new) c.from_residual-in_err-close.result e c.from_residual-in_err-close.ensures.1
+    (ended_short given o i c.requires is c.in_ok-finish.finish c.in_ok-finish.written old mid new c.in_ok-finish.ensures e
+    (subst (λ (x : Outcome). IsShort mid new (last_line (system_of i) (ending_of x)) c.in_ok-finish.written.bytes e) c.outcome_of-end.ensures c.in_err-close.ensures.part))
 
 pub returns-clause-trace : goal.returns-clause-trace
 returns-clause-trace g c given is =
+    let i = c.args.system.now in
     let o = c.args.options in
     let old = g.W.Write.contents c.args.out.now in
     let mid = g.W.Write.contents c.run_rest.new.out in
-    stopped given o c.args.system.now c.requires is c.in_ok-finish.finish c.in_ok-finish.written old mid _
-    c.in_ok-finish.ensures c.in-AtMark.mark c.in-AtMark.is c.in_ok-close-in-AtMark.ensures.whole
-
-pub returns-in_err-close-in-AtMark-clause-failed : goal.returns-in_err-close-in-AtMark-clause-failed
-returns-in_err-close-in-AtMark-clause-failed g c given is =
-    let o = c.args.options in
-    let old = g.W.Write.contents c.args.out.now in
-    let mid = g.W.Write.contents c.run_rest.new.out in
-    let new = g.W.Write.contents c.close-in-AtMark.new.out in
-    let e = c.in_err-close-in-AtMark.field-0.0 in
-    err_is (FailsRun given o old new) c.from_residual-in_err-close-in-AtMark.result e c.from_residual-in_err-close-in-AtMark.ensures.1
-    (stopped_short given o c.args.system.now c.requires is c.in_ok-finish.finish c.in_ok-finish.written old mid new
-    c.in_ok-finish.ensures c.in-AtMark.mark c.in-AtMark.is e c.in_err-close-in-AtMark.ensures.part)
+    let new = g.W.Write.contents c.close.new.out in
+    rw c.outcome_of-end.ensures
+    (ended given o i c.requires is c.in_ok-finish.finish c.in_ok-finish.written old mid new c.in_ok-finish.ensures
+    (subst (λ (x : Outcome). Appends mid new (last_line (system_of i) (ending_of x))) c.outcome_of-end.ensures c.in_ok-close.ensures.whole))

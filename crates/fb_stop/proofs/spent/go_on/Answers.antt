@@ -61,7 +61,7 @@ returns-in-Some-clause-spent c asked =
     let new = c.step.new.spent.items in
     let next = machine_of c.step.new.run in
     let spent = c.in_ok-stop.ensures.spent inv.at.state inv.at.agenda (at_left i k inv.at (machine_of c.loop-moment.run) _ inv.is found.left) in
-    are_spent i c.args.horizon c.args.limit m inv.at inv.taken inv.reaches c.args.spent.now.items old new inv.charged c.loop-moment.run.agenda k e c.in-Some.field-0 next inv.is.agenda found.found found.least found.below
+    are_spent i c.args.horizon c.args.limit m inv.at inv.taken inv.reaches c.args.spent.now.items old new inv.charged c.loop-moment.run.queues.agenda k e c.in-Some.field-0 next inv.is.agenda found.found found.least found.below
     (subst (λ (o : Option Reason). HasSpent i c.args.limit m inv.at.state inv.at.agenda k (event_of i e) o next old new) c.in-Some.is spent)
 
 pub loop-moment-smaller : goal.loop-moment-smaller
@@ -88,7 +88,7 @@ loop-moment-preserved c =
     let spent = c.in_ok-stop.ensures.spent inv.at.state inv.at.agenda (at_left i k inv.at (machine_of c.loop-moment.run) _ inv.is found.left) in
     let h = subst (λ (o : Option Reason). HasSpent i c.args.limit m inv.at.state inv.at.agenda k (event_of i e) o next old new) c.in_default.is spent in
     let taken = h.taken in
-    let least = takes_least i c.args.limit inv.at k e _ c.loop-moment.run.agenda h.from next inv.is.agenda found.found found.least taken in
+    let least = takes_least i c.args.limit inv.at k e _ c.loop-moment.run.queues.agenda h.from next inv.is.agenda found.found found.least taken in
     let t : Taken = record { key = k; event = event_of i e; effect = taken.effect } in
     record {
       ready = (k.tick, c.in_ok-stop.ensures.ready);

@@ -1,20 +1,15 @@
-use Rattle.std.proofs.Common.{true, sym, ap, subst, ◌∙◌}
+use Rattle.std.proofs.Common.{sym, ap, subst, true, ◌∙◌}
 use Rattle.fb_agenda.specs.Agendas.{AreApart, local_events}
 use Rattle.fb_agenda.specs.Inside.{contents_of}
-use Rattle.fb_agenda.proofs.Clear.{clear_before, clear_itself}
+use Rattle.fb_agenda.proofs.Clear.{is_clear}
 use Rattle.fb_agenda.proofs.agenda.Agenda.is_clear.Goals as goal
 
 -- ---- It is noted
 
-pub returns-then-is_past-clause-before : goal.returns-then-is_past-clause-before
-returns-then-is_past-clause-before c =
+pub returns-then-is_past-clause-clear : goal.returns-then-is_past-clause-clear
+returns-then-is_past-clause-clear c =
     rw (← c.self.view_is)
-    (clear_before true (contents_of c.self.inside) (record { tick = c.args.tick; resource = c.args.resource }) (ap local_events c.if-not-is_empty.ensures) c.if-is_past.ensures)
-
-pub returns-then-is_past-clause-itself : goal.returns-then-is_past-clause-itself
-returns-then-is_past-clause-itself c =
-    rw (← c.self.view_is)
-    (clear_itself true (contents_of c.self.inside) (record { tick = c.args.tick; resource = c.args.resource }) (ap local_events c.if-not-is_empty.ensures) c.if-is_past.ensures)
+    (is_clear true (contents_of c.self.inside) (record { tick = c.args.tick; resource = c.args.resource }) (ap local_events c.if-not-is_empty.ensures) c.if-is_past.ensures)
 
 -- ---- It is found
 
@@ -23,15 +18,10 @@ invariant_of-self c =
     let v = contents_of c.self.inside in
     subst (λ l. AreApart (record { running = v.running; later = l; due = v.due }) c.self.inside.later.has_local) (sym c.comes_past.ensures.kept) c.self.invariant
 
-pub returns-clause-before : goal.returns-clause-before
-returns-clause-before c =
+pub returns-clause-clear : goal.returns-clause-clear
+returns-clause-clear c =
     rw (← c.self.view_is)
-    (clear_before c.comes_past.result (contents_of c.self.inside) (record { tick = c.args.tick; resource = c.args.resource }) (ap local_events c.if-not-is_empty.ensures) c.comes_past.ensures.past)
-
-pub returns-clause-itself : goal.returns-clause-itself
-returns-clause-itself c =
-    rw (← c.self.view_is)
-    (clear_itself c.comes_past.result (contents_of c.self.inside) (record { tick = c.args.tick; resource = c.args.resource }) (ap local_events c.if-not-is_empty.ensures) c.comes_past.ensures.past)
+    (is_clear c.comes_past.result (contents_of c.self.inside) (record { tick = c.args.tick; resource = c.args.resource }) (ap local_events c.if-not-is_empty.ensures) c.comes_past.ensures.past)
 
 pub returns-clause-kept : goal.returns-clause-kept
 returns-clause-kept c =

@@ -1,5 +1,6 @@
-use Rattle.std.proofs.Common.{◌<◌, ◌≤◌, Bool, refl, sym, ap, subst, ◌∙◌, arith}
+use Rattle.std.proofs.Common.{◌<◌, ◌≤◌, Bool, Some, refl, sym, ap, subst, ◌∙◌, arith}
 use Rattle.std.specs.Prelude.{unwrap_or}
+use Rattle.fb_types.specs.declared.key.Key.{Key}
 use Rattle.fb_laws.proofs.Accepting.{sound_of}
 use Rattle.fb_net.specs.Events.{event_of}
 use Rattle.fb_resource.proofs.Finding.{finds_taken}
@@ -9,8 +10,8 @@ use Rattle.fb_resource.proofs.Lone.{due_next, ready_alike, taken_alike}
 use Rattle.fb_resource.proofs.Meters.{metered_fresh, past_fresh, unused_below, unused_fresh}
 use Rattle.fb_resource.specs.Counts.{meter_of}
 use Rattle.fb_resource.specs.Resources.{mark_of}
-use Rattle.fb_resource.specs.Runs.{Running, in_run}
-use Rattle.fb_resource.specs.Takings.{Finds, queues_of, with_next}
+use Rattle.fb_resource.specs.Runs.{Running, in_run, with_queues}
+use Rattle.fb_resource.specs.Takings.{Finds, with_slot}
 use Rattle.fb_resource.proofs.Running.{comes_first, comes_more, has_run, here_at, marked, ran_rest, ran_stop, running_first, running_more, running_rest}
 use Rattle.fb_resource.proofs.Standing.{HasLeft}
 use Rattle.fb_resource.proofs.resource.Resource.take_all.Goals as goal
@@ -23,18 +24,19 @@ events-init c =
     let counts = c.new-counts.result in
     let begins = c.new-counts.ensures in
     let empty = c.requires.empty in
+    let q = c.args.queues.now in
     let is = c.take_least_into-found.ensures in
     let slot = c.take_least_into-found.new.index in
     record {
-      was = x.agenda;
-      finds = finds_taken c.args.to x.agenda c.take_least_into-found.new.self c.take_least_into-found.result slot.key slot.event is.found is.below is.least is.left is.none is.kept;
+      was = q.agenda;
+      finds = finds_taken c.args.to q.agenda c.take_least_into-found.new.self c.take_least_into-found.result slot.key slot.event is.found is.below is.least is.left is.none is.kept;
       due = is.due;
-      running = running_first i c.args.steps x counts c.args.given.now empty c.requires.of (metered_fresh c.args.steps counts begins) (past_fresh x.clock counts begins);
+      running = running_first i c.args.steps x counts q empty c.requires.of (metered_fresh c.args.steps counts begins) (past_fresh x.clock counts begins);
       ahead = c.requires.ahead;
       live = c.requires.live;
       tree = refl;
       unused = unused_fresh c.args.to counts begins;
-      comes = λ l represents. comes_first i c.args.steps x counts c.args.given.now empty c.args.to l c.requires.live (unused_fresh x.clock counts begins) represents;
+      comes = λ l represents. comes_first i c.args.steps x counts q empty c.args.to l c.requires.live (unused_fresh x.clock counts begins) represents;
     }
 
 -- ---- The event in the slot
@@ -45,7 +47,7 @@ take-requires-clause-tree c =
     let inv = c.events.invariant in
     let k = c.events.least.key in
     let e = c.events.least.event in
-    let finds = subst (λ (b : Bool). Finds c.args.to inv.was b k e c.events.self.agenda) c.events-test.true inv.finds in
+    let finds = subst (λ (b : Bool). Finds c.args.to inv.was b k e c.events.queues.agenda) c.events-test.true inv.finds in
     let may = inv.running.ready.order.waits k e finds.found in
     sym (inv.running.home k e finds.found)
 
@@ -55,10 +57,10 @@ take-requires-clause-queues c =
     let inv = c.events.invariant in
     let k = c.events.least.key in
     let e = c.events.least.event in
-    let finds = subst (λ (b : Bool). Finds c.args.to inv.was b k e c.events.self.agenda) c.events-test.true inv.finds in
+    let finds = subst (λ (b : Bool). Finds c.args.to inv.was b k e c.events.queues.agenda) c.events-test.true inv.finds in
     let may = inv.running.ready.order.waits k e finds.found in
-    let old = in_run (record c.events.self { agenda = inv.was }) c.events.counts c.events.given in
-    ready_left i c.events.self.clock k old.queues c.events.self.agenda inv.running.ready finds.left finds.least inv.due
+    let old = in_run c.events.self c.events.counts (record c.events.queues { agenda = inv.was }) in
+    ready_left i c.events.self.clock k old.queues c.events.queues.agenda inv.running.ready finds.left finds.least inv.due
 
 pub take-requires-clause-represents : goal.take-requires-clause-represents
 take-requires-clause-represents c =
@@ -66,9 +68,9 @@ take-requires-clause-represents c =
     let inv = c.events.invariant in
     let k = c.events.least.key in
     let e = c.events.least.event in
-    let finds = subst (λ (b : Bool). Finds c.args.to inv.was b k e c.events.self.agenda) c.events-test.true inv.finds in
+    let finds = subst (λ (b : Bool). Finds c.args.to inv.was b k e c.events.queues.agenda) c.events-test.true inv.finds in
     let may = inv.running.ready.order.waits k e finds.found in
-    let old = in_run (record c.events.self { agenda = inv.was }) c.events.counts c.events.given in
+    let old = in_run c.events.self c.events.counts (record c.events.queues { agenda = inv.was }) in
     let first = c.requires.of.represents c.args.steps in
     let s = (inv.comes first.0 first.1).represents in
     (s.state, here_at i s.state k old (inv.running.home k e finds.found) may.later s.here)
@@ -79,19 +81,9 @@ take-requires-clause-event c =
     let inv = c.events.invariant in
     let k = c.events.least.key in
     let e = c.events.least.event in
-    let finds = subst (λ (b : Bool). Finds c.args.to inv.was b k e c.events.self.agenda) c.events-test.true inv.finds in
+    let finds = subst (λ (b : Bool). Finds c.args.to inv.was b k e c.events.queues.agenda) c.events-test.true inv.finds in
     let may = inv.running.ready.order.waits k e finds.found in
     may.event
-
-pub take-requires-clause-own : goal.take-requires-clause-own
-take-requires-clause-own c =
-    let i = c.args.system.now in
-    let inv = c.events.invariant in
-    let k = c.events.least.key in
-    let e = c.events.least.event in
-    let finds = subst (λ (b : Bool). Finds c.args.to inv.was b k e c.events.self.agenda) c.events-test.true inv.finds in
-    let may = inv.running.ready.order.waits k e finds.found in
-    may.own
 
 pub take-requires-clause-typed : goal.take-requires-clause-typed
 take-requires-clause-typed c =
@@ -99,7 +91,7 @@ take-requires-clause-typed c =
     let inv = c.events.invariant in
     let k = c.events.least.key in
     let e = c.events.least.event in
-    let finds = subst (λ (b : Bool). Finds c.args.to inv.was b k e c.events.self.agenda) c.events-test.true inv.finds in
+    let finds = subst (λ (b : Bool). Finds c.args.to inv.was b k e c.events.queues.agenda) c.events-test.true inv.finds in
     let may = inv.running.ready.order.waits k e finds.found in
     may.typed
 
@@ -109,7 +101,7 @@ take-requires-clause-named c =
     let inv = c.events.invariant in
     let k = c.events.least.key in
     let e = c.events.least.event in
-    let finds = subst (λ (b : Bool). Finds c.args.to inv.was b k e c.events.self.agenda) c.events-test.true inv.finds in
+    let finds = subst (λ (b : Bool). Finds c.args.to inv.was b k e c.events.queues.agenda) c.events-test.true inv.finds in
     let may = inv.running.ready.order.waits k e finds.found in
     may.resource
 
@@ -121,10 +113,10 @@ returns-in-Some c =
     let inv = c.events.invariant in
     let k = c.events.least.key in
     let e = c.events.least.event in
-    let finds = subst (λ (b : Bool). Finds c.args.to inv.was b k e c.events.self.agenda) c.events-test.true inv.finds in
+    let finds = subst (λ (b : Bool). Finds c.args.to inv.was b k e c.events.queues.agenda) c.events-test.true inv.finds in
     let may = inv.running.ready.order.waits k e finds.found in
-    let old = in_run (record c.events.self { agenda = inv.was }) c.events.counts c.events.given in
-    let a = c.events.self.agenda in
+    let old = in_run c.events.self c.events.counts (record c.events.queues { agenda = inv.was }) in
+    let a = c.events.queues.agenda in
     let gave = c.in_ok-taken.ensures in
     let taken = c.in_ok-taken.taken in
     let mine = inv.running.home k e finds.found in
@@ -139,41 +131,27 @@ returns-in-Some c =
     let later = may.later in
     let within : unwrap_or c.take.new.counts.tick 0 ≤ k.tick = omega (arith, tick, past, later) in
     let apart = c.take.new in
-    let new : Running = in_run (record { tree = apart.tree; clock = k.tick; agenda = c.put_next.new.agenda; sent = apart.sent; stopped = taken.stop }) apart.counts apart.given in
     let z = apart.least in
-    let mid = with_next taken.raised z.key z.event apart.agenda in
+    let mid = with_slot taken.raised z apart.queues in
+    let last = c.put_next.new.agenda in
+    let new : Running = record { tree = apart.tree; clock = k.tick; meter = apart.counts; queues = record apart.queues { agenda = last }; stopped = taken.stop } in
     let put = c.in_ok-put_next.ensures.put in
-    let went = queues_of a c.events.self.sent c.events.given in
-    let ready = ready_alike i k.tick mid c.put_next.new.agenda apart.sent apart.given put (c.put_next.ensures.due ∙ sym (due_next taken.raised z.key z.event apart.agenda)) gave.queues in
-    has_run i c.args.steps c.args.self.now new c.args.to _ c.requires.of
+    let went = record c.events.queues { agenda = a } in
+    let ready = ready_alike i k.tick mid last put (c.put_next.ensures.due ∙ sym (due_next taken.raised z.key z.event apart.queues.agenda)) gave.queues in
+    has_run i c.args.steps (with_queues c.args.self.now c.args.queues.now) new c.args.to _ c.requires.of
     (running_more i c.args.steps old new k e a sound gave.tree mine inv.live may.event.here gone inv.running s.state
-    (taken_alike i c.args.steps s.state k (event_of i e) taken.stop k.tick apart.tree apart.counts went mid c.put_next.new.agenda apart.sent apart.given put t) gave.counts within ready)
+    (taken_alike i c.args.steps s.state k (event_of i e) taken.stop k.tick apart.tree apart.counts went mid last put t) gave.counts within ready)
     (gave.tree ∙ inv.tree)
     (λ l represents.
     let comes = inv.comes l represents in
     let m = comes.represents in
     let its = gave.taken m.state k.tick now (here_at i m.state k old mine may.later m.here) m.counts in
     ran_stop i c.args.steps old new k e a sound gave.tree mine inv.live may.event.here gone c.args.self.now.tree.resource c.args.to l comes inv.tree finds.below
-    (taken_alike i c.args.steps m.state k (event_of i e) taken.stop k.tick apart.tree apart.counts went mid c.put_next.new.agenda apart.sent apart.given put its) c.in-Some.reason c.in-Some.is refl)
-    (marked z.key apart.tree.resource taken.stop c.in-Some.reason (gave.moment.1 ∙ mine ∙ sym gave.tree) c.in-Some.is ∙ ap (λ t. mark_of apart.tree.resource t taken.stop) gave.moment.0)
+    (taken_alike i c.args.steps m.state k (event_of i e) taken.stop k.tick apart.tree apart.counts went mid last put its) c.in-Some.reason c.in-Some.is refl)
+    (ap (λ (j : Key). Some (record { tick = j.tick; resource = j.resource; reason = c.in-Some.reason })) c.put_next.ensures.key
+    ∙ marked z.key apart.tree.resource taken.stop c.in-Some.reason (gave.moment.1 ∙ mine ∙ sym gave.tree) c.in-Some.is ∙ ap (λ t. mark_of apart.tree.resource t taken.stop) gave.moment.0)
 
 -- ---- One event more
-
-pub put_next-requires : goal.put_next-requires
-put_next-requires c = c.in_ok-taken.ensures.raised
-
-pub find_next-requires-clause-early : goal.find_next-requires-clause-early
-find_next-requires-clause-early c =
-    let i = c.args.system.now in
-    let inv = c.events.invariant in
-    let k = c.events.least.key in
-    let e = c.events.least.event in
-    let finds = subst (λ (b : Bool). Finds c.args.to inv.was b k e c.events.self.agenda) c.events-test.true inv.finds in
-    let may = inv.running.ready.order.waits k e finds.found in
-    subst (λ t. t < c.args.to) (sym c.in_ok-taken.ensures.moment.0) finds.below
-
-pub find_next-requires-clause-raised : goal.find_next-requires-clause-raised
-find_next-requires-clause-raised c = c.in_ok-taken.ensures.raised
 
 pub events-smaller : goal.events-smaller
 events-smaller c =
@@ -181,7 +159,7 @@ events-smaller c =
     let inv = c.events.invariant in
     let k = c.events.least.key in
     let e = c.events.least.event in
-    let finds = subst (λ (b : Bool). Finds c.args.to inv.was b k e c.events.self.agenda) c.events-test.true inv.finds in
+    let finds = subst (λ (b : Bool). Finds c.args.to inv.was b k e c.events.queues.agenda) c.events-test.true inv.finds in
     let may = inv.running.ready.order.waits k e finds.found in
     let spent = c.in_ok-taken.ensures.spent c.in_default.is in
     let past = inv.running.past in
@@ -194,10 +172,10 @@ events-preserved c =
     let inv = c.events.invariant in
     let k = c.events.least.key in
     let e = c.events.least.event in
-    let finds = subst (λ (b : Bool). Finds c.args.to inv.was b k e c.events.self.agenda) c.events-test.true inv.finds in
+    let finds = subst (λ (b : Bool). Finds c.args.to inv.was b k e c.events.queues.agenda) c.events-test.true inv.finds in
     let may = inv.running.ready.order.waits k e finds.found in
-    let old = in_run (record c.events.self { agenda = inv.was }) c.events.counts c.events.given in
-    let a = c.events.self.agenda in
+    let old = in_run c.events.self c.events.counts (record c.events.queues { agenda = inv.was }) in
+    let a = c.events.queues.agenda in
     let gave = c.in_ok-taken.ensures in
     let taken = c.in_ok-taken.taken in
     let mine = inv.running.home k e finds.found in
@@ -213,15 +191,15 @@ events-preserved c =
     let within : unwrap_or c.take.new.counts.tick 0 ≤ k.tick = omega (arith, tick, past, later) in
     let apart = c.take.new in
     let z = apart.least in
-    let mid = with_next taken.raised z.key z.event apart.agenda in
-    let new : Running = in_run (record { tree = apart.tree; clock = k.tick; agenda = mid; sent = apart.sent; stopped = taken.stop }) apart.counts apart.given in
+    let mid = with_slot taken.raised z apart.queues in
+    let new : Running = record { tree = apart.tree; clock = k.tick; meter = apart.counts; queues = mid; stopped = taken.stop } in
     let below : k.tick < c.args.to = finds.below in
     let ahead : k.tick ≤ c.args.to = omega (arith, below) in
     let going = c.in_default.is in
     record {
-      was = mid;
+      was = mid.agenda;
       finds = c.in_ok-found.ensures.finds;
-      due = c.in_ok-found.ensures.due ∙ sym (due_next taken.raised z.key z.event apart.agenda);
+      due = c.in_ok-found.ensures.due ∙ sym (due_next taken.raised z.key z.event apart.queues.agenda);
       running = running_more i c.args.steps old new k e a sound gave.tree mine inv.live may.event.here gone inv.running s.state t gave.counts within gave.queues;
       ahead = ahead;
       live = going;
@@ -240,11 +218,11 @@ pub returns : goal.returns
 returns c =
     let i = c.args.system.now in
     let inv = c.events.invariant in
-    let old = in_run (record c.events.self { agenda = inv.was }) c.events.counts c.events.given in
-    let a = c.events.self.agenda in
+    let old = in_run c.events.self c.events.counts (record c.events.queues { agenda = inv.was }) in
+    let a = c.events.queues.agenda in
     let rest = subst (λ (b : Bool). Finds c.args.to inv.was b c.events.least.key c.events.least.event a) c.events-test.false inv.finds in
     let new : Running = record old { clock = c.args.to; queues = record old.queues { agenda = a } } in
-    has_run i c.args.steps c.args.self.now new c.args.to _ c.requires.of
+    has_run i c.args.steps (with_queues c.args.self.now c.args.queues.now) new c.args.to _ c.requires.of
     (running_rest i c.args.steps old a c.args.to rest.kept inv.due rest.none inv.ahead inv.running)
     inv.tree
     (λ l represents. ran_rest i c.args.steps old a c.args.to rest.kept inv.due rest.none inv.ahead c.args.self.now.tree.resource l (inv.comes l represents) inv.tree inv.unused)

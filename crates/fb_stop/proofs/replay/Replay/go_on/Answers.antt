@@ -55,7 +55,7 @@ returns-in-Some c =
     let e = c.take_least_into.new.index.event in
     let steps = c.in_ok-found.ensures.steps inv.at.state inv.at.agenda (at_left i k inv.at (machine_of c.loop-self.self.run) _ inv.is found.left) inv.copies in
     let stop = subst (λ o. Steps i c.args.limit inv.at.state inv.at.agenda k (event_of i e) c.step.new.self o) c.in-Some.is steps in
-    is_stop i c.args.horizon c.args.limit inv.at inv.taken inv.reaches c.loop-self.self.run.agenda inv.is.agenda k e c.in-Some.found found.found found.least found.below stop
+    is_stop i c.args.horizon c.args.limit inv.at inv.taken inv.reaches c.loop-self.self.run.queues.agenda inv.is.agenda k e c.in-Some.found found.found found.least found.below stop
 
 pub loop-self-smaller : goal.loop-self-smaller
 loop-self-smaller c =
@@ -77,7 +77,7 @@ loop-self-preserved c =
     let steps = c.in_ok-found.ensures.steps inv.at.state inv.at.agenda (at_left i k inv.at (machine_of c.loop-self.self.run) _ inv.is found.left) inv.copies in
     let stepped = subst (λ o. Steps i c.args.limit inv.at.state inv.at.agenda k (event_of i e) c.step.new.self o) c.in_default.is steps in
     let taken = stepped.taken in
-    let least = takes_least i c.args.limit inv.at k e _ c.loop-self.self.run.agenda stepped.from (machine_of c.step.new.self.run) inv.is.agenda found.found found.least taken in
+    let least = takes_least i c.args.limit inv.at k e _ c.loop-self.self.run.queues.agenda stepped.from (machine_of c.step.new.self.run) inv.is.agenda found.found found.least taken in
     let t : Taken = record { key = k; event = event_of i e; effect = taken.effect } in
     record {
       ready = (k.tick, c.in_ok-found.ensures.ready);
@@ -91,4 +91,4 @@ loop-self-preserved c =
 pub returns : goal.returns
 returns c =
     let inv = c.loop-self.invariant in
-    never_stops c.args.system.now c.args.horizon c.args.limit inv.at inv.taken inv.reaches c.loop-self.self.run.agenda inv.is.agenda c.loop-self-test.ensures.none
+    never_stops c.args.system.now c.args.horizon c.args.limit inv.at inv.taken inv.reaches c.loop-self.self.run.queues.agenda inv.is.agenda c.loop-self-test.ensures.none

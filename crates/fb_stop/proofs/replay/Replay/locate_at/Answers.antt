@@ -11,7 +11,7 @@ use Rattle.fb_stop.proofs.replay.Replay.locate_at.Goals as goal
 pub unreachable-requires-in-None : goal.unreachable-requires-in-None
 unreachable-requires-in-None c =
     let i = c.args.system.now in
-    let lines = c.args.self.now.run.given.outbox.lines.items in
+    let lines = c.args.self.now.run.queues.outbox.lines.items in
     let copies = c.args.self.now.copies.items in
     let t = c.in-Port.target in
     let block = c.in-Some.block.now in
@@ -27,7 +27,7 @@ unreachable-requires-in-None c =
 pub returns-clause-located : goal.returns-clause-located
 returns-clause-located c =
     let i = c.args.system.now in
-    let lines = c.args.self.now.run.given.outbox.lines.items in
+    let lines = c.args.self.now.run.queues.outbox.lines.items in
     let copies = c.args.self.now.copies.items in
     let t = c.in-Port.target in
     let block = c.in-Some.block.now in

@@ -59,7 +59,7 @@ returns-in_default-clause-steps c s a at copies =
     let left = c.steps_left-left.result in
     let counted = left_is i s r tree.0 meter c.args.limit k.tick here left c.steps_left-left.ensures.some c.steps_left-left.ensures.none in
     let t = c.in_ok-reason.ensures.taken s a cleared in
-    let lines = c.take.new.self.given.outbox.lines.items in
+    let lines = c.take.new.self.queues.outbox.lines.items in
     let lines_are : map (line_of sys) lines ≡ t.effect.lines = t.lines ∙ ap (λ (ls : List Line). map (line_of sys) ls ++ t.effect.lines) c.clear_lines.ensures.none in
     has_stepped i c.args.limit s a k e c.in_ok-reason.field-0 (machine_of run) c.take.new.self c.follow_at.new.self t c.in_default.is c.in_ok-follow_at.ensures.run
     (copies_after i c.facts.ensures.numbered c.args.limit s k e t.effect t.takes lines lines_are c.args.self.now.copies.items copies
@@ -89,7 +89,7 @@ site_at-requires c =
     let left = c.steps_left-left.result in
     let counted = left_is i s r tree.0 meter c.args.limit k.tick here left c.steps_left-left.ensures.some c.steps_left-left.ensures.none in
     let t = c.in_ok-reason.ensures.taken s a cleared in
-    let lines = c.take.new.self.given.outbox.lines.items in
+    let lines = c.take.new.self.queues.outbox.lines.items in
     let lines_are : map (line_of sys) lines ≡ t.effect.lines = t.lines ∙ ap (λ (ls : List Line). map (line_of sys) ls ++ t.effect.lines) c.clear_lines.ensures.none in
     stopping_if i c.facts.ensures.numbered c.args.limit s k e t.effect t.takes lines lines_are c.args.self.now.copies.items represents.3
     c.in-Some.reason (t.stops ∙ c.in-Some.is) c.site_of-at.result left counted c.site_of-at.ensures
@@ -115,7 +115,7 @@ returns-clause-steps c s a at copies =
     let left = c.steps_left-left.result in
     let counted = left_is i s r tree.0 meter c.args.limit k.tick here left c.steps_left-left.ensures.some c.steps_left-left.ensures.none in
     let t = c.in_ok-reason.ensures.taken s a cleared in
-    let lines = c.take.new.self.given.outbox.lines.items in
+    let lines = c.take.new.self.queues.outbox.lines.items in
     let lines_are : map (line_of sys) lines ≡ t.effect.lines = t.lines ∙ ap (λ (ls : List Line). map (line_of sys) ls ++ t.effect.lines) c.clear_lines.ensures.none in
     let stops = t.stops ∙ c.in-Some.is in
     record {

@@ -4,7 +4,7 @@ use Rattle.std.proofs.lemmas.Option.{slice_get_read}
 use Rattle.fb_types.specs.declared.run.Message.{Message}
 use Rattle.fb_net.specs.Events.{event_of}
 use Rattle.fb_resource.specs.Posts.{IsMessage}
-use Rattle.fb_resource.specs.Takings.{queues_of, with_next}
+use Rattle.fb_resource.specs.Takings.{with_slot}
 use Rattle.fb_resource.proofs.Lone.{due_next, ready_alike, taken_alike}
 use Rattle.fb_resource.proofs.Meters.{here_later}
 use Rattle.fb_sim.proofs.ReadyIs.{ready_after}
@@ -49,9 +49,6 @@ take-requires-clause-represents c =
     represents.2.here r tree meter (slice_get_read trees (length trees) r tree refl has_tree c.index_mut.ensures.value) (slice_get_read meters (length meters) r meter refl has_meter c.index_mut-2.ensures.value) in
     (represents.0, here_later c.args.system.now represents.0 r 0 c.args.least.now.key.tick tree meter (omega arith) here)
 
-pub put_next-requires : goal.put_next-requires
-put_next-requires c = c.in_ok-taken.ensures.raised
-
 pub returns-clause-taken : goal.returns-clause-taken
 returns-clause-taken c s a at =
     let i = c.args.system.now in
@@ -75,9 +72,9 @@ returns-clause-taken c s a at =
     let raised = c.in_ok-taken.taken.raised in
     let z = new.least in
     let here = c.in_ok-taken.ensures.taken s 0 (omega arith) (at.here r tree meter was had) at.sent in
-    let taken = taken_alike i c.args.limit s k e c.in_ok-taken.taken.stop 0 new.tree new.counts (queues_of old.agenda old.sent old.given) (with_next raised z.key z.event new.agenda) c.put_next.new.agenda new.sent new.given
+    let taken = taken_alike i c.args.limit s k e c.in_ok-taken.taken.stop 0 new.tree new.counts old.queues (with_slot raised z new.queues) c.put_next.new.agenda
     c.in_ok-put_next.ensures.put here in
-    taken_at i c.args.limit s a k e _ (machine_of old) _ (queues_of c.put_next.new.agenda new.sent new.given) new.tree new.counts
+    taken_at i c.args.limit s a k e _ (machine_of old) _ (record new.queues { agenda = c.put_next.new.agenda }) new.tree new.counts
     ready.trees has_tree has_meter c.requires.event.here at ready.delivered
     taken c.in_ok-deliver.ensures.put refl refl refl refl
 
@@ -105,8 +102,8 @@ returns-clause-ready c =
     let put = c.in_ok-deliver.ensures in
     let Later = λ (m : Message). k.tick < m.arrives in
     let later = taken.later (subst (All Later) (sym ready.delivered) (All-nil Later)) in
-    let queues = ready_alike i k.tick (with_next raised z.key z.event new.agenda) c.put_next.new.agenda new.sent new.given c.in_ok-put_next.ensures.put
-    (c.put_next.ensures.due ∙ sym (due_next raised z.key z.event new.agenda)) taken.queues in
+    let queues = ready_alike i k.tick (with_slot raised z new.queues) c.put_next.new.agenda c.in_ok-put_next.ensures.put
+    (c.put_next.ensures.due ∙ sym (due_next raised z.key z.event new.queues.agenda)) taken.queues in
     ready_after i c.args.limit k (machine_of c.args.self.now) _ new.tree meter new.counts ready has_tree has_meter had taken.counts taken.tick (c.take.ensures.tree ∙ ready.trees r tree was) refl refl
     (record {
       order = put.order k.tick queues.order later;

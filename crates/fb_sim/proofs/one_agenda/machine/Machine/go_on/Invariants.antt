@@ -13,8 +13,8 @@ use Rattle.fb_sim.proofs.one_agenda.machine.Machine.go_on.Given as goal
 abbrev pub invariant-events : goal.invariant-events
 invariant-events l = record {
   was : Contents;
-  finds : Finds l.horizon was l.found l.least.key l.least.event l.self.agenda;
-  due : l.self.agenda.due ≡ was.due;
+  finds : Finds l.horizon was l.found l.least.key l.least.event l.self.queues.agenda;
+  due : l.self.queues.agenda.due ≡ was.due;
   ready : (tick : ℕ) × IsReady l.system l.limit tick (on_agenda was l.self);
   represents : (c : Config) × IsAt l.system c.state c.agenda (on_agenda was l.self);
   comes : (c : Config) → IsAt l.system c.state c.agenda l.fn.self → Pauses l.system l.horizon l.limit c l.fn.self (on_agenda was l.self) Lines;

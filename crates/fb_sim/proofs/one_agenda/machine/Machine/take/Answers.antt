@@ -4,7 +4,7 @@ use Rattle.std.proofs.lemmas.Option.{slice_get_read}
 use Rattle.fb_types.specs.declared.run.Message.{Message}
 use Rattle.fb_net.specs.Events.{event_of}
 use Rattle.fb_resource.specs.Posts.{IsMessage}
-use Rattle.fb_resource.specs.Takings.{AreReady, IsTakenHere, queues_of, with_next}
+use Rattle.fb_resource.specs.Takings.{AreReady, IsTakenHere, with_slot}
 use Rattle.fb_resource.proofs.Meters.{here_later}
 use Rattle.fb_sim.proofs.ReadyIs.{ready_after}
 use Rattle.fb_sim.proofs.Nexts.{no_mail, nothing_delivered}
@@ -68,8 +68,8 @@ returns-then-taken-clause-taken c s a at =
     let new = c.take.new in
     let raised = c.in_ok-taken.taken.raised in
     let z = c.take.new.least in
-    let mid = queues_of (with_next raised z.key z.event new.agenda) new.sent new.given in
-    let none = no_mail raised new.agenda c.args.self.now.agenda new.given.mail c.args.self.now.given.mail c.if-taken.true c.in_ok-taken.ensures.alone ready.delivered in
+    let mid = with_slot raised z new.queues in
+    let none = no_mail raised new.queues.agenda c.args.self.now.queues.agenda new.queues.mail c.args.self.now.queues.mail c.if-taken.true c.in_ok-taken.ensures.alone ready.delivered in
     taken_at i c.args.limit s a k (event_of i c.args.least.now.event) _ c.args.self.now _ mid new.tree new.counts
     ready.trees has_tree has_meter c.requires.event.here at ready.delivered
     (c.in_ok-taken.ensures.taken s 0 (omega arith) (at.here r tree meter was had) at.sent) (nothing_delivered i mid none) refl refl refl refl
@@ -96,8 +96,8 @@ returns-clause-taken c s a at =
     let z = c.take.new.least in
     let e = event_of i c.args.least.now.event in
     let old = c.args.self.now in
-    let mid = queues_of new.agenda new.sent new.given in
-    let taken = subst (λ (b : Bool). IsTakenHere i c.args.limit s k e c.in_ok-taken.taken.stop 0 new.tree new.counts (queues_of old.agenda old.sent old.given) (queues_of (with_next b z.key z.event new.agenda) new.sent new.given))
+    let mid = new.queues in
+    let taken = subst (λ (b : Bool). IsTakenHere i c.args.limit s k e c.in_ok-taken.taken.stop 0 new.tree new.counts old.queues (with_slot b z new.queues))
     c.if-taken.false (c.in_ok-taken.ensures.taken s 0 (omega arith) (at.here r tree meter was had) at.sent) in
     rw c.if-taken.false
     (taken_at i c.args.limit s a k e _ old _ mid new.tree new.counts
@@ -125,7 +125,7 @@ returns-then-taken-clause-ready c =
     let z = c.take.new.least in
     let ensured = c.in_ok-taken.ensures in
     ready_after i c.args.limit k c.args.self.now _ new.tree meter new.counts ready has_tree has_meter had ensured.counts ensured.tick (c.take.ensures.tree ∙ ready.trees r tree was) refl refl
-    ensured.queues (no_mail raised new.agenda c.args.self.now.agenda new.given.mail c.args.self.now.given.mail c.if-taken.true ensured.alone ready.delivered)
+    ensured.queues (no_mail raised new.queues.agenda c.args.self.now.queues.agenda new.queues.mail c.args.self.now.queues.mail c.if-taken.true ensured.alone ready.delivered)
 
 pub returns-clause-ready : goal.returns-clause-ready
 returns-clause-ready c =
@@ -151,7 +151,7 @@ returns-clause-ready c =
     let put = c.in_ok-deliver.ensures in
     let Later = λ (m : Message). k.tick < m.arrives in
     let later = ensured.later (subst (All Later) (sym ready.delivered) (All-nil Later)) in
-    let queues = subst (λ (b : Bool). AreReady i k.tick (queues_of (with_next b z.key z.event new.agenda) new.sent new.given)) c.if-taken.false ensured.queues in
+    let queues = subst (λ (b : Bool). AreReady i k.tick (with_slot b z new.queues)) c.if-taken.false ensured.queues in
     rw c.if-taken.false
     (ready_after i c.args.limit k c.args.self.now _ new.tree meter new.counts ready has_tree has_meter had ensured.counts ensured.tick (c.take.ensures.tree ∙ ready.trees r tree was) refl refl
     (record {

@@ -1,7 +1,0 @@
-use Rattle.std.proofs.Common.{ap}
-use Rattle.fb_agenda.proofs.Apart.{apart_none}
-use Rattle.fb_agenda.specs.Agendas.{local_events}
-use Rattle.fb_agenda.proofs.agenda.Agenda.new.Goals as goal
-
-pub invariant_of-result : goal.invariant_of-result
-invariant_of-result c = apart_none (local_events c.new-2.result) c.new.result c.in_ok-due.due.items (ap local_events c.new-2.ensures) c.new.ensures
