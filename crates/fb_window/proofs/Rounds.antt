@@ -39,7 +39,7 @@ use Rattle.fb_laws.specs.ScheduleLaw.{lines_to}
 use Rattle.fb_window.specs.Mails.{ArePosted}
 use Rattle.fb_laws.specs.Phases.{Turn, IsPhase, turned}
 use Rattle.fb_window.specs.Leaving.{AreLegal, HasLeft}
-use Rattle.fb_window.specs.Settling.{AreTurns, HasRisen, IsKept, IsSettled, Settles, after_phase, lists_of}
+use Rattle.fb_window.specs.Settling.{AreTurns, HasRisen, IsKept, IsSettled, Settles, after_phase, lists_of, reach_of, settled_of}
 use Rattle.fb_window.specs.Reached.{IsBrought, IsReached}
 use Rattle.fb_window.specs.Standing.{IsAt}
 use Rattle.fb_window.specs.declared.cores.AwayState.{AwayState}
@@ -359,3 +359,14 @@ module _ (a : AwayState) (dones : List WindowDone) (done : AllZip Does a.jobs.va
   settle_stopped lines merged belong m e =
       settles a.system x.good a.steps a.horizon es sc xs bounds workers a.pending.items h at legal came zs fronts rests end x.found (Stopped lines m)
       (λ fs phase. stopped a.system x.good a.steps a.horizon es sc xs bounds workers a.pending.items h at legal came zs fronts rests end x.found fs phase lines.items merged m e belong)
+
+  -- .. whatever was found
+  pub settle_each : (core : held.CoreState) (lines : Vec Line) → (AreRising fronts → AreMerged fronts lines.items) → All (BelongsTo (system_of a.system)) lines.items
+      → core.system ≡ a.system → core.steps ≡ a.steps → core.resources.items ≡ zs → core.pending.items ≡ rests
+      → Settles a.system a.steps a.horizon es bounds (lists_of a.pending.items) workers (settled_of (reach_of core end) lines)
+  settle_each core lines merged belong inputs steps resources pending = go end refl
+    where
+      go : (e : End) → end ≡ e → Settles a.system a.steps a.horizon es bounds (lists_of a.pending.items) workers (settled_of (reach_of core e) lines)
+      go Open is = settle_going core lines merged belong is inputs steps resources pending
+      go Horizon is = settle_ended core lines merged belong is inputs steps resources pending
+      go (Stop m) is = settle_stopped lines merged belong m is

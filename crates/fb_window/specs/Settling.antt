@@ -25,6 +25,8 @@ use Rattle.fb_window.specs.declared.cores.Reach.{Reach}
 use Rattle.fb_window.specs.declared.cores.Reach.TheVariants as reach
 use Rattle.fb_window.specs.declared.cores.Settled.{Settled}
 use Rattle.fb_window.specs.declared.cores.Settled.TheVariants.{Going, Ended, Stopped}
+use Rattle.fb_window.specs.declared.ends.End.{End}
+use Rattle.fb_window.specs.declared.ends.End.TheVariants.{Open, Horizon, Stop}
 
 -- The run is under way: these steps have brought the core to these resources, these lines were handed out, and the others are kept.
 pub record IsUnderWay (i : Inputs) (limit horizon : ℕ) (es : List (CoreStep (machine (system_of i) limit))) (xs : List Resource) (pending : List (List Line)) (ls : List model.Line) : Type 0 where
@@ -92,6 +94,12 @@ pub record Settles (i : Inputs) (limit horizon : ℕ) (es : List (CoreStep (mach
       → IsSchedule (machine (system_of i) limit) horizon (opening_core (system_of i) (stimuli_of i) limit) (after_phase i limit es fs)
   pub settled : (fs : List (CoreStep (machine (system_of i) limit))) → IsPhase (machine (system_of i) limit) turns fs
       → IsSettled i limit horizon (core_of i limit es) (core_of i limit (after_phase i limit es fs)) bounds before s
+
+-- how far the run is, with all resources in a core
+abbrev pub reach_of : CoreState → End → Reach
+reach_of core Open = reach.Going core
+reach_of core Horizon = reach.Ended core
+reach_of core (Stop mark) = reach.Stopped mark
 
 -- how far the run is, with the lines that have become final
 abbrev pub settled_of : Reach → Vec Line → Settled

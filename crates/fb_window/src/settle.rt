@@ -14,7 +14,7 @@ ghost use Rattle.fb_system.specs.OfSystem.{BelongsTo};
 ghost use Rattle.fb_window.specs.Jobs.{Does};
 ghost use Rattle.fb_window.specs.Leaving.{AreLegal, HasLeft};
 ghost use Rattle.fb_window.specs.Reached.{IsAway};
-ghost use Rattle.fb_window.specs.Settling.{IsMerged, Settles, lists_of, settled_of};
+ghost use Rattle.fb_window.specs.Settling.{IsMerged, Settles, lists_of, reach_of, settled_of};
 ghost use Rattle.fb_window.specs.Standing.{IsAt};
 
 use crate::bounds::least_next;
@@ -68,11 +68,19 @@ impl AwayState {
             pending,
         };
         let core = Core { state };
-        match end {
-            End::Open => Ok((Reach::Going(core), finals)),
-            End::Horizon => Ok((Reach::Ended(core), finals)),
-            End::Stop(mark) => Ok((Reach::Stopped(mark), finals)),
-        }
+        let reach = reached(core, end);
+        Ok((reach, finals))
+    }
+}
+
+/// How far the run is, with all resources in this core.
+fn reached(core: Core, end: End) -> Reach
+    ensures { result ≡ reach_of core end }
+{
+    match end {
+        End::Open => Reach::Going(core),
+        End::Horizon => Reach::Ended(core),
+        End::Stop(mark) => Reach::Stopped(mark),
     }
 }
 

@@ -18,7 +18,7 @@ use Rattle.fb_window.specs.Settling.{IsMerged}
 use Rattle.fb_window.specs.Frontiers.{AreCut, IsEnd, IsFrontier, edge_of}
 use Rattle.fb_window.specs.Mails.{ArePosted}
 use Rattle.fb_window.proofs.Passes.{few_resources}
-use Rattle.fb_window.proofs.Rounds.{HasGathered, settle_going, settle_ended, settle_reached, settle_stopped}
+use Rattle.fb_window.proofs.Rounds.{HasGathered, settle_each, settle_reached}
 use Rattle.fb_window.proofs.Walks.{made_ok}
 use Rattle.fb_window.proofs.Targets.{fronts_in, lines_belong, rests_in, targets_in}
 use Rattle.fb_window.proofs.cores.AwayState.settle_apart.Goals as goal
@@ -96,7 +96,7 @@ came c =
     let home : AreHome a.system a.steps b.bounds b.resources a.pending.items h = c.in_ok-home.ensures a.system a.steps b.bounds b.resources b.left.resting done in
     lines_belong a.system a.steps b.bounds b.resources a.pending.items h home b.belong
 
--- what all three returns rest on
+-- what the answers rest on
 gathered : (c : After-end_of-end) → HasGathered c.args.self.system c.args.self.steps c.args.self.horizon c.args.self.resting.items c.args.self.pending.items c.args.dones.items c.in_ok-home.home
     c.in_ok-kept.resources.items c.in_ok-resources.cut.0.items c.in_ok-resources.cut.1.items c.end_of-end.result
 gathered c =
@@ -140,37 +140,12 @@ invariant_of-core c =
     c.end_of-end.result (gathered d) b.resources b.bounds b.way.steps (λ r. 0) b.left b.way.schedule b.way.at b.way.legal
     b.way.idle b.some_steps b.few_steps c.in_ok-resources.resources c.in_ok-resources.cut.1 (ap (λ (v : Vec Resource). v.items) c.in_ok-resources.ensures.kept) refl
 
-pub invariant_of-core-in-Horizon : goal.invariant_of-core-in-Horizon
-invariant_of-core-in-Horizon c =
-    let d = (goal.at.invariant_of-core-in-Horizon c).After-end_of-end in
-    let b = c.requires.away in
-    settle_reached c.args.self c.args.dones.items c.requires.done c.in_ok-home.home c.in_ok-kept.resources.items c.in_ok-resources.cut.0.items c.in_ok-resources.cut.1.items
-    c.end_of-end.result (gathered d) b.resources b.bounds b.way.steps (λ r. 0) b.left b.way.schedule b.way.at b.way.legal
-    b.way.idle b.some_steps b.few_steps c.in_ok-resources.resources c.in_ok-resources.cut.1 (ap (λ (v : Vec Resource). v.items) c.in_ok-resources.ensures.kept) refl
-
-pub returns-in-Open-clause-settles : goal.returns-in-Open-clause-settles
-returns-in-Open-clause-settles c = λ all m xs bounds es workers left sc at legal.
-    let d = (goal.at.returns-in-Open-clause-settles c).After-end_of-end in
-    settle_going c.args.self c.args.dones.items c.requires.done c.in_ok-home.home c.in_ok-kept.resources.items c.in_ok-resources.cut.0.items c.in_ok-resources.cut.1.items
-    c.end_of-end.result (gathered d) xs bounds es workers left sc at legal _ all m.merged (all_belong d all.items m) c.in-Open.is refl refl (ap (λ (v : Vec Resource). v.items) c.in_ok-resources.ensures.kept) refl
-
-pub returns-in-Horizon-clause-settles : goal.returns-in-Horizon-clause-settles
-returns-in-Horizon-clause-settles c = λ all m xs bounds es workers left sc at legal.
-    let d = (goal.at.returns-in-Horizon-clause-settles c).After-end_of-end in
-    settle_ended c.args.self c.args.dones.items c.requires.done c.in_ok-home.home c.in_ok-kept.resources.items c.in_ok-resources.cut.0.items c.in_ok-resources.cut.1.items
-    c.end_of-end.result (gathered d) xs bounds es workers left sc at legal _ all m.merged (all_belong d all.items m) c.in-Horizon.is refl refl (ap (λ (v : Vec Resource). v.items) c.in_ok-resources.ensures.kept) refl
-
 pub returns-clause-settles : goal.returns-clause-settles
 returns-clause-settles c = λ all m xs bounds es workers left sc at legal.
     let d = (goal.at.returns-clause-settles c).After-end_of-end in
-    settle_stopped c.args.self c.args.dones.items c.requires.done c.in_ok-home.home c.in_ok-kept.resources.items c.in_ok-resources.cut.0.items c.in_ok-resources.cut.1.items
-    c.end_of-end.result (gathered d) xs bounds es workers left sc at legal all m.merged (all_belong d all.items m) c.in-Stop.mark c.in-Stop.is
-
-pub returns-in-Open-clause-belong : goal.returns-in-Open-clause-belong
-returns-in-Open-clause-belong c = finals (goal.at.returns-in-Open-clause-belong c).After-end_of-end
-
-pub returns-in-Horizon-clause-belong : goal.returns-in-Horizon-clause-belong
-returns-in-Horizon-clause-belong c = finals (goal.at.returns-in-Horizon-clause-belong c).After-end_of-end
+    rw c.reached-reach.ensures
+    (settle_each c.args.self c.args.dones.items c.requires.done c.in_ok-home.home c.in_ok-kept.resources.items c.in_ok-resources.cut.0.items c.in_ok-resources.cut.1.items
+    c.end_of-end.result (gathered d) xs bounds es workers left sc at legal _ all m.merged (all_belong d all.items m) refl refl (ap (λ (v : Vec Resource). v.items) c.in_ok-resources.ensures.kept) refl)
 
 pub returns-clause-belong : goal.returns-clause-belong
 returns-clause-belong c = finals (goal.at.returns-clause-belong c).After-end_of-end
