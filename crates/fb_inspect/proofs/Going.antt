@@ -26,6 +26,7 @@ use Rattle.fb_inspect.specs.declared.error.InspectError.{InspectError}
 use Rattle.fb_inspect.specs.declared.error.InspectError.TheVariants.{Refused, Names, Unknown, Memory, Read, Write}
 use Rattle.fb_inspect.specs.declared.page.Page.{Page}
 use Rattle.fb_inspect.specs.declared.trail.PassedLines.{PassedLines}
+use Rattle.fb_inspect.specs.declared.trail.Trail.{Trail}
 use Rattle.fb_inspect.specs.declared.walk.Walk.{Walk}
 use Rattle.fb_wave.specs.Copying.{IsFirstLine}
 use Rattle.fb_wave.specs.Named.{HasNames}
@@ -140,6 +141,8 @@ text_begins sys form line e text (Some t) (Some rest) names known read first sho
 
 -- other marks are set, or other lines kept
 pub well_aside :
-    (sys : System) (form : Form) (steps : ℕ) (w : Walk) (passed : PassedLines) (marks : Marks) (a : Ahead) (rest text : List ℕ) → StandsWell sys form steps w a rest text
-    → StandsWell sys form steps (record w { trail = record (w.trail) { passed = passed; marks = marks } }) a rest text
-well_aside sys form steps w passed marks a rest text well = record { turns = well.turns; on = record { stands = well.on.stands; next = well.on.next }; watched = well.watched }
+    (sys : System) (form : Form) (steps : ℕ) (w : Walk) (t : Trail) (passed : PassedLines) (marks : Marks) (a : Ahead) (rest text : List ℕ) → t ≡ record (w.trail) { passed = passed; marks = marks }
+    → StandsWell sys form steps w a rest text → StandsWell sys form steps (record w { trail = t }) a rest text
+well_aside sys form steps w t passed marks a rest text is well =
+    subst (λ (v : Trail). StandsWell sys form steps (record w { trail = v }) a rest text) (sym is)
+    (record { turns = well.turns; on = record { stands = well.on.stands; next = well.on.next }; watched = well.watched })

@@ -1,6 +1,5 @@
 -- One step of a dump: what was taken was shown, or the trace is over.
 use Rattle.std.proofs.Common.{◌≡◌, ◌<◌, ◌≤◌, ◌⊎◌, ℕ, ◌+◌, true, false, List, [], ◌∷◌, ◌++◌, length, map, Option, Some, None, refl, sym, ◌∙◌, ap, subst, inl, inr, append_assoc}
-use Rattle.std.specs.Global.{Vec}
 use Rattle.std.specs.Prelude.{All, IfSome}
 use Rattle.std.specs.Io.KnownBytes.{Consumes}
 use Rattle.std.proofs.lemmas.List.{map-append}
@@ -43,6 +42,7 @@ use Rattle.fb_inspect.specs.Waving.{CanShow, HasGoneOn, HasWaved, IsCut, IsEvent
 use Rattle.fb_inspect.specs.declared.before.Before.{Before}
 use Rattle.fb_inspect.specs.declared.state_wave.EventAt.{EventAt}
 use Rattle.fb_inspect.specs.declared.state_wave.StateWave.{StateWave}
+use Rattle.fb_inspect.specs.declared.trail.Trail.{Trail}
 use Rattle.fb_inspect.proofs.Growing.{look-one, turns-one}
 use Rattle.fb_inspect.proofs.Waved.{last_is, lines_belong, lost_is, passed_are, stops_more, waved_more}
 
@@ -101,15 +101,19 @@ pub record IsReady (w : StateWave) (was : Walk) : Type 0 where
 
 -- .. by what is done to it
 pub ready_of :
-    (w : StateWave) (lines : Vec Line) → w.walk.trail.passed.are_kept ≡ true → lines.items ≡ []
-    → IsReady w
-    (record (w.walk) {
-      trail = record (w.walk.trail) {
-        passed = record (w.walk.trail.passed) { lines = lines };
-        marks = record (w.walk.trail.marks) { charts = record (w.walk.trail.marks.charts) { lost = false } };
-      };
-    })
-ready_of w lines kept none = record { reading = refl; kept = kept; none = none; lost = refl }
+    (w : StateWave) (t : Trail) → w.walk.trail.passed.are_kept ≡ true → t.passed.lines.items ≡ []
+    → t
+    ≡ record (w.walk.trail) {
+      passed = record (w.walk.trail.passed) { lines = t.passed.lines };
+      marks = record (w.walk.trail.marks) { charts = record (w.walk.trail.marks.charts) { lost = false } };
+    }
+    → IsReady w (record (w.walk) { trail = t })
+ready_of w t kept none is = record {
+  reading = ap (λ (v : Trail). v.reading) is;
+  kept = ap (λ (v : Trail). v.passed.are_kept) is ∙ kept;
+  none = none;
+  lost = ap (λ (v : Trail). v.marks.charts.lost) is;
+}
 
 -- the instance is one of the system
 pub within_of :

@@ -8,6 +8,7 @@ use Rattle.fb_types.specs.declared.run.Emission.{Emission}
 use Rattle.fb_types.specs.declared.run.Form.{Form}
 use Rattle.fb_types.specs.declared.run.Line.{Line}
 use Rattle.fb_wave.specs.Lines.{IsLineOf}
+use Rattle.fb_coverage.specs.declared.marks.ChartMarks.{ChartMarks}
 use Rattle.fb_inspect.specs.Lines.{IsAlone}
 use Rattle.fb_inspect.specs.Markings.{lines_marked}
 use Rattle.fb_inspect.specs.declared.reading.Reading.{Reading}
@@ -55,6 +56,12 @@ pub record IsAside (old new : Trail) : Type 0 where
 -- what is written of a text of an instance that is shown, or not
 abbrev pub shown_text : Bool → List ℕ → List ℕ
 shown_text is_shown text = if is_shown then text else []
+
+-- This text was added, if the instance is shown, these are the marks of charts, and nothing else changed.
+pub record HasNoted (text : List ℕ) (charts : ChartMarks) (old new : Trail) : Type 0 where
+  pub aside : IsAside old new
+  pub added : new.page.text.items ≡ old.page.text.items ++ shown_text old.is_shown text
+  pub marked : new.marks.charts ≡ charts
 
 -- The line is that of an emission of the block of another line.
 pub record IsEmission (l line : Line) (e : Emission) : Type 0 where

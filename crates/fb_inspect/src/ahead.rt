@@ -9,10 +9,10 @@ ghost use Rattle.fb_inspect.specs.Walking.{IsOwnRow, IsReadOn, unread};
 ghost use Rattle.fb_inspect.specs.OfWalk.{AreAhead, AreCutOff, AreGathered, HasNames, IsTextOf, MayBeAhead};
 
 use crate::error::InspectError;
+use crate::insides::is_severed;
 use crate::reading::{Next, Reading, judged};
 use crate::trail::Fixed;
 use fb_types::Line;
-use fb_wave::truncation::is_unended;
 use fb_wave::{Cut, Guess, PortTable, next_line};
 use std::alloc::{AllocError, Global};
 use std::io::BufRead;
@@ -205,7 +205,7 @@ impl Ahead {
         ensures fault { IfErr result IsNoRefusal }
     {
         self.gather(fixed, first, input)?;
-        if cut == Cut::Allowed && is_unended(self.last.as_slice()) {
+        if is_severed(cut, self.last.as_slice()) {
             return Ok(true);
         }
         self.text.extend_from_slice(self.last.as_slice())?;

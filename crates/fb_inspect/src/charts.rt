@@ -1,6 +1,6 @@
 //! The reactions of basic blocks, step by step.
 
-ghost use Rattle.std.specs.Prelude.{◌≡◌, ◌<◌, ◌≤◌, ◌∷◌, ◌++◌, [], All, IfErr, IfOk, IfSome, IsSome, List, OnOk, Some, length, map, option_map, slice_get};
+ghost use Rattle.std.specs.Prelude.{◌≡◌, ◌<◌, ◌≤◌, ◌∷◌, [], All, IfErr, IfOk, IfSome, IsSome, List, OnOk, Some, length, map, option_map, slice_get};
 ghost use Rattle.std.specs.List.{position};
 ghost use Rattle.fb_types.specs.Charts.{Acts, actions_of};
 ghost use Rattle.fb_types.specs.Names.{same_name};
@@ -16,7 +16,7 @@ ghost use Rattle.fb_inspect.specs.Chains.{Acting, ShowsChain, ShowsReaction};
 ghost use Rattle.fb_inspect.specs.Charting.{ChartGoes, HasLinked, IsChartOf, IsChartTaking, place};
 ghost use Rattle.fb_inspect.specs.Lines.{IsPlain};
 ghost use Rattle.fb_inspect.specs.Markings as marking;
-ghost use Rattle.fb_inspect.specs.Moves.{shown_text};
+ghost use Rattle.fb_inspect.specs.Moves.{HasNoted};
 ghost use Rattle.fb_inspect.specs.Notes.{cleared_note, lost_if, ran_by_action, ran_text, stop_note};
 ghost use Rattle.fb_inspect.specs.Refusals.{ChartFails, IsNoRefusal, OfRefusal};
 ghost use Rattle.fb_inspect.specs.declared.charts.Linked.TheVariants.{Went};
@@ -26,7 +26,6 @@ use crate::blocks::{Chart, keep_values};
 use crate::error::InspectError;
 use crate::notes::{put_cleared, put_lost, put_ran, put_stopped};
 use crate::trail::{Fixed, Trail};
-use fb_coverage::ChartMarks;
 use fb_ecc::{BasicState, act, action_count, begin, clear};
 use fb_st::{Frame, Meter};
 use fb_types::{Algorithm, BasicType, Emits, Halt, Line, Name, Reason, Reference, Value};
@@ -69,52 +68,6 @@ fn keep_before(
     }
 }
 
-/// Notes what an algorithm changed.
-fn note_algorithm(
-    alloc: Global,
-    text: &mut Vec<u8>,
-    is_shown: bool,
-    chart: &Chart,
-    algorithm: &Name,
-) -> Result<(), AllocError>
-    requires { length chart.now.before.items ≡ length chart.now.own.items }
-    ensures { (values : Values) → chart.now.before.items ≡ map values chart.now.own.items
-        → OnOk result (text.new.items ≡ text.old.items ++ shown_text is_shown (ran_text algorithm.now values (values_of chart.now.state.frame) chart.now.own.items)) }
-{
-    if !is_shown {
-        return Ok(());
-    }
-    let variables = chart.own.as_slice();
-    let before = chart.before.as_slice();
-    put_ran(
-        alloc,
-        text,
-        algorithm,
-        variables,
-        before,
-        &chart.state.frame,
-    )
-}
-
-/// Notes what the algorithm of an action changed, if the action has one and was begun.
-fn note_ran(
-    alloc: Global,
-    text: &mut Vec<u8>,
-    is_shown: bool,
-    chart: &Chart,
-    algorithm: Option<&Name>,
-    left: u64,
-) -> Result<(), AllocError>
-    requires { IsSome algorithm → length chart.now.before.items ≡ length chart.now.own.items }
-    ensures { (values : Values) → (IsSome algorithm.entry → chart.now.before.items ≡ map values chart.now.own.items)
-        → OnOk result (text.new.items ≡ text.old.items ++ shown_text is_shown (ran_by_action (option_map (λ n. n.now) algorithm.entry) left values (values_of chart.now.state.frame) chart.now.own.items)) }
-{
-    match algorithm {
-        Some(algorithm) if left > 0 => note_algorithm(alloc, text, is_shown, chart, algorithm),
-        _ => Ok(()),
-    }
-}
-
 /// The index of an algorithm, if there is one with this name.
 fn find_algorithm(algorithms: &[Algorithm], name: &Name) -> Option<usize>
     ensures { result ≡ position (λ g. same_name g.name name.now) algorithms.now }
@@ -132,19 +85,55 @@ fn algorithm_number(block: &BasicType, algorithm: &Name) -> usize
     }
 }
 
-/// Marks the algorithm of an action, if the action has one and was begun.
-fn mark_algorithm(
-    marks: &mut ChartMarks,
+/// Notes what an algorithm changed.
+fn note_algorithm(
+    alloc: Global,
+    trail: &mut Trail,
+    chart: &Chart,
+    algorithm: &Name,
+) -> Result<(), AllocError>
+    requires { length chart.now.before.items ≡ length chart.now.own.items }
+    ensures noted { (values : Values) → chart.now.before.items ≡ map values chart.now.own.items
+        → OnOk result (HasNoted (ran_text algorithm.now values (values_of chart.now.state.frame) chart.now.own.items) trail.old.marks.charts trail.old trail.new) }
+    ensures reading { trail.new.reading ≡ trail.old.reading }
+{
+    if !trail.is_shown {
+        return Ok(());
+    }
+    let variables = chart.own.as_slice();
+    let before = chart.before.as_slice();
+    put_ran(
+        alloc,
+        &mut trail.page.text,
+        algorithm,
+        variables,
+        before,
+        &chart.state.frame,
+    )
+}
+
+/// Marks the algorithm of an action and notes what it changed, if the action has one and was begun.
+fn note_ran(
     taking: &ChartTaking<'_, '_, '_>,
+    trail: &mut Trail,
+    chart: &Chart,
     algorithm: Option<&Name>,
     left: u64,
-)
-    ensures { marks.new ≡ marking.with_ran_by taking.now.block.now taking.now.number (option_map (λ n. n.now) algorithm.entry) left marks.old }
+) -> Result<(), AllocError>
+    requires { IsSome algorithm → length chart.now.before.items ≡ length chart.now.own.items }
+    ensures noted { (values : Values) → (IsSome algorithm.entry → chart.now.before.items ≡ map values chart.now.own.items)
+        → let name = option_map (λ n. n.now) algorithm.entry in
+        OnOk result (HasNoted (ran_by_action name left values (values_of chart.now.state.frame) chart.now.own.items)
+        (marking.with_ran_by taking.now.block.now taking.now.number name left trail.old.marks.charts) trail.old trail.new) }
+    ensures reading { trail.new.reading ≡ trail.old.reading }
 {
-    if let Some(algorithm) = algorithm {
-        if left > 0 {
-            marks.mark_ran(taking.number, algorithm_number(taking.block, algorithm));
+    match algorithm {
+        Some(algorithm) if left > 0 => {
+            let number = algorithm_number(taking.block, algorithm);
+            trail.marks.charts.mark_ran(taking.number, number);
+            note_algorithm(taking.fixed.alloc, trail, chart, algorithm)
         }
+        _ => Ok(()),
     }
 }
 
@@ -203,19 +192,9 @@ fn perform<R: BufRead>(
     let variables = chart.own.as_slice();
     keep_before(&mut chart.before, variables, &chart.state.frame, algorithm)?;
     let left = meter.left;
-    let alloc = taking.fixed.alloc;
-    let mut emits = Emits::new(alloc);
+    let mut emits = Emits::new(taking.fixed.alloc);
     let end = acted(taking.block, &mut chart.state, meter, action, &mut emits)?;
-    let is_shown = trail.is_shown;
-    note_ran(
-        alloc,
-        &mut trail.page.text,
-        is_shown,
-        chart,
-        algorithm,
-        left,
-    )?;
-    mark_algorithm(&mut trail.marks.charts, taking, algorithm, left);
+    note_ran(taking, trail, chart, algorithm, left)?;
     trail.emit_all(&taking.fixed, taking.line, &mut emits, input)?;
     Ok(end)
 }
@@ -257,57 +236,42 @@ fn state_name(block: &BasicType, state: usize) -> &[u8]
     }
 }
 
-/// Notes an event that cleared no transition. The end of a chain after other links is not noted.
-fn note_lost(
-    text: &mut Vec<u8>,
-    is_shown: bool,
-    state: &[u8],
-    present: Option<usize>,
-) -> Result<(), AllocError>
-    ensures { OnOk result (text.new.items ≡ text.old.items ++ shown_text is_shown (lost_if present state.now)) }
+/// Marks and notes an event that cleared no transition. The end of a chain after other links is neither.
+fn note_lost(trail: &mut Trail, state: &[u8], present: Option<usize>) -> Result<(), AllocError>
+    ensures noted { OnOk result (HasNoted (lost_if present state.now) (marking.with_lost_if present trail.old.marks.charts) trail.old trail.new) }
+    ensures reading { trail.new.reading ≡ trail.old.reading }
 {
-    if present.is_none() || !is_shown {
+    if present.is_none() {
         return Ok(());
     }
-    put_lost(text, state)
-}
-
-/// Marks that an event cleared no transition, if one was present.
-fn mark_lost(marks: &mut ChartMarks, present: Option<usize>)
-    ensures { marks.new ≡ marking.with_lost_if present marks.old }
-{
-    if present.is_some() {
-        marks.mark_lost();
+    trail.marks.charts.mark_lost();
+    if !trail.is_shown {
+        return Ok(());
     }
+    put_lost(&mut trail.page.text, state)
 }
 
-/// Notes the transition at an index, which cleared.
+/// Marks the transition at an index, which cleared, and the state to which it led, and notes the transition.
 fn note_cleared(
-    alloc: Global,
-    text: &mut Vec<u8>,
-    is_shown: bool,
-    block: &BasicType,
-    index: usize,
-) -> Result<(), AllocError>
-    requires { index < length block.now.transitions }
-    ensures { OnOk result (text.new.items ≡ text.old.items ++ shown_text is_shown (cleared_note (transition_at block.now index))) }
-{
-    if !is_shown {
-        return Ok(());
-    }
-    put_cleared(alloc, text, &block.transitions.as_slice()[index])
-}
-
-/// Marks the transition at an index, which cleared, and the state to which it led.
-fn mark_cleared(
-    marks: &mut ChartMarks,
     taking: &ChartTaking<'_, '_, '_>,
+    trail: &mut Trail,
     index: usize,
     state: usize,
-)
-    ensures { marks.new ≡ with_cleared taking.now.number index state taking.now.line.now.event marks.old }
+) -> Result<(), AllocError>
+    requires { index < length taking.now.block.now.transitions }
+    ensures noted { OnOk result (HasNoted (cleared_note (transition_at taking.now.block.now index))
+        (with_cleared taking.now.number index state taking.now.line.now.event trail.old.marks.charts) trail.old trail.new) }
+    ensures reading { trail.new.reading ≡ trail.old.reading }
 {
-    marks.mark_cleared(taking.number, index, state, taking.line.event);
+    trail
+        .marks
+        .charts
+        .mark_cleared(taking.number, index, state, taking.line.event);
+    if !trail.is_shown {
+        return Ok(());
+    }
+    let transition = &taking.block.transitions.as_slice()[index];
+    put_cleared(taking.fixed.alloc, &mut trail.page.text, transition)
 }
 
 /// How a link of a chain ended.
@@ -346,16 +310,11 @@ fn link<R: BufRead>(
         Err(reason) => Ok(Linked::Stopped(reason)),
         Ok(None) => {
             let state = state_name(taking.block, chart.state.state);
-            let is_shown = trail.is_shown;
-            note_lost(&mut trail.page.text, is_shown, state, present)?;
-            mark_lost(&mut trail.marks.charts, present);
+            note_lost(trail, state, present)?;
             Ok(Linked::Rested)
         }
         Ok(Some(index)) => {
-            let is_shown = trail.is_shown;
-            let alloc = taking.fixed.alloc;
-            note_cleared(alloc, &mut trail.page.text, is_shown, taking.block, index)?;
-            mark_cleared(&mut trail.marks.charts, taking, index, chart.state.state);
+            note_cleared(taking, trail, index, chart.state.state)?;
             match perform_all(taking, trail, chart, meter, input)? {
                 Some(reason) => Ok(Linked::Stopped(reason)),
                 None => Ok(Linked::Went),
@@ -394,11 +353,12 @@ fn follow<R: BufRead>(
 }
 
 /// Notes the reason that ended a reaction, if one did.
-fn note_stop(text: &mut Vec<u8>, is_shown: bool, end: Option<Reason>) -> Result<(), AllocError>
-    ensures { OnOk result (text.new.items ≡ text.old.items ++ shown_text is_shown (stop_note end)) }
+fn note_stop(trail: &mut Trail, end: Option<Reason>) -> Result<(), AllocError>
+    ensures noted { OnOk result (HasNoted (stop_note end) trail.old.marks.charts trail.old trail.new) }
+    ensures reading { trail.new.reading ≡ trail.old.reading }
 {
     match end {
-        Some(reason) if is_shown => put_stopped(text, reason),
+        Some(reason) if trail.is_shown => put_stopped(&mut trail.page.text, reason),
         _ => Ok(()),
     }
 }
@@ -427,7 +387,6 @@ pub(crate) fn react_chart<R: BufRead>(
     let values = taking.line.values.as_slice();
     begin(&mut chart.state, taking.block, event, values);
     let end = follow(taking, trail, chart, meter, input)?;
-    let is_shown = trail.is_shown;
-    note_stop(&mut trail.page.text, is_shown, end)?;
+    note_stop(trail, end)?;
     Ok(end)
 }

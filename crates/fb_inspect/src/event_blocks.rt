@@ -1,12 +1,12 @@
 //! The reactions of event blocks.
 
-ghost use Rattle.std.specs.Prelude.{◌≡◌, ◌≤◌, ◌^◌, ◌++◌, ◌&&◌, [], All, IfErr, IfOk, IsTrue, None, OnOk, false, if◌then◌else◌, true};
+ghost use Rattle.std.specs.Prelude.{◌≡◌, ◌≤◌, ◌^◌, ◌&&◌, [], All, IfErr, IfOk, IsTrue, None, OnOk, false, if◌then◌else◌, true};
 ghost use Rattle.fb_event.specs.Reactions.{FitInputs, IsWellFormed, expiry_of, reaction_to};
 ghost use Rattle.fb_event.specs.Seen.{seen_memory};
 ghost use Rattle.fb_inspect.specs.Lines.{IsPlain};
 ghost use Rattle.fb_inspect.specs.Looks as spec;
 ghost use Rattle.fb_inspect.specs.Looks.{Seen, emissions_by};
-ghost use Rattle.fb_inspect.specs.Moves.{shown_text};
+ghost use Rattle.fb_inspect.specs.Moves.{HasNoted};
 ghost use Rattle.fb_inspect.specs.Notes.{memory_note};
 ghost use Rattle.fb_inspect.specs.Refusals.{IsNoRefusal, OfRefusal};
 ghost use Rattle.fb_inspect.specs.Timing.{HasExpired, HasReacted, IsBlockKept, IsNoExpiry, IsNotOnly, IsOnly, inputs_after};
@@ -86,19 +86,20 @@ fn is_same_tick(before: Option<u64>, after: Option<u64>) -> bool
 /// Notes what an event block remembers, if that has changed.
 fn note_change(
     alloc: Global,
-    text: &mut Vec<u8>,
-    is_shown: bool,
+    trail: &mut Trail,
     before: BlockMemory,
     after: BlockMemory,
 ) -> Result<(), AllocError>
-    ensures { OnOk result (text.new.items ≡ text.old.items ++ shown_text is_shown (if spec.same_memory (seen_memory before.memory) (seen_memory after.memory) && spec.same_tick before.due after.due then [] else memory_note (seen_memory after.memory) after.due)) }
+    ensures noted { OnOk result (HasNoted (if spec.same_memory (seen_memory before.memory) (seen_memory after.memory) && spec.same_tick before.due after.due then [] else memory_note (seen_memory after.memory) after.due) trail.old.marks.charts trail.old trail.new) }
+    ensures reading { trail.new.reading ≡ trail.old.reading }
+    ensures charts { trail.new.marks.charts ≡ trail.old.marks.charts }
 {
     let is_same = is_same_memory(before.memory, after.memory)
         && is_same_tick(before.due, after.due);
-    if is_same || !is_shown {
+    if is_same || !trail.is_shown {
         return Ok(());
     }
-    put_memory(alloc, text, after.memory, after.due)
+    put_memory(alloc, &mut trail.page.text, after.memory, after.due)
 }
 
 /// The tick at which the timer goes off after a reaction that requests this.
@@ -174,8 +175,7 @@ pub(crate) fn react_block<R: BufRead>(
     let mut emits = Emits::new(alloc);
     answer(block, line, &mut emits)?;
     let after = seen_of(block);
-    let is_shown = trail.is_shown;
-    note_change(alloc, &mut trail.page.text, is_shown, before, after)?;
+    note_change(alloc, trail, before, after)?;
     trail.emit_all(fixed, line, &mut emits, input)
 }
 
@@ -250,7 +250,6 @@ pub(crate) fn expire_block<R: BufRead>(
     }
     let after = seen_of(block);
     trail.pass(fixed, line, input)?;
-    let is_shown = trail.is_shown;
-    note_change(fixed.alloc, &mut trail.page.text, is_shown, before, after)?;
+    note_change(fixed.alloc, trail, before, after)?;
     Ok(())
 }

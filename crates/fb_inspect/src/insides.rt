@@ -180,7 +180,7 @@ pub fn begun(
     })
 }
 
-/// Whether a trace that may be cut off ends before its first line, or in it.
+/// Whether a trace that may be cut off ends in a line, or before it.
 pub fn is_severed(cut: Cut, line: &[u8]) -> bool
     ensures cut { IsTrue result → cut ≡ Cut.Allowed }
     ensures line { IsTrue result → is_unended line.now ≡ true }

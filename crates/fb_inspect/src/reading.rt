@@ -127,6 +127,13 @@ impl Reading {
         Ok(())
     }
 
+    /// The line that was the next one is it again.
+    pub(crate) fn put_back(&mut self, line: Line)
+        ensures { self.new ≡ record self.old { next = Next.Event line } }
+    {
+        self.next = Next::Event(line);
+    }
+
     /// The refusal of the next line.
     pub fn refusal(&self) -> InspectError
         ensures { result ≡ Refused self.now.number }

@@ -170,8 +170,7 @@ impl StateWave {
     {
         let system = fixed.table.system;
         let kept = keep_next(&mut self.before, system, &self.walk)?;
-        self.walk.trail.passed.lines.clear();
-        self.walk.trail.marks.charts.lost = false;
+        self.walk.trail.forget();
         let step = self.walk.step(fixed, terms, ahead, input)?;
         if is_cut_off(step) {
             self.show_untaken(system, ahead)?;

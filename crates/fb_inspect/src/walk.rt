@@ -670,7 +670,7 @@ impl Walk {
             Next::Event(line) => match self.step_on(fixed, terms, &line, ahead, input)? {
                 // Nothing was taken, so it is the next line again.
                 Step::CutOff => {
-                    self.trail.reading.next = Next::Event(line);
+                    self.trail.reading.put_back(line);
                     Ok(Step::CutOff)
                 }
                 Step::Taken => Ok(Step::Taken),

@@ -14,11 +14,11 @@ use Rattle.fb_inspect.specs.Charting.{ChartGoes, place}
 use Rattle.fb_inspect.specs.Markings.{PieceMarks}
 use Rattle.fb_inspect.specs.Moves.{shown_text}
 use Rattle.fb_inspect.specs.Notes.{lost_if}
+use Rattle.fb_inspect.specs.OfWalk.{IsNext}
 use Rattle.fb_inspect.specs.declared.blocks.Chart.{Chart}
 use Rattle.fb_inspect.specs.declared.trail.Trail.{Trail}
 use Rattle.fb_inspect.proofs.Charted.{link_failed, link_rested, link_stopped, link_went}
 use Rattle.fb_inspect.proofs.Marked.{first_like, state_entered}
-use Rattle.fb_inspect.proofs.Moving.{aside}
 use Rattle.fb_inspect.proofs.Placed.{entered_at, lost_any, marks_any, moved_at}
 use Rattle.fb_inspect.specs.Refusals.{ChartFails}
 use Rattle.fb_inspect.specs.declared.reading.Reading.{Reading}
@@ -49,13 +49,13 @@ returns-in_ok-note_lost-in-Ok-None-clause-linked g c =
     let f = event_at t.ports.event_inputs in
     let p : Position = place t c.args.chart.now c.args.meter.now.left in
     let cleared : Chart = record (c.args.chart.now) { state = now } in
-    let noted : Trail = record trail { page = record (trail.page) { text = c.note_lost.new.text }; marks = record (trail.marks) { charts = c.mark_lost.new.marks } } in
+    let noted = c.in_ok-note_lost-in-Ok-None.ensures.noted in
     let stays = subst (λ (o : Option ℕ). IfNone o (now.state ≡ was.state)) c.in-Ok-None.field-0-is c.in-Ok-None.ensures.stays in
     let tried = subst (λ (o : Option ℕ). trial_at t (option_map f c.args.present) p ≡ trial_by t (Ok o) c.clear.new.meter.left) c.in-Ok-None.field-0-is c.in-Ok-None.ensures.trial in
     let at = moved_at t was.state now.state was.frame now.frame c.args.meter.now.left c.clear.new.meter.left stays c.in-Ok-None.ensures.frame in
-    link_rested x (option_map f c.args.present) c.clear.new.meter.left p (place t cleared c.clear.new.meter.left) trail noted (g.R.Read.remaining c.args.input.now) tried at refl (aside trail noted refl refl refl refl)
-    (c.mark_lost.ensures ∙ marks_any c.args.present f trail.marks.charts) refl
-    (c.in_ok-note_lost-in-Ok-None.ensures
+    link_rested x (option_map f c.args.present) c.clear.new.meter.left p (place t cleared c.clear.new.meter.left) trail c.note_lost.new.trail (g.R.Read.remaining c.args.input.now) tried at refl noted.aside
+    (noted.marked ∙ marks_any c.args.present f trail.marks.charts) (ap (λ (r : Reading). r.line.items) c.in_ok-note_lost-in-Ok-None.ensures.reading)
+    (noted.added
     ∙ ap (λ (n : Name). old ++ shown_text trail.is_shown (lost_if c.args.present n)) (c.state_name-state.ensures ∙ ap (state_at t) stays)
     ∙ ap (λ (z : List ℕ). old ++ shown_text trail.is_shown z) (lost_any c.args.present f (state_at t was.state)))
 
@@ -69,7 +69,8 @@ returns-in-Some-clause-linked g c =
     let present = option_map (event_at t.ports.event_inputs) c.args.present in
     let p : Position = place t c.args.chart.now c.args.meter.now.left in
     let cleared : Chart = record (c.args.chart.now) { state = now } in
-    let noted : Trail = record trail { page = record (trail.page) { text = c.note_cleared.new.text }; marks = record (trail.marks) { charts = c.mark_cleared.new.marks } } in
+    let between : Trail = c.note_cleared.new.trail in
+    let noted = c.in_ok-note_cleared-in-Ok-Some.ensures.noted in
     let y = transition_at t c.in-Ok-Some.index in
     let m : Position = place t cleared c.clear.new.meter.left in
     let q : Position = place t c.perform_all.new.chart c.perform_all.new.meter.left in
@@ -82,12 +83,13 @@ returns-in-Some-clause-linked g c =
     let at_index = subst (λ (o : Option ℕ). IfSome o (λ k. clearing_index (state_at t was.state) 0 t.transitions present (values_of was.frame) ≡ Some k)) c.in-Ok-Some.field-0-is c.in-Ok-Some.ensures.index in
     let like = first_like (state_at t was.state) present (values_of was.frame) t c.in-Ok-Some.index at_index in
     let target = state_entered t now.state c.in-Ok-Some.index y.to c.requires.taking.sound within c.in-Ok-Some.ensures.block.state entered in
-    let mark : PieceMarks t x.number x.line.now.event (Clears_by y) trail.marks.charts noted.marks.charts =
-    (c.in-Ok-Some.index, like, c.mark_cleared.ensures ∙ ap (λ (s : ℕ). with_cleared x.number c.in-Ok-Some.index s x.line.now.event trail.marks.charts) (sym target)) in
+    let line = ap (λ (r : Reading). r.line.items) c.in_ok-note_cleared-in-Ok-Some.ensures.reading in
+    let mark : PieceMarks t x.number x.line.now.event (Clears_by y) trail.marks.charts between.marks.charts =
+    (c.in-Ok-Some.index, like, noted.marked ∙ ap (λ (s : ℕ). with_cleared x.number c.in-Ok-Some.index s x.line.now.event trail.marks.charts) (sym target)) in
     let at = entered_at t was.state now.state was.frame now.frame c.args.meter.now.left c.clear.new.meter.left y.to entered c.in-Ok-Some.ensures.frame in
-    link_stopped x present y y.to c.clear.new.meter.left c.in-Some.reason p m q trail noted c.perform_all.new.trail left after tried first (aside trail noted refl refl refl refl) mark refl c.in_ok-note_cleared-in-Ok-Some.ensures at
-    (subst (λ (n : Name). ChartGoes x (Acting t (actions_of t n)) m (Some c.in-Some.reason) q noted c.perform_all.new.trail left after) entered
-    (subst (λ (o : Option Reason). ChartGoes x (Acting t (actions_of t (state_at t now.state))) m o q noted c.perform_all.new.trail left after) c.in-Some.is
+    link_stopped x present y y.to c.clear.new.meter.left c.in-Some.reason p m q trail between c.perform_all.new.trail left after tried first noted.aside mark line noted.added at
+    (subst (λ (n : Name). ChartGoes x (Acting t (actions_of t n)) m (Some c.in-Some.reason) q between c.perform_all.new.trail left after) entered
+    (subst (λ (o : Option Reason). ChartGoes x (Acting t (actions_of t (state_at t now.state))) m o q between c.perform_all.new.trail left after) c.in-Some.is
     c.in_ok-reason-in-Ok-Some.ensures.shown))
 
 pub returns-in-None-clause-linked : goal.returns-in-None-clause-linked
@@ -100,7 +102,8 @@ returns-in-None-clause-linked g c =
     let present = option_map (event_at t.ports.event_inputs) c.args.present in
     let p : Position = place t c.args.chart.now c.args.meter.now.left in
     let cleared : Chart = record (c.args.chart.now) { state = now } in
-    let noted : Trail = record trail { page = record (trail.page) { text = c.note_cleared.new.text }; marks = record (trail.marks) { charts = c.mark_cleared.new.marks } } in
+    let between : Trail = c.note_cleared.new.trail in
+    let noted = c.in_ok-note_cleared-in-Ok-Some.ensures.noted in
     let y = transition_at t c.in-Ok-Some.index in
     let m : Position = place t cleared c.clear.new.meter.left in
     let q : Position = place t c.perform_all.new.chart c.perform_all.new.meter.left in
@@ -113,12 +116,13 @@ returns-in-None-clause-linked g c =
     let at_index = subst (λ (o : Option ℕ). IfSome o (λ k. clearing_index (state_at t was.state) 0 t.transitions present (values_of was.frame) ≡ Some k)) c.in-Ok-Some.field-0-is c.in-Ok-Some.ensures.index in
     let like = first_like (state_at t was.state) present (values_of was.frame) t c.in-Ok-Some.index at_index in
     let target = state_entered t now.state c.in-Ok-Some.index y.to c.requires.taking.sound within c.in-Ok-Some.ensures.block.state entered in
-    let mark : PieceMarks t x.number x.line.now.event (Clears_by y) trail.marks.charts noted.marks.charts =
-    (c.in-Ok-Some.index, like, c.mark_cleared.ensures ∙ ap (λ (s : ℕ). with_cleared x.number c.in-Ok-Some.index s x.line.now.event trail.marks.charts) (sym target)) in
+    let line = ap (λ (r : Reading). r.line.items) c.in_ok-note_cleared-in-Ok-Some.ensures.reading in
+    let mark : PieceMarks t x.number x.line.now.event (Clears_by y) trail.marks.charts between.marks.charts =
+    (c.in-Ok-Some.index, like, noted.marked ∙ ap (λ (s : ℕ). with_cleared x.number c.in-Ok-Some.index s x.line.now.event trail.marks.charts) (sym target)) in
     let at = entered_at t was.state now.state was.frame now.frame c.args.meter.now.left c.clear.new.meter.left y.to entered c.in-Ok-Some.ensures.frame in
-    link_went x present y y.to c.clear.new.meter.left p m q trail noted c.perform_all.new.trail left after tried first (aside trail noted refl refl refl refl) mark refl c.in_ok-note_cleared-in-Ok-Some.ensures at refl
-    (subst (λ (n : Name). ChartGoes x (Acting t (actions_of t n)) m None q noted c.perform_all.new.trail left after) entered
-    (subst (λ (o : Option Reason). ChartGoes x (Acting t (actions_of t (state_at t now.state))) m o q noted c.perform_all.new.trail left after) c.in-None.is
+    link_went x present y y.to c.clear.new.meter.left p m q trail between c.perform_all.new.trail left after tried first noted.aside mark line noted.added at refl
+    (subst (λ (n : Name). ChartGoes x (Acting t (actions_of t n)) m None q between c.perform_all.new.trail left after) entered
+    (subst (λ (o : Option Reason). ChartGoes x (Acting t (actions_of t (state_at t now.state))) m o q between c.perform_all.new.trail left after) c.in-None.is
     c.in_ok-reason-in-Ok-Some.ensures.shown))
 
 pub returns-in_err-reason-in-Ok-Some-clause-refused : goal.returns-in_err-reason-in-Ok-Some-clause-refused
@@ -140,7 +144,17 @@ returns-in_err-reason-in-Ok-Some-clause-refused g c = λ names plain.
     let first = subst (λ (o : Option ℕ). IfSome o (IsFirst t (state_at t was.state) present (values_of was.frame))) c.in-Ok-Some.field-0-is c.in-Ok-Some.ensures.first in
     let entered = subst (λ (o : Option ℕ). IfSome o (λ k. state_at t now.state ≡ (transition_at t k).to)) c.in-Ok-Some.field-0-is c.in-Ok-Some.ensures.entered in
     let at = entered_at t was.state now.state was.frame now.frame c.args.meter.now.left c.clear.new.meter.left y.to entered c.in-Ok-Some.ensures.frame in
-    err_passed _ _ (λ n. ChartFails x (Acting t (actions_of t (state_at t now.state))) m trail.reading new left after n)
+    err_passed _ _ (λ n. ChartFails x (Acting t (actions_of t (state_at t now.state))) m c.note_cleared.new.trail.reading new left after n)
     (λ n. ChartFails x (ShowsChain t present) p trail.reading new left after n) c.from_residual-in_err-reason-in-Ok-Some.ensures.1 (c.in_err-reason-in-Ok-Some.ensures.refused names plain)
     (λ n fails. link_fails x present y y.to c.clear.new.meter.left p m trail.reading new left after n tried first at
-    (subst (λ (s : Name). ChartFails x (Acting t (actions_of t s)) m trail.reading new left after n) entered fails))
+    (subst (λ (s : Name). ChartFails x (Acting t (actions_of t s)) m trail.reading new left after n) entered
+    (subst (λ (r : Reading). ChartFails x (Acting t (actions_of t (state_at t now.state))) m r new left after n) c.in_ok-note_cleared-in-Ok-Some.ensures.reading fails)))
+
+pub perform_all-requires-clause-next : goal.perform_all-requires-clause-next
+perform_all-requires-clause-next g c =
+    subst (λ (r : Reading). IsNext c.args.taking.now.fixed c.args.taking.now.line.now.key.tick r) (sym c.in_ok-note_cleared-in-Ok-Some.ensures.reading) c.requires.next
+
+pub returns-in_ok-note_lost-in-Ok-None-clause-next :
+    goal.returns-in_ok-note_lost-in-Ok-None-clause-next
+returns-in_ok-note_lost-in-Ok-None-clause-next g c =
+    subst (λ (r : Reading). IsNext c.args.taking.now.fixed c.args.taking.now.line.now.key.tick r) (sym c.in_ok-note_lost-in-Ok-None.ensures.reading) c.requires.next

@@ -1,4 +1,4 @@
-use Rattle.std.proofs.Common.{◌++◌, ℕ, List, [], ◌∷◌, length, map, Option, refl, ◌∙◌, ap, subst}
+use Rattle.std.proofs.Common.{◌++◌, ℕ, List, [], ◌∷◌, length, map, Option, refl, sym, ◌∙◌, ap, subst}
 use Rattle.std.proofs.lemmas.List.{length-map}
 use Rattle.fb_types.specs.Charts.{Acts, Position}
 use Rattle.fb_types.specs.Names.{Name}
@@ -10,9 +10,10 @@ use Rattle.fb_inspect.specs.Charting.{place, sys_of}
 use Rattle.fb_inspect.specs.Moves.{shown_text}
 use Rattle.fb_inspect.specs.Notes.{ran_by_action}
 use Rattle.fb_inspect.specs.Markings.{with_ran_by}
+use Rattle.fb_inspect.specs.OfWalk.{IsNext}
+use Rattle.fb_inspect.specs.declared.reading.Reading.{Reading}
 use Rattle.fb_inspect.specs.declared.trail.Trail.{Trail}
 use Rattle.fb_inspect.proofs.Charted.{act_goes}
-use Rattle.fb_inspect.proofs.Moving.{aside}
 use Rattle.fb_inspect.specs.Chains.{Acting}
 use Rattle.fb_inspect.specs.Refusals.{ChartFails, EmitsFail, IsPlainLine}
 use Rattle.fb_inspect.proofs.ChartFailing.{act_fails, emitted_fails, fit_chart}
@@ -24,6 +25,10 @@ note_ran-requires g c = λ some.
     let own : List Name = c.args.chart.now.own.items in
     ap length (c.in_ok-keep_before.ensures some ∙ ap (λ (ns : List Name). map (values_of c.args.chart.now.state.frame) ns) c.as_slice-variables.ensures.value)
     ∙ length-map own (values_of c.args.chart.now.state.frame)
+
+pub emit_all-requires : goal.emit_all-requires
+emit_all-requires g c =
+    subst (λ (r : Reading). IsNext c.args.taking.now.fixed c.args.taking.now.line.now.key.tick r) (sym c.in_ok-note_ran.ensures.reading) c.requires.next
 
 pub returns-clause-shown : goal.returns-clause-shown
 returns-clause-shown g c = λ a at.
@@ -37,14 +42,16 @@ returns-clause-shown g c = λ a at.
     let q : Position = index t c.acted.new.state.state c.acted.new.state.frame c.acted.new.meter.left c.acted.new.emits in
     let acts = subst (λ (es : List run.Emission). Acts t (a ∷ []) left (index t c.args.chart.now.state.state c.args.chart.now.state.frame left es) c.in_ok-end.end q) c.new-emits.ensures
     (c.in_ok-end.ensures.acted a at) in
-    let noted = c.in_ok-note_ran.ensures before (λ some. c.in_ok-keep_before.ensures some ∙ ap (λ (ns : List Name). map before ns) c.as_slice-variables.ensures.value)
-    ∙ ap (λ (n : Option Name). c.args.trail.now.page.text.items ++ shown_text c.args.trail.now.is_shown (ran_by_action n left before after own)) (c.algorithm_of-algorithm.ensures a at)
-    ∙ ap (λ (ns : List Name). c.args.trail.now.page.text.items ++ shown_text c.args.trail.now.is_shown (ran_by_action a.algorithm left before after ns)) c.requires.chart.own in
     let trail : Trail = c.args.trail.now in
-    let marked : Trail = record trail { page = record (trail.page) { text = c.note_ran.new.text }; marks = record (trail.marks) { charts = c.mark_algorithm.new.marks } } in
-    act_goes x t a p q c.acted.new.emits _ trail marked _ _ _ c.requires.taking.kind refl refl acts (aside trail marked refl refl refl refl)
-    (c.mark_algorithm.ensures ∙ ap (λ (n : Option Name). with_ran_by t x.number n left trail.marks.charts) (c.algorithm_of-algorithm.ensures a at))
-    c.in_ok-emit_all.ensures.charts refl noted c.in_ok-emit_all.ensures.goes
+    let noted = c.in_ok-note_ran.ensures.noted before (λ some. c.in_ok-keep_before.ensures some ∙ ap (λ (ns : List Name). map before ns) c.as_slice-variables.ensures.value) in
+    let named = c.algorithm_of-algorithm.ensures a at in
+    act_goes x t a p q c.acted.new.emits _ trail c.note_ran.new.trail _ _ _ c.requires.taking.kind refl refl acts noted.aside
+    (noted.marked ∙ ap (λ (n : Option Name). with_ran_by t x.number n left trail.marks.charts) named)
+    c.in_ok-emit_all.ensures.charts (ap (λ (r : Reading). r.line.items) c.in_ok-note_ran.ensures.reading)
+    (noted.added
+    ∙ ap (λ (n : Option Name). trail.page.text.items ++ shown_text trail.is_shown (ran_by_action n left before after own)) named
+    ∙ ap (λ (ns : List Name). trail.page.text.items ++ shown_text trail.is_shown (ran_by_action a.algorithm left before after ns)) c.requires.chart.own)
+    c.in_ok-emit_all.ensures.goes
 
 pub returns-in_err-emit_all-clause-refused : goal.returns-in_err-emit_all-clause-refused
 returns-in_err-emit_all-clause-refused g c = λ a others at names plain.
@@ -60,11 +67,13 @@ returns-in_err-emit_all-clause-refused g c = λ a others at names plain.
     let after = g.R.Read.remaining c.emit_all.new.input in
     let own : IsPlainLine (sys_of x) x.fixed.form x.line.now = record { names = names; line = c.requires.taking.line; plain = plain } in
     err_passed _ _
-    (λ n. EmitsFail (sys_of x) x.fixed.form x.line.now (map (emission_of (ports_at (sys_of x) (path_at (sys_of x) x.line.now.instance))) es) c.args.trail.now.reading c.emit_all.new.self.reading before after n)
+    (λ n. EmitsFail (sys_of x) x.fixed.form x.line.now (map (emission_of (ports_at (sys_of x) (path_at (sys_of x) x.line.now.instance))) es) c.note_ran.new.trail.reading c.emit_all.new.self.reading before after n)
     (λ n. ChartFails x (Acting t (a ∷ others)) p c.args.trail.now.reading c.emit_all.new.self.reading before after n) c.from_residual-in_err-emit_all.ensures.1
     (c.in_err-emit_all.ensures.refused own (fit_chart x t es c.requires.taking.kind (c.in_ok-end.ensures.fit c.new-emits.ensures)))
     (λ n fails. act_fails x t a others p q c.in_ok-end.end c.args.trail.now.reading c.emit_all.new.self.reading before after n refl acts
-    (emitted_fails x t es c.args.trail.now.reading c.emit_all.new.self.reading before after n c.requires.taking.kind fails))
+    (emitted_fails x t es c.args.trail.now.reading c.emit_all.new.self.reading before after n c.requires.taking.kind
+    (subst (λ (r : Reading). EmitsFail (sys_of x) x.fixed.form x.line.now (map (emission_of (ports_at (sys_of x) (path_at (sys_of x) x.line.now.instance))) es) r c.emit_all.new.self.reading before after n)
+    c.in_ok-note_ran.ensures.reading fails)))
 
 pub returns-in_err-end-clause-refused : goal.returns-in_err-end-clause-refused
 returns-in_err-end-clause-refused g c = λ a others at names plain.

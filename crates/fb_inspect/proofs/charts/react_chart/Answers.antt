@@ -1,4 +1,4 @@
-use Rattle.std.proofs.Common.{List, Some, refl, ap, subst, ◌∙◌}
+use Rattle.std.proofs.Common.{List, Some, sym, ap, subst, ◌∙◌}
 use Rattle.fb_types.specs.Charts.{Position}
 use Rattle.fb_types.specs.Names.{Name}
 use Rattle.fb_types.specs.Numbers.{event_at}
@@ -7,9 +7,9 @@ use Rattle.fb_st.specs.Frames.{values_of}
 use Rattle.fb_ecc.specs.Indexes.{sampled}
 use Rattle.fb_inspect.specs.Chains.{ShowsChain, ShowsReaction}
 use Rattle.fb_inspect.specs.Charting.{ChartGoes, place}
+use Rattle.fb_inspect.specs.OfWalk.{IsNext}
 use Rattle.fb_inspect.specs.declared.trail.Trail.{Trail}
 use Rattle.fb_inspect.proofs.Charted.{begun_at, reaction_goes}
-use Rattle.fb_inspect.proofs.Moving.{aside}
 use Rattle.fb_inspect.specs.Refusals.{ChartFails}
 use Rattle.fb_inspect.specs.declared.reading.Reading.{Reading}
 use Rattle.fb_inspect.proofs.ChartFailing.{reaction_fails}
@@ -30,11 +30,15 @@ returns-clause-shown g c =
     let p : Position = record (place t c.args.chart.now left) { vars = sampled t x.line.now.event x.line.now.values old } in
     let q : Position = place t c.follow.new.chart c.follow.new.meter.left in
     let new : Trail = c.follow.new.trail in
-    let noted : Trail = record new { page = record (new.page) { text = c.note_stop.new.text } } in
+    let noted = c.in_ok-note_stop.ensures.noted in
     let before = g.R.Read.remaining c.args.input.now in
     let after = g.R.Read.remaining c.follow.new.input in
-    reaction_goes x e p q c.in_ok-end.end c.args.trail.now new noted before after (aside new noted refl refl refl refl) refl refl c.in_ok-note_stop.ensures
+    reaction_goes x e p q c.in_ok-end.end c.args.trail.now new c.note_stop.new.trail before after noted.aside noted.marked (ap (λ (r : Reading). r.line.items) c.in_ok-note_stop.ensures.reading) noted.added
     (subst (λ (m : Position). ChartGoes x (ShowsChain t (Some e)) m c.in_ok-end.end q c.args.trail.now new before after) at c.in_ok-end.ensures.shown)
+
+pub returns-clause-next : goal.returns-clause-next
+returns-clause-next g c =
+    subst (λ (r : Reading). IsNext c.args.taking.now.fixed c.args.taking.now.line.now.key.tick r) (sym c.in_ok-note_stop.ensures.reading) c.in_ok-end.ensures.next
 
 pub returns-in_err-end-clause-refused : goal.returns-in_err-end-clause-refused
 returns-in_err-end-clause-refused g c = λ names plain.

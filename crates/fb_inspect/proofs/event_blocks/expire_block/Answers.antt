@@ -1,7 +1,8 @@
-use Rattle.std.proofs.Common.{refl, rules, subst, sym}
+use Rattle.std.proofs.Common.{ap, refl, rules, subst, sym}
 use Rattle.fb_types.specs.Headline.{system_of}
 use Rattle.fb_event.specs.Seen.{seen_memory}
-use Rattle.fb_inspect.proofs.Moving.{aside}
+use Rattle.fb_inspect.specs.OfWalk.{IsNext}
+use Rattle.fb_inspect.specs.declared.reading.Reading.{Reading}
 use Rattle.fb_inspect.proofs.Timed.{timer_goes}
 use Rattle.fb_inspect.specs.Refusals.{IsNotDue, OfRefusal}
 use Rattle.fb_inspect.specs.declared.error.InspectError.{InspectError}
@@ -16,7 +17,11 @@ returns-clause-turned g c = λ s kept.
     (c.in_ok-expire_to.ensures.only c.if-not-branch.false)
     (record { memory_is = c.seen_of-before.ensures.memory; due_is = c.seen_of-before.ensures.due })
     (record { memory_is = c.seen_of-after.ensures.memory; due_is = c.seen_of-after.ensures.due })
-    c.in_ok-pass.ensures.goes c.in_ok-pass.ensures.alone (aside _ _ refl refl refl refl) refl c.in_ok-note_change.ensures
+    c.in_ok-pass.ensures.goes c.in_ok-pass.ensures.alone c.in_ok-note_change.ensures.noted.aside (ap (λ (r : Reading). r.line.items) c.in_ok-note_change.ensures.reading) c.in_ok-note_change.ensures.noted.added
+
+pub returns-clause-next : goal.returns-clause-next
+returns-clause-next g c =
+    subst (λ (r : Reading). IsNext c.args.fixed.now c.args.line.now.key.tick r) (sym c.in_ok-note_change.ensures.reading) c.in_ok-pass.ensures.next
 
 pub returns-then-not-branch-clause-refused : goal.returns-then-not-branch-clause-refused
 returns-then-not-branch-clause-refused g c = λ s kept names plain.

@@ -1,15 +1,16 @@
-use Rattle.std.proofs.Common.{List, refl, sym, ap, subst, ◌∙◌}
+use Rattle.std.proofs.Common.{List, map, sym, ap, subst, ◌∙◌}
 use Rattle.fb_types.specs.Headline.{system_of}
 use Rattle.fb_types.specs.declared.value.Value.{Value}
 use Rattle.fb_event.specs.Reactions.{FitInputs, reaction_to}
 use Rattle.fb_event.specs.Seen.{seen_memory}
 use Rattle.fb_wave.proofs.Handing.{on_ok}
 use Rattle.fb_inspect.specs.Timing.{HasReacted, inputs_after}
+use Rattle.fb_inspect.specs.OfWalk.{IsNext}
+use Rattle.fb_inspect.specs.declared.reading.Reading.{Reading}
 use Rattle.fb_inspect.specs.declared.trail.Trail.{Trail}
-use Rattle.fb_inspect.proofs.Moving.{aside}
 use Rattle.fb_inspect.proofs.Timed.{block_goes, emitted_as, fits_after}
 use Rattle.fb_types.specs.Blocks.{Emission, Event}
-use Rattle.fb_types.specs.Numbers.{path_at, ports_at}
+use Rattle.fb_types.specs.Numbers.{emission_of, path_at, ports_at}
 use Rattle.fb_types.specs.declared.run.Emission as run
 use Rattle.fb_net.proofs.Sampling.{ports-of_kind}
 use Rattle.fb_inspect.specs.Refusals.{EmitsFail, IsPlainLine}
@@ -24,12 +25,16 @@ answer-requires-clause-typed g c =
     (sym (c.in_ok-sample.ensures ∙ ap (inputs_after b.inputs) c.as_slice.ensures))
     (fits_after (system_of c.args.fixed.now.table.now.system.now) b c.args.line.now c.requires.line c.requires.taken)
 
+pub emit_all-requires : goal.emit_all-requires
+emit_all-requires g c =
+    subst (λ (r : Reading). IsNext c.args.fixed.now c.args.line.now.key.tick r) (sym c.in_ok-note_change.ensures.reading) c.requires.next
+
 pub returns-clause-turned : goal.returns-clause-turned
 returns-clause-turned g c = λ s kept.
     let b = c.args.block.now in
     let l = c.args.line.now in
     let trail : Trail = c.args.trail.now in
-    let noted : Trail = record trail { page = record (trail.page) { text = c.note_change.new.text } } in
+    let noted = c.in_ok-note_change.ensures.noted in
     let sampled_is = c.in_ok-sample.ensures ∙ ap (inputs_after b.inputs) c.as_slice.ensures in
     let has = subst (λ (vs : List Value). HasReacted (reaction_to b.state l.event l.key.tick vs) b.due (record b { inputs = vs }) c.answer.new.block c.answer.new.emits) sampled_is c.in_ok-answer.ensures.reacted in
     let before = c.seen_of-before in
@@ -37,11 +42,11 @@ returns-clause-turned g c = λ s kept.
     on_ok c.emit_all.result _ _ c.emit_all.ensures.goes
     (λ goes.
     block_goes (system_of c.args.fixed.now.table.now.system.now) b l c.requires.line c.requires.taken s kept c.args.fixed.now.form c.answer.new.block c.answer.new.emits
-    (seen_memory before.result.memory) (seen_memory after.result.memory) before.result.due after.result.due trail noted c.emit_all.new.self
+    (seen_memory before.result.memory) (seen_memory after.result.memory) before.result.due after.result.due trail c.note_change.new.trail c.emit_all.new.self
     (g.R.Read.remaining c.args.input.now) (g.R.Read.remaining c.emit_all.new.input) has
     (record { memory_is = before.ensures.memory; due_is = before.ensures.due })
     (record { memory_is = after.ensures.memory; due_is = after.ensures.due })
-    (aside trail noted refl refl refl refl) refl c.in_ok-note_change.ensures goes)
+    noted.aside (ap (λ (r : Reading). r.line.items) c.in_ok-note_change.ensures.reading) noted.added goes)
 
 pub returns-clause-refused : goal.returns-clause-refused
 returns-clause-refused g c = λ s kept names plain.
@@ -58,7 +63,8 @@ returns-clause-refused g c = λ s kept names plain.
     let after = g.R.Read.remaining c.emit_all.new.input in
     err_refused c.emit_all.result _ _ (c.emit_all.ensures.refused own fit)
     (λ n fails. subst (λ (xs : List Emission). EmitsFail sys form l xs c.args.trail.now.reading c.emit_all.new.self.reading left after n)
-    (emitted_as sys b l c.requires.line c.requires.taken s kept c.answer.new.block es has) fails)
+    (emitted_as sys b l c.requires.line c.requires.taken s kept c.answer.new.block es has)
+    (subst (λ (r : Reading). EmitsFail sys form l (map (emission_of (ports_at sys (path_at sys l.instance))) es) r c.emit_all.new.self.reading left after n) c.in_ok-note_change.ensures.reading fails))
 
 pub returns-in_err-answer-clause-refused : goal.returns-in_err-answer-clause-refused
 returns-in_err-answer-clause-refused g c = λ s kept names plain. none_passed _ _ _ c.from_residual-in_err-answer.ensures.1 c.in_err-answer.ensures.fault

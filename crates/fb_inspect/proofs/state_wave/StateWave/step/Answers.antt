@@ -1,11 +1,13 @@
 use Rattle.std.proofs.Common.{◌≡◌, Option, None, refl, sym, ap, subst, ◌∙◌}
 use Rattle.fb_types.specs.Headline.{system_of}
 use Rattle.fb_inspect.specs.Inspections.{last_look}
-use Rattle.fb_inspect.specs.Lines.{IsNext}
+use Rattle.fb_inspect.specs.Lines.{IsNext, IsNextLine}
 use Rattle.fb_inspect.specs.Looks.{Look, opening_look}
 use Rattle.fb_inspect.specs.Stepping.{StepGoes}
 use Rattle.fb_inspect.specs.Walking.{unread}
 use Rattle.fb_inspect.specs.declared.reading.Next.{Next}
+use Rattle.fb_inspect.specs.declared.reading.Reading.{Reading}
+use Rattle.fb_inspect.specs.declared.trail.Trail.{Trail}
 use Rattle.fb_inspect.specs.declared.walk.Step.{Step}
 use Rattle.fb_inspect.specs.declared.walk.Step.TheVariants as step
 use Rattle.fb_inspect.specs.declared.walk.Walk.{Walk}
@@ -35,7 +37,12 @@ step-requires-clause-look g c = c.requires.look
 pub step-requires-clause-next : goal.step-requires-clause-next
 step-requires-clause-next g c =
     let fixed = c.args.fixed.now in
-    (c.requires.next.0, next_line (system_of fixed.table.now.system.now) fixed.form c.requires.next.0 c.args.self.now.walk.trail.reading.line.items c.args.self.now.walk.trail.reading.next c.requires.next.1)
+    let sys = system_of fixed.table.now.system.now in
+    let tick = c.requires.next.0 in
+    let here : Reading = c.args.self.now.walk.trail.reading in (
+      tick,
+      subst (λ (t : Trail). IsNextLine sys fixed.form tick t.reading.line.items t.reading.next) (sym c.forget.ensures.others) (next_line sys fixed.form tick here.line.items here.next c.requires.next.1),
+    )
 
 pub show_untaken-requires-clause-next : goal.show_untaken-requires-clause-next
 show_untaken-requires-clause-next g c =
@@ -43,7 +50,7 @@ show_untaken-requires-clause-next g c =
     let sys = system_of fixed.table.now.system.now in
     let x = subst (StepGoes fixed.table.now.system.now.library.blocks sys fixed.form c.args.terms.steps c.requires.look.0 _ _ _ _ _) (c.is_cut_off.ensures.yes c.if-is_cut_off.true)
     (c.in_ok-step.ensures.turned c.requires.look.0 c.requires.look.1) in
-    (x.0.line, x.1 ∙ sym x.0.is, (subst (IsNext sys fixed.form c.requires.next.0 c.args.self.now.walk.trail.reading.line.items) (sym x.0.is) c.requires.next.1).0.line.belongs)
+    (x.0.line, x.1 ∙ sym x.0.is, (subst (IsNext sys fixed.form c.requires.next.0 c.args.self.now.walk.trail.reading.line.items) (sym (x.0.is ∙ ap (λ (t : Trail). t.reading.next) c.forget.ensures.others)) c.requires.next.1).0.line.belongs)
 
 pub show_untaken-requires-clause-rows : goal.show_untaken-requires-clause-rows
 show_untaken-requires-clause-rows g c =
@@ -64,7 +71,7 @@ returns-then-is_cut_off-clause-goes g c = λ known old new have.
     let rest = unread c.step.new.ahead (g.R.Read.remaining c.step.new.input) in
     let x = subst (StepGoes types sys fixed.form steps seen _ _ _ _ _) (c.is_cut_off.ensures.yes c.if-is_cut_off.true) (c.in_ok-step.ensures.turned seen have.look) in
     subst (HasGoneOn sys fixed.form steps c.show_untaken.new.self known rest old new) (sym (c.is_cut_off.ensures.yes c.if-is_cut_off.true))
-    (gone_cut types sys fixed.form steps c.args.self.now known r old new have _ c.step.new.self c.step.new.ahead rest c.show_untaken.new.self (ready_of c.args.self.now c.clear.new.self have.kept c.clear.ensures.items)
+    (gone_cut types sys fixed.form steps c.args.self.now known r old new have _ c.step.new.self c.step.new.ahead rest c.show_untaken.new.self (ready_of c.args.self.now c.forget.new.self have.kept c.forget.ensures.none c.forget.ensures.others)
     x.0 c.in_ok-show_untaken.ensures.numbers
     (λ sent shows. c.in_ok-show_untaken.ensures.shown x.0.line have.takings sent (x.1 ∙ sym x.0.is) (own_rows sys fixed.form x.0.line _ _ _ x.0.goes) shows))
 
@@ -77,7 +84,7 @@ returns-in_default-clause-goes g c = λ known old new have.
     let seen : Look = last_look (opening_look sys) (turns_of have.takings) in
     let r = unread c.args.ahead.now (g.R.Read.remaining c.args.input.now) in
     let rest = unread c.step.new.ahead (g.R.Read.remaining c.step.new.input) in
-    gone_none types sys fixed.form steps c.args.self.now known r old new have _ c.step.new.self c.keep_next.new.before (ready_of c.args.self.now c.clear.new.self have.kept c.clear.ensures.items)
+    gone_none types sys fixed.form steps c.args.self.now known r old new have _ c.step.new.self c.keep_next.new.before (ready_of c.args.self.now c.forget.new.self have.kept c.forget.ensures.none c.forget.ensures.others)
     rest c.step.new.ahead _ (subst (IsNextKept sys c.args.self.now.walk c.keep_next.new.before) c.in_default.is c.in_ok-kept.ensures) (c.is_cut_off.ensures.no c.if-is_cut_off.false)
     (c.in_ok-step.ensures.turned seen have.look)
 
@@ -90,7 +97,7 @@ show-requires g c =
     let r = unread c.args.ahead.now (g.R.Read.remaining c.args.input.now) in
     let rest = unread c.step.new.ahead (g.R.Read.remaining c.step.new.input) in
     can_show types sys fixed.form c.args.terms.steps c.args.self.now c.requires.look.0 _ c.step.new.self c.keep_next.new.before c.in-Some.event c.step.new.ahead r rest _
-    (ready_of c.args.self.now c.clear.new.self c.requires.kept c.clear.ensures.items) event c.requires.dump c.requires.look.1.are
+    (ready_of c.args.self.now c.forget.new.self c.requires.kept c.forget.ensures.none c.forget.ensures.others) event c.requires.dump c.requires.look.1.are
     (within_of sys fixed.form c.requires.next.0 c.args.self.now.walk c.keep_next.new.before c.in-Some.event event c.requires.next.1) (c.is_cut_off.ensures.no c.if-is_cut_off.false)
     (c.in_ok-step.ensures.turned c.requires.look.0 c.requires.look.1)
 
@@ -105,7 +112,7 @@ returns-clause-goes g c = λ known old new have.
     let r = unread c.args.ahead.now (g.R.Read.remaining c.args.input.now) in
     let rest = unread c.step.new.ahead (g.R.Read.remaining c.step.new.input) in
     gone_on types sys fixed.form steps c.args.self.now known r old new have _ c.step.new.self c.keep_next.new.before c.show.new.self c.in-Some.event rest
-    (ready_of c.args.self.now c.clear.new.self have.kept c.clear.ensures.items) event c.in_ok-show.ensures.walk c.in_ok-show.ensures.numbers
+    (ready_of c.args.self.now c.forget.new.self have.kept c.forget.ensures.none c.forget.ensures.others) event c.in_ok-show.ensures.walk c.in_ok-show.ensures.numbers
     (λ look after before are. c.in_ok-show.ensures.shown look after before are) c.step.new.ahead _ (c.is_cut_off.ensures.no c.if-is_cut_off.false) (c.in_ok-step.ensures.turned seen have.look)
 
 pub returns-in_err-step-clause-stands : goal.returns-in_err-step-clause-stands
@@ -114,7 +121,7 @@ returns-in_err-step-clause-stands g c = λ rest text few names known well.
     let sys = system_of fixed.table.now.system.now in
     let w = c.args.self.now.walk in
     let q = err_from_is_err_and c.from_residual-in_err-step.result c.from_residual-in_err-step.ensures.1 in
-    rw (q.1, q.2) (c.in_err-step.ensures.stands rest text few names known (well_aside sys fixed.form c.args.terms.steps w (record (w.trail.passed) { lines = c.clear.new.self }) (record (w.trail.marks) { charts = record (w.trail.marks.charts) { lost = false } }) c.args.ahead.now rest text well))
+    rw (q.1, q.2) (c.in_err-step.ensures.stands rest text few names known (well_aside sys fixed.form c.args.terms.steps w c.forget.new.self _ _ c.args.ahead.now rest text c.forget.ensures.others well))
 
 pub returns-then-is_cut_off-clause-stands : goal.returns-then-is_cut_off-clause-stands
 returns-then-is_cut_off-clause-stands g c = λ rest text few names known well.
@@ -128,7 +135,7 @@ returns-in_default-clause-stands g c = λ rest text few names known well.
     let fixed = c.args.fixed.now in
     let sys = system_of fixed.table.now.system.now in
     let w = c.args.self.now.walk in
-    c.in_ok-step.ensures.stands rest text few names known (well_aside sys fixed.form c.args.terms.steps w (record (w.trail.passed) { lines = c.clear.new.self }) (record (w.trail.marks) { charts = record (w.trail.marks.charts) { lost = false } }) c.args.ahead.now rest text well)
+    c.in_ok-step.ensures.stands rest text few names known (well_aside sys fixed.form c.args.terms.steps w c.forget.new.self _ _ c.args.ahead.now rest text c.forget.ensures.others well)
 
 pub returns-clause-stands : goal.returns-clause-stands
 returns-clause-stands g c = λ rest text few names known well.
@@ -136,4 +143,4 @@ returns-clause-stands g c = λ rest text few names known well.
     let sys = system_of fixed.table.now.system.now in
     let w = c.args.self.now.walk in
     subst (λ (w : Walk). GoesAfter sys fixed.form c.args.terms.steps w c.step.new.ahead (g.R.Read.remaining c.step.new.input) text (Ok c.in_ok-step.step)) (sym c.in_ok-show.ensures.walk)
-    (c.in_ok-step.ensures.stands rest text few names known (well_aside sys fixed.form c.args.terms.steps w (record (w.trail.passed) { lines = c.clear.new.self }) (record (w.trail.marks) { charts = record (w.trail.marks.charts) { lost = false } }) c.args.ahead.now rest text well))
+    (c.in_ok-step.ensures.stands rest text few names known (well_aside sys fixed.form c.args.terms.steps w c.forget.new.self _ _ c.args.ahead.now rest text c.forget.ensures.others well))

@@ -1,11 +1,12 @@
-use Rattle.std.proofs.Common.{inl, refl, subst, sym}
+use Rattle.std.proofs.Common.{ap, inl, refl, subst, sym, ◌∙◌}
 use Rattle.fb_types.specs.Headline.{system_of}
 use Rattle.fb_inspect.specs.Inspections.{last_look}
 use Rattle.fb_inspect.specs.Lines.{IsNextLine}
 use Rattle.fb_inspect.specs.Looks.{opening_look}
 use Rattle.fb_inspect.specs.Stepping.{LineGoes}
-use Rattle.fb_inspect.specs.Walking.{HasAdvanced, unread}
+use Rattle.fb_inspect.specs.Walking.{HasAdvanced, IsSevered, unread}
 use Rattle.fb_inspect.specs.declared.reading.Next.{Next}
+use Rattle.fb_inspect.specs.declared.reading.Reading.{Reading}
 use Rattle.fb_inspect.specs.declared.reading.Next.TheVariants as next
 use Rattle.fb_wave.specs.Dumps.{last_tick}
 use Rattle.fb_inspect.proofs.OneStep.{ended_whole, line_next, severed_next, step_over, taken_whole}
@@ -28,9 +29,11 @@ returns-in-CutOff-clause-goes g c = λ first only known old new covered.
     let here = subst (λ (n : Next). IsNextLine sys fixed.form (last_tick 0 covered.gone.gone.lines) c.args.self.now.trail.reading.line.items n) (sym c.in-Event.ensures.value) covered.gone.next in
     let past = bad_on types first sys fixed.form only c.args.terms.steps c.args.self.now c.replace.new.dest known (unread c.args.ahead.now (g.R.Read.remaining c.args.input.now)) old new
     c.replace.ensures.after covered c.in-Event.line.key.tick here.1 in
-    severed_next types first sys fixed.form only c.step_on.new.self (next.Event c.in-Event.line) known old new
+    let w = c.step_on.new.self in
+    subst (λ (r : Reading). IsSevered types first sys fixed.form only (record w { trail = record (w.trail) { reading = r } }) known old new) (sym c.put_back.ensures)
+    (severed_next types first sys fixed.form only w (next.Event c.in-Event.line) known old new
     (subst (HasAdvanced types first sys fixed.form only c.args.terms.steps c.step_on.new.self known (unread c.step_on.new.ahead (g.R.Read.remaining c.step_on.new.input)) old new) c.in-CutOff.is
-    (c.in_ok-step_on-in-Event.ensures.goes first only known old new past.0 past.1))
+    (c.in_ok-step_on-in-Event.ensures.goes first only known old new past.0 past.1)))
 
 pub returns-in-CutOff-clause-turned : goal.returns-in-CutOff-clause-turned
 returns-in-CutOff-clause-turned g c = λ look is.
@@ -46,7 +49,7 @@ returns-in-CutOff-clause-turned g c = λ look is.
         is = c.in-Event.ensures.value;
         goes = subst (LineGoes types sys fixed.form c.args.terms.steps look c.in-Event.line c.args.self.now c.step_on.new.self c.step_on.new.ahead r rest) c.in-CutOff.is goes;
       },
-      c.in-Event.ensures.value,
+      ap (λ (r : Reading). r.next) c.put_back.ensures ∙ c.in-Event.ensures.value,
     )
 
 pub returns-in-Taken-clause-goes : goal.returns-in-Taken-clause-goes
