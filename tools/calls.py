@@ -501,20 +501,16 @@ Look at: The last line `>` of the trace: the block of that line stopped. Test ea
 """
 # Arguments that are no call.
 FAULTS = [
-    [],
     ["cycle"],
     ["walk", "cycle"],
     ["check"],
     ["run"],
-    ["run", "cycle"],
     ["run", "--horizon", "8"],
     ["run", "cycle", "--horizon"],
     ["run", "cycle", "--horizon", "x"],
     ["run", "cycle", "--horizon", "-1"],
-    ["run", "cycle", "--horizon", "0"],
     ["run", "cycle", "--horizon", "1000000000001"],
     ["run", "cycle", "--horizon", "1", "--steps", "0"],
-    ["run", "cycle", "--horizon", "1", "--steps", "10000001"],
     ["run", "cycle", "--horizon", "1", "--horizon", "1"],
     ["run", "cycle", "ring", "--horizon", "1"],
     ["check", "cycle", "--horizon", "1"],
@@ -524,7 +520,6 @@ FAULTS = [
     ["run", "cycle", "--horizon", "1", "--trace", "1", "--trace", "1"],
     ["check", "cycle", "--trace", "1"],
     ["run", "cycle", "--horizon", "1", "--workers", "0"],
-    ["run", "cycle", "--horizon", "1", "--workers", "65"],
     ["run", "cycle", "--horizon", "1", "--workers"],
     ["check", "cycle", "--workers", "1"],
     ["run", "cycle", "--horizon", "1", "--serial=1"],
@@ -546,7 +541,6 @@ FAULTS = [
     ["wave", "cycle", "cycle", "--stim", "cycle"],
     ["wave", "cycle", "cycle", "--horizon", "1"],
     ["run", "cycle", "--horizon", "8", "--trace", "0"],
-    ["run", "cycle", "--horizon", "8", "--trace", "3"],
     ["run", "cycle", "--horizon", "8", "--trace", "x"],
     ["run", "cycle", "--horizon", "8", "--trace", "01"],
     ["run", "cycle", "--horizon", "8", "--trace", "+1"],
@@ -556,6 +550,34 @@ FAULTS = [
     ["run", "cycle", "--horizon", "8", "--trace", "One"],
     ["run", "cycle", "--horizon", "8", "--trace", ""],
 ]
+# .. and some with what the parser of command lines says of them.
+MORE = b"\n\nFor more information, try '--help'.\n"
+NO_COMMAND = b"""error: 'fbsim' requires a subcommand but one was not provided
+  [subcommands: run, check, wave, expect, diff, draw, inspect, coverage, explain, help]
+
+Usage: fbsim <COMMAND>"""
+NO_HORIZON = b"""error: the following required arguments were not provided:
+  --horizon <horizon>
+
+Usage: fbsim run --horizon <horizon> <DECL>"""
+TOLD = [
+    ("", NO_COMMAND),
+    ("run cycle", NO_HORIZON),
+    ("run cycle --horizon 0", b"error: invalid value '0' for '--horizon <horizon>': 0 is not in 1..=1000000000000"),
+    ("run cycle --horizon 8 --steps 10000001", b"error: invalid value '10000001' for '--steps <steps>': 10000001 is not in 1..=10000000"),
+    ("run cycle --horizon 8 --workers 65", b"error: invalid value '65' for '--workers <workers>': 65 is not in 1..=64"),
+    ("run cycle --horizon 8 --trace 3", b"error: invalid value '3' for '--trace <trace>'\n  [possible values: 1, 2]"),
+]
+# Three blocks in three resources, of which the second runs on without end once it has begun.
+LOOP = b"""FUNCTION_BLOCK LOOPER EVENT_INPUT GO; END_EVENT EVENT_OUTPUT TICKED; END_EVENT
+EC_STATES IDLE; BUSY : -> TICKED; END_STATES
+EC_TRANSITIONS IDLE TO BUSY := GO; BUSY TO BUSY := 1; END_TRANSITIONS END_FUNCTION_BLOCK
+APPLICATION A FBS A : E_MERGE; L : LOOPER; C : E_MERGE; END_FBS END_APPLICATION
+"""
+APART = b"".join(b"[[resource]]\ndevice = 'D'\nname = 'R%d'\ninstances = ['%c']\n" % at for at in zip((1, 2, 3), b"ALC"))
+AT_SEVEN = HEADING + b"7,C.EI1,\n7,L.GO,\n7,A.EI1,\n"
+LOOP_STOPPED = b"7 R1 > A.EI1\n7 R1 < A.EO\n7 R2 > L.GO\n" + 4 * b"7 R2 < L.TICKED\n" + b"stop 7 R2 steps\n"
+FILES |= {"loop": LOOP, "apart": APART, "at_seven": AT_SEVEN}
 KEYED_STOPPED = (
     b"1 0 0 0 MAIN < S.COLD\n3 0 0 0 MAIN > M.EI1\n3 0 0 0 MAIN < M.EO\n3 1 0 0 MAIN > M.EI2\n3 1 0 0 MAIN < M.EO\nstop 0 MAIN steps\n"
 )
@@ -647,6 +669,11 @@ CALLS += [
     *(of(words, 2, err=line, given=text) for text, line in REFUSED for words in ("check -", "run - --horizon 5")),
     of("run nowhere --horizon 1", 3, err=b"file fault\n"),
     *(Call(words, 5, err=None) for words in FAULTS),
+    *(of(words, 5, err=text + MORE) for words, text in TOLD),
+    *(of(f"run loop --deploy apart --stim at_seven --steps 10 --horizon 9 --workers {count}", 1, out=LOOP_STOPPED) for count in (1, 2, 64)),
+    # A fault of a file comes before the refusal of a file that was read before it.
+    of("check cut_lit --deploy - --stim -", 3, err=b"file fault\n"),
+    of("check cycle --stim nowhere", 3, err=b"file fault\n"),
     *(Call(["explain", name], 0, out=None, has=(f"{name}: ", "\nFor example:\n- ", "\nLook at: ")) for name in EXPLAINED),
     *(Call(["explain", name], 5, err=f"error: no refusal or stop is called {name}\n".encode()) for name in NOT_EXPLAINED),
     of("explain E21", 0, out=SLIP_EXPLAINED),

@@ -19,7 +19,7 @@ use Rattle.fb_coverage.specs.declared.marks.Marks.{Marks}
 use Rattle.fb_inspect.specs.Covering.{Covers}
 use Rattle.fb_inspect.specs.declared.walk.Extent.{Extent}
 use Rattle.fb_wave.specs.declared.truncation.Cut.{Cut}
-use Rattle.fbsim_command.specs.Covering.{AreGoneThrough, AreStopped, GoThrough, GoesThrough, IsFirst, IsReport, IsStopped, IsUnreported, MayStop, NotesTrace, RefusesAt, StopsAt, WritesReport, are_several, counted, coverage_text, cut_of, files_of, names_of, note_front}
+use Rattle.fbsim_command.specs.Covering.{AreGoneThrough, AreStopped, GoThrough, GoesThrough, IsFirst, IsReport, IsStopped, IsUnreported, MayStop, NotesTrace, RefusesAt, StopsAt, WritesReport, are_several, cut_count, coverage_text, cut_of, files_of, names_of, note_front}
 use Rattle.fbsim_command.specs.Failures.{WritesPart, failure_of, failure_of_source, numbered_input}
 use Rattle.fbsim_command.specs.InsideNotes.{SaysLine}
 use Rattle.fbsim_command.specs.Notes.{NotesOf}
@@ -76,7 +76,7 @@ refused-at opens is_named from to name line trace BadOption is reported = never 
 -- it is gone through
 pub goes-through :
     {S : Type 0} (opens : Opening S) (i : Inputs) (x : Coverage) (name : Text) (from to : S) (trace : Held) (may : Cut) (old : Gleaned) (marks last : Marks) (extent : Extent) (k n : ℕ) (new : Gleaned)
-    → opens from name (Ok trace) to → may ≡ cut_of x → marks ≡ old.marks → k ≡ old.cut → IfSome trace (λ text. Covers may i x.steps text marks last extent) → n ≡ counted extent k
+    → opens from name (Ok trace) to → may ≡ cut_of x → marks ≡ old.marks → k ≡ old.cut → IfSome trace (λ text. Covers may i x.steps text marks last extent) → n ≡ cut_count extent k
     → new.marks ≡ last → new.cut ≡ n → GoesThrough opens i x name from to old new
 goes-through opens i x name from to trace may old marks last extent k n new opened cuts first count covers counts ends counted_is = record {
   trace = trace;
@@ -86,8 +86,22 @@ goes-through opens i x name from to trace may old marks last extent k n new open
       subst (λ (m : Cut). IfSome trace (λ text. Covers m i x.steps text old.marks new.marks extent)) cuts
       (subst (λ (m : Marks). IfSome trace (λ text. Covers may i x.steps text m new.marks extent)) first
       (subst (λ (m : Marks). IfSome trace (λ text. Covers may i x.steps text marks m extent)) (sym ends) covers));
-  cuts = counted_is ∙ counts ∙ ap (counted extent) count;
+  cuts = counted_is ∙ counts ∙ ap (cut_count extent) count;
 }
+
+-- .. where memory for it is there
+pub goes-on :
+    {S : Type 0} (opens : Opening S) (i : Inputs) (x : Coverage) (name : Text) (from to : S) (trace : Held) (may : Cut) (old : Gleaned) (marks last : Marks) (extent : Extent) (k : ℕ) (r : Result Gleaned Failure)
+    → opens from name (Ok trace) to → may ≡ cut_of x → marks ≡ old.marks → k ≡ old.cut → IfSome trace (λ text. Covers may i x.steps text marks last extent)
+    → IfOk r (λ g. (g.marks ≡ last) × (g.cut ≡ cut_count extent k)) → IfOk r (GoesThrough opens i x name from to old)
+goes-on opens i x name from to trace may old marks last extent k (Err f) opened cuts first count covers is = tt
+goes-on opens i x name from to trace may old marks last extent k (Ok new) opened cuts first count covers is =
+    goes-through opens i x name from to trace may old marks last extent k (cut_count extent k) new opened cuts first count covers refl is.0 is.1
+
+pub stops-for-memory :
+    {S : Type 0} (opens : Opening S) (is_named : Bool) (from to : S) (name : Text) (r : Result Gleaned Failure) → IfErr r (λ f. f ≡ Memory) → IfErr r (IsStopped opens is_named name from to)
+stops-for-memory opens is_named from to name (Ok g) is = tt
+stops-for-memory opens is_named from to name (Err f) is = subst (IsStopped opens is_named name from to) (sym is) tt
 
 -- ---- All traces
 

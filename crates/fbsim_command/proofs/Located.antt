@@ -18,8 +18,7 @@ use Rattle.fb_read_positions.specs.Locations.{IsPlaceAt}
 use Rattle.fb_read_positions.specs.Locations.{IsLocation, IsStretch}
 use Rattle.fb_read_positions.specs.declared.text_locations.TextLocation.{TextLocation}
 use Rattle.fbsim_command.specs.Outcomes.{Held}
-use Rattle.fbsim_command.specs.OwnLines.{IsPlaced}
-use Rattle.fbsim_command.specs.Stops.{IsNoteOfRun, IsNoteOfStop, IsOperatorPlace, IsStopNote, IsStopPlace}
+use Rattle.fbsim_command.specs.Stops.{IsNoteAtStop, IsNoteOfRun, IsNoteOfStop, IsOperatorPlace, IsStopNote, IsStopPlace}
 
 -- one report after another, of which all was taken
 pub hears_after : (old mid new : Held) (first report : List ℕ) (heard : Bool) → Hears true old mid first → Hears heard mid new report → Hears heard old new (first ++ report)
@@ -59,12 +58,12 @@ pub operated : (text : Text) (i : Inputs) (stop : FoundStop) (x : Shown) (o : Op
 operated text i stop x None is located there = tt
 operated text i stop x (Some at) is located there = record { shown = x; is = is; there = there; located = located }
 
--- the note of a place, as that of a stop
-pub noted_at : {A : Type 0} (types : List (List ℕ)) (own lines : List ℕ) (given : Given) (i : Inputs) (stop : FoundStop) (at : TextLocation) (o : Option (String A))
-    → IfSome o (λ note. IsPlaced types own lines at.line at.column (string_bytes note)) → IsStopPlace given.declaration i stop (Some at)
-    → IfSome o (λ note. IsNoteOfStop types own lines given i stop (string_bytes note))
-noted_at types own lines given i stop at None noted place = tt
-noted_at types own lines given i stop at (Some note) noted place = (Some at, string_bytes note, place, noted)
+-- the note with a place, if there is one, as that of a stop
+pub noted_at :
+    {A : Type 0} (types : List (List ℕ)) (own lines : List ℕ) (given : Given) (i : Inputs) (stop : FoundStop) (at : Option TextLocation) (words : List ℕ) (o : Option (String A))
+    → IfSome o (λ note. IsNoteAtStop types own lines at words (string_bytes note)) → IsStopPlace given.declaration i stop at → IfSome o (λ note. IsNoteOfStop types own lines given i stop (string_bytes note))
+noted_at types own lines given i stop at words None noted place = tt
+noted_at types own lines given i stop at words (Some note) noted place = (at, words, place, noted)
 
 -- the note of a stop, as that of the run that stops there
 pub noted_run : {A : Type 0} (types : List (List ℕ)) (own lines : List ℕ) (given : Given) (i : Inputs) (horizon steps : ℕ) (stop : FoundStop) {E : Type 0} (r : Result (Option (String A)) E) → IsStop i horizon steps stop

@@ -9,7 +9,10 @@ use Rattle.fbsim_command.specs.Texts.{given_of, lines_of, may_lines_of}
 use Rattle.fbsim_command.specs.declared.bench_line.Expect.{Expect}
 use Rattle.fbsim_command.specs.declared.texts.Texts.{Texts}
 use Rattle.fbsim_command.specs.Notes.{AreNotesFrom, AreNotesOf, IsNote, IsNoteBy, IsNoteIn, IsNoteOfFindings, IsNoteOfNumber, Notes, more_line, number_of, on_line}
-use Rattle.fbsim_command.specs.InputNotes.{FileNames}
+use Rattle.fbsim_command.specs.InputNotes.{FileNames, IsNoteThere, IsNoteWith}
+use Rattle.std.specs.List.{AllZip}
+use Rattle.fb_why.specs.InputPlaces.{IsPlaceOf}
+use Rattle.fb_why.specs.declared.input_place.Place.{Place}
 use Rattle.fb_why.specs.declared.spot.Spot.{Spot}
 use Rattle.fb_why.specs.Listings.{AreFound}
 use Rattle.fb_why.specs.declared.listing.Findings.{Findings}
@@ -108,3 +111,20 @@ pub plan-noted :
 plan-noted x bytes declared texts n None is noted = tt
 plan-noted x bytes declared texts n (Some t) is noted =
     subst (λ (o : Option Texts). IsNoteAt x bytes (may_lines_of o) (option_map given_of o) n (string_bytes t)) (sym is) (inr (inl (record { given = given_of texts; is = refl; noted = noted })))
+
+-- the note with the place of a finding in an input beside the declaration
+pub noted-there :
+    {A : Type 0} (names : FileNames) (given : Given) (found : PlacedFinding) (place : Option Place) (words : List ℕ) (note : Option (String A)) → IsPlaceOf given.deploy given.stimuli found place
+    → IfSome note (λ t. IsNoteWith names place words (string_bytes t)) → IfSome note (λ t. IsNoteThere names given found.finding.location words (string_bytes t))
+noted-there names given found place words None at is = tt
+noted-there names given found None words (Some t) at is = inr is
+noted-there names given found (Some place) words (Some t) at is = inl (place, at, is)
+
+-- the place of a finding is at the same index
+pub place-at :
+    (given : Given) (fs : List PlacedFinding) (os : List (Option Place)) (i : ℕ) (f : PlacedFinding) (d : Option Place) → AllZip (IsPlaceOf given.deploy given.stimuli) fs os → i < length fs → f ≡ get_or fs i f
+    → IsPlaceOf given.deploy given.stimuli f (get_or os i d)
+place-at given [] os i f d all within is = absurd (omega (arith, within))
+place-at given (g ∷ fs) [] i f d all within is = absurd all
+place-at given (g ∷ fs) (p ∷ os) zero f d all within is = subst (λ (h : PlacedFinding). IsPlaceOf given.deploy given.stimuli h p) (sym is) all.0
+place-at given (g ∷ fs) (p ∷ os) (suc i) f d all within is = place-at given fs os i f d all.1 (omega (arith, within)) is

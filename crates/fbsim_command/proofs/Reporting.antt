@@ -53,6 +53,12 @@ pub ended_so :
     → (x : Text) × Hears a.is_heard err err x × P a.end x (option_map string_bytes a.note)
 ended_so a e is err P p = subst (λ (b : Answer). (x : Text) × Hears b.is_heard err err x × P b.end x (option_map string_bytes b.note)) (sym is) ([], quiet err, p)
 
+pub noted_so :
+    (a b : Answer) → a ≡ b → b.is_heard ≡ true → (err : Held) (P : End → Text → Option Text → Type 0) → P b.end [] (option_map string_bytes b.note)
+    → (x : Text) × Hears a.is_heard err err x × P a.end x (option_map string_bytes a.note)
+noted_so a b is heard err P p =
+    subst (λ (d : Answer). (x : Text) × Hears d.is_heard err err x × P d.end x (option_map string_bytes d.note)) (sym is) ([], subst (λ (h : Bool). Hears h err err []) (sym heard) (quiet err), p)
+
 pub helped : (words : List Text) (old new : Held) (help : Text) → AskHelp words → (r : End) → IfOk r (λ d. (d ≡ Helped) × Appends old new help) → IfErr r (WritesPart old new help) → Explains words old new r
 helped words old new help asked (Ok d) whole part = subst (λ (x : Done). Explains words old new (Ok x)) (sym whole.0) (asked, (help, whole.1))
 helped words old new help asked (Err (Write n)) whole part = (asked, (help, part))

@@ -50,9 +50,9 @@ abbrev pub cut_of : Coverage → Cut
 cut_of x = if x.is_cut then cut.Allowed else cut.Refused
 
 -- one more that is cut off, or not
-abbrev pub counted : Extent → ℕ → ℕ
-counted Whole n = n
-counted CutOff n = n + 1
+abbrev pub cut_count : Extent → ℕ → ℕ
+cut_count Whole n = n
+cut_count CutOff n = n + 1
 
 -- A trace is opened and gone through, and what it covers is marked next to what others covered.
 pub record GoesThrough {S : Type 0} (opens : Opening S) (i : Inputs) (x : Coverage) (name : Text) (from to : S) (old new : Gleaned) : Type 0 where
@@ -60,7 +60,7 @@ pub record GoesThrough {S : Type 0} (opens : Opening S) (i : Inputs) (x : Covera
   pub opened : opens from name (Ok trace) to
   pub extent : Extent
   pub covers : IfSome trace (λ text. Covers (cut_of x) i x.steps text old.marks new.marks extent)
-  pub cuts : new.cut ≡ counted extent old.cut
+  pub cuts : new.cut ≡ cut_count extent old.cut
 
 -- the same of traces, one after the other
 abbrev pub GoThrough : {S : Type 0} → Opening S → Inputs → Coverage → List Text → (from to : S) → (old new : Gleaned) → Type 0

@@ -1,5 +1,5 @@
 -- What is reported of a refusal whose place is in the deployment or in the stimuli (this project's own).
-use Rattle.std.specs.Prelude.{◌≡◌, ◌⊎◌, ℕ, List, Option, Some, option_map}
+use Rattle.std.specs.Prelude.{◌≡◌, ◌⊎◌, ℕ, List, map, Option, Some, None, option_map}
 use Rattle.fb_sim.specs.Given.{Given}
 use Rattle.fb_why.specs.InputPlaces.{IsInputPlace}
 use Rattle.fb_why.specs.declared.input_place.InputFile.{InputFile}
@@ -8,6 +8,7 @@ use Rattle.fb_why.specs.declared.input_place.Place.{Place}
 use Rattle.fb_why.specs.declared.spot.Spot.{Spot}
 use Rattle.fbsim_command.specs.OwnLines.{IsPlacedText}
 use Rattle.fbsim_command.specs.declared.input_notes.InputNames.{InputNames}
+use Rattle.fbsim_command.specs.declared.input_notes.RefusedInputs.{RefusedInputs}
 
 -- the names that a call gives to its deployment and its stimuli
 pub record FileNames : Type 0 where
@@ -17,6 +18,10 @@ pub record FileNames : Type 0 where
 abbrev pub names_of : InputNames → FileNames
 names_of n = record { deploy = option_map (λ d. d.now) n.deploy; stimuli = option_map (λ s. s.now) n.stimuli }
 
+-- the names of the files of block types
+abbrev pub types_in : RefusedInputs → List (List ℕ)
+types_in r = map (λ t. t.now) r.types.now
+
 abbrev pub name_in : FileNames → InputFile → Option (List ℕ)
 name_in names file.Deployment = names.deploy
 name_in names file.Stimuli = names.stimuli
@@ -24,6 +29,11 @@ name_in names file.Stimuli = names.stimuli
 -- The note names the file, the line and the column of the place.
 abbrev pub IsNotedAt : FileNames → Place → (note : List ℕ) → Type 0
 IsNotedAt names place note = (name : List ℕ) × (name_in names place.file ≡ Some name) × IsPlacedText name place.at.line place.at.column note
+
+-- The note is that of the place, or the words where there is none.
+abbrev pub IsNoteWith : FileNames → Option Place → (words note : List ℕ) → Type 0
+IsNoteWith names None words note = note ≡ words
+IsNoteWith names (Some place) words note = IsNotedAt names place note
 
 -- The note is that of the place of the location in the deployment or in the stimuli, or the words.
 abbrev pub IsNoteThere : FileNames → Given → Spot → (words note : List ℕ) → Type 0

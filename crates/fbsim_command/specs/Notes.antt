@@ -2,13 +2,17 @@
 use Rattle.std.specs.Prelude.{◌≡◌, ◌≢◌, ℕ, List, [], ◌∷◌, ◌++◌, All, Bool, true, false, IsTrue, Option, Some, None, Ok, Err, option_map, slice_get, codes, string_bytes}
 use Rattle.fbsim_command.specs.declared.line.Task.{Task}
 use Rattle.fb_sim.specs.Given.{Given}
+use Rattle.fb_why.specs.InputPlaces.{IsPlaceOf}
 use Rattle.fb_why.specs.Listings.{AreFound}
+use Rattle.fb_why.specs.declared.input_place.Place.{Place}
 use Rattle.fb_why.specs.declared.listing.Findings.{Findings}
 use Rattle.fb_why.specs.declared.place.PlacedFinding.{PlacedFinding}
 use Rattle.fb_why.specs.Places.{IsPlacedFinding}
 use Rattle.fb_why.specs.declared.spot.Spot.{Spot}
 use Rattle.fb_read_positions.specs.declared.text_locations.TextLocation.{TextLocation}
-use Rattle.fbsim_command.specs.InputNotes.{FileNames, IsNoteThere}
+use Rattle.fbsim_command.specs.InputNotes.{FileNames, IsNoteThere, names_of, types_in}
+use Rattle.fbsim_command.specs.Texts.{given_of, lines_of}
+use Rattle.fbsim_command.specs.declared.input_notes.RefusedInputs.{RefusedInputs}
 use Rattle.fbsim_command.specs.OwnLines.{IsPlaced}
 use Rattle.fbsim_command.specs.declared.failure.Failure.{Failure}
 use Rattle.fbsim_command.specs.declared.failure.Failure.TheVariants.{Refused}
@@ -97,6 +101,23 @@ more_line false = []
 abbrev pub IsNoteOfFindings : (types : List (List ℕ)) → (own : List ℕ) → FileNames → (lines : List ℕ) → Given → Findings → List ℕ → Type 0
 IsNoteOfFindings types own names lines given f note =
     (f.shown.items ≢ []) × ((text : List ℕ) × AreNotesOf types own names lines given f.shown.items text × (note ≡ text ++ more_line f.more))
+
+-- ---- The same of a refusal
+
+-- The place, if there is one, is that of what was found, in another input than the declaration.
+abbrev pub IsPlaceIn : RefusedInputs → PlacedFinding → Option Place → Type 0
+IsPlaceIn r found place = IsPlaceOf (given_of r.texts.now).deploy (given_of r.texts.now).stimuli found place
+
+abbrev pub IsNoteOfOne : RefusedInputs → PlacedFinding → List ℕ → Type 0
+IsNoteOfOne r found note = IsNoteIn (types_in r) r.own.now (names_of r.names) (lines_of r.texts.now) (given_of r.texts.now) found note
+
+abbrev pub AreNotesOfAll : RefusedInputs → List PlacedFinding → List ℕ → Type 0
+AreNotesOfAll r found text = AreNotesOf (types_in r) r.own.now (names_of r.names) (lines_of r.texts.now) (given_of r.texts.now) found text
+
+abbrev pub IsNoteOfShown : RefusedInputs → Findings → List ℕ → Type 0
+IsNoteOfShown r f note = IsNoteOfFindings (types_in r) r.own.now (names_of r.names) (lines_of r.texts.now) (given_of r.texts.now) f note
+
+-- ---- Refusals by their number
 
 -- The note is that of the findings of this number.
 abbrev pub IsNoteOfNumber : (types : List (List ℕ)) → (own : List ℕ) → FileNames → (lines : List ℕ) → Given → (number : ℕ) → List ℕ → Type 0

@@ -17,7 +17,7 @@ use crate::statuses::Done;
 use crate::texts::read_files;
 use crate::{Action, Coverage, Task};
 use fb_coverage::{Marks, report_of};
-use fb_inspect::{Extent, InspectError, RefusedLine, Terms, cover};
+use fb_inspect::{Covered, Extent, InspectError, RefusedLine, Terms, cover};
 use fb_sim::{Inputs, discard, open};
 use fb_system::System;
 use fb_wave::Cut;
@@ -133,8 +133,8 @@ fn note_of_refusal(
 }
 
 /// One more trace that is cut off, or not. No call names more traces than can be counted.
-fn counted(extent: Extent, cut: u64) -> Result<u64, Failure>
-    ensures count { IfOk result (λ n. n ≡ spec.counted extent cut) }
+fn cut_count(extent: Extent, cut: u64) -> Result<u64, Failure>
+    ensures count { IfOk result (λ n. n ≡ spec.cut_count extent cut) }
     ensures memory { IfErr result (λ failure. failure ≡ Failure.Memory) }
 {
     match extent {
@@ -144,6 +144,18 @@ fn counted(extent: Extent, cut: u64) -> Result<u64, Failure>
             None => Err(Failure::Memory),
         },
     }
+}
+
+/// What is gleaned, after a trace that covers this, and after this number of traces that are cut off before it.
+fn gleaned_with(covered: Covered, cut: u64) -> Result<Gleaned, Failure>
+    ensures gleaned { IfOk result (λ g. (g.marks ≡ covered.marks) × (g.cut ≡ spec.cut_count covered.extent cut)) }
+    ensures memory { IfErr result (λ failure. failure ≡ Failure.Memory) }
+{
+    let cut = cut_count(covered.extent, cut)?;
+    Ok(Gleaned {
+        marks: covered.into_marks(),
+        cut,
+    })
 }
 
 /// Opens a trace, and gleans from it what it covers next to what others covered.
@@ -168,13 +180,7 @@ fn cover_one<S: Streams>(
     };
     let (marks, cut) = gleaned.parts();
     match cover(alloc, system, terms, marks, &mut refused, &mut trace) {
-        Ok(covered) => {
-            let cut = counted(covered.extent, cut)?;
-            Ok(Gleaned {
-                marks: covered.into_marks(),
-                cut,
-            })
-        }
+        Ok(covered) => gleaned_with(covered, cut),
         Err(InspectError::Refused(line)) => {
             *note = note_of_refusal(alloc, coverage, name, system, line, &refused);
             Err(refusal_of(alloc, are_several(coverage), name, line))
@@ -289,8 +295,8 @@ fn write_report<S: Streams, W: Write>(
     Ok(Done::Shown)
 }
 
-/// Reads the files of a call and its traces, and writes what they cover. It says how that ends, and what is reported after
-/// the line of a failure.
+/// Reads the files of a call and its traces, and writes what they cover. It says how that ends, and what is reported
+/// after the line of a failure.
 pub(crate) fn show_coverage<S: Source + Streams, W: Write>(
     alloc: Global,
     types: &[&str],

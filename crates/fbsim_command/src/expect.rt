@@ -259,8 +259,8 @@ fn end_of(
     )
 }
 
-/// Reads rules, and holds them against traces. It writes a point for each trace and each rule once all were read. It says
-/// how that ends, and what is reported after the line of a failure.
+/// Reads rules, and holds them against traces. It writes a point for each trace and each rule once all were read. It
+/// says how that ends, and what is reported after the line of a failure.
 pub(crate) fn expect<S: Source + Streams, W: Write>(
     alloc: Global,
     expect: &Expect<'_>,

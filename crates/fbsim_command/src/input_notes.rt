@@ -1,13 +1,12 @@
 //! What is reported of a refusal whose place is in the deployment or in the stimuli.
 
 ghost use Rattle.std.specs.Prelude.{◌≡◌, IfSome, option_map, string_bytes};
-ghost use Rattle.fbsim_command.specs.InputNotes.{IsNotedAt, IsNoteThere, name_in, names_of};
-ghost use Rattle.fbsim_command.specs.Texts.{given_of};
+ghost use Rattle.fbsim_command.specs.InputNotes.{IsNotedAt, IsNoteWith, name_in, names_of};
 
 use crate::notes::matter_at;
 use crate::own_lines::placed;
 use crate::texts::Texts;
-use fb_why::{InputFile, Place, Spot, place_in_inputs};
+use fb_why::{InputFile, Place};
 use std::alloc::Global;
 
 /// The names that a call gives to its deployment and its stimuli, where it gives some.
@@ -15,6 +14,18 @@ use std::alloc::Global;
 pub struct InputNames<'a> {
     pub deploy: Option<&'a str>,
     pub stimuli: Option<&'a str>,
+}
+
+/// A refusal: its number, and the inputs with the names that the call gives them.
+#[derive(Clone, Copy)]
+pub(crate) struct RefusedInputs<'a> {
+    pub(crate) number: u8,
+    /// The names of the files of block types.
+    pub(crate) types: &'a [&'a str],
+    /// The name of the declaration.
+    pub(crate) own: &'a str,
+    pub(crate) names: InputNames<'a>,
+    pub(crate) texts: &'a Texts,
 }
 
 /// The name of an input.
@@ -36,38 +47,28 @@ fn bytes_in(texts: &Texts, file: InputFile) -> Option<&[u8]> {
 }
 
 /// The note for a place in an input.
-fn note_at(
-    alloc: Global,
-    names: &InputNames<'_>,
-    number: u8,
-    texts: &Texts,
-    place: Place,
-    words: &str,
-) -> Option<String>
-    ensures { IfSome result (λ note. IsNotedAt (names_of names.now) place (string_bytes note)) }
+fn note_at(alloc: Global, refused: &RefusedInputs<'_>, place: Place, words: &str) -> Option<String>
+    ensures { IfSome result (λ note. IsNotedAt (names_of refused.now.names) place (string_bytes note)) }
 {
-    let name = name_in(names, place.file)?;
-    let bytes = bytes_in(texts, place.file)?;
-    match matter_at(alloc, number, words, bytes, place.at) {
+    let name = name_in(&refused.names, place.file)?;
+    let bytes = bytes_in(refused.texts, place.file)?;
+    match matter_at(alloc, refused.number, words, bytes, place.at) {
         Ok(matter) => placed(alloc, name, place.at.line, place.at.column, matter.as_str()),
         Err(_) => None,
     }
 }
 
-/// The note for a location that is not in the declaration: with its place, if it has one.
+/// The note with the place, if there is one, and else the words.
 pub(crate) fn note_there(
     alloc: Global,
-    names: &InputNames<'_>,
-    number: u8,
-    texts: &Texts,
-    location: Spot,
+    refused: &RefusedInputs<'_>,
+    place: Option<Place>,
     words: String,
 ) -> Option<String>
-    ensures { IfSome result (λ note. IsNoteThere (names_of names.now) (given_of texts.now) location (string_bytes words) (string_bytes note)) }
+    ensures { IfSome result (λ note. IsNoteWith (names_of refused.now.names) place (string_bytes words) (string_bytes note)) }
 {
-    match place_in_inputs(alloc, texts.deployment(), texts.rows(), location) {
-        Ok(Some(place)) => note_at(alloc, names, number, texts, place, words.as_str()),
-        Ok(None) => Some(words),
-        Err(_) => None,
+    match place {
+        Some(place) => note_at(alloc, refused, place, words.as_str()),
+        None => Some(words),
     }
 }

@@ -11,8 +11,8 @@ use fb_inspect::{InspectError, RefusedLine, fault_of, finding_message, line_mess
 use fb_system::System;
 use std::alloc::Global;
 
-/// What is wrong with a line at which a trace is refused: as a line of the system, or else as one that the reactions give.
-/// It is empty where that is not known, or without memory for it.
+/// What is wrong with a line at which a trace is refused: as a line of the system, or else as one that the reactions
+/// give. It is empty where that is not known, or without memory for it.
 fn words_of(alloc: Global, system: &System, refused: &RefusedLine) -> String {
     let words = match fault_of(system, &refused.current) {
         Some(fault) => line_message(alloc, system, &refused.current, fault),
@@ -34,8 +34,8 @@ fn note_with(alloc: Global, front: &str, line: u64, words: &str) -> Option<Strin
     }
 }
 
-/// The note to a line at which a trace is refused, which begins so, if that is asked for. Without memory for it, or where
-/// nothing is known, there is none.
+/// The note to a line at which a trace is refused, which begins so, if that is asked for. Without memory for it, or
+/// where nothing is known, there is none.
 pub(crate) fn note_of_inside(
     alloc: Global,
     why: bool,

@@ -90,8 +90,8 @@ fn go<R: BufRead, W: Write>(
     fb_inspect::inspect(alloc, system, inspection, refused, trace, out)
 }
 
-/// Reads a trace of what is declared, and writes it with what happens inside its blocks. It says how that ends, and what is
-/// reported of the line at which the trace is refused.
+/// Reads a trace of what is declared, and writes it with what happens inside its blocks. It says how that ends, and
+/// what is reported of the line at which the trace is refused.
 fn write_inspected<R: BufRead, W: Write>(
     alloc: Global,
     inputs: &Inputs<'_>,

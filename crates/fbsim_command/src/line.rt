@@ -28,8 +28,8 @@ use std::alloc::{AllocError, Global};
 pub enum Call<'a> {
     /// Explains the refusal or the reason with this name, such as `E21` or `divide`, in any letter case.
     Explain(&'a str),
-    /// Checks or runs an application. The names are those of the files of block types that are read before the declaration,
-    /// in their order, here and below.
+    /// Checks or runs an application. The names are those of the files of block types that are read before the
+    /// declaration, in their order, here and below.
     Task(Task<'a>, Vec<&'a str>),
     /// Shows a trace as waveforms.
     Wave(Wave<'a>, Vec<&'a str>),

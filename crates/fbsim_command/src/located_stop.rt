@@ -5,7 +5,7 @@ ghost use Rattle.fb_types.specs.Headline.{Inputs};
 ghost use Rattle.fb_sim.specs.Reports.{Hears};
 ghost use Rattle.fb_sim.specs.Serial.{Declares};
 ghost use Rattle.fb_stop.specs.Shown.{IsStopShown};
-ghost use Rattle.fbsim_command.specs.Stops.{AsksWhere, IsNoteOfRun, IsNoteOfStop, IsOperatorPlace, IsStopNote, IsStopPlace, ReportsStop};
+ghost use Rattle.fbsim_command.specs.Stops.{AsksWhere, IsNoteAtStop, IsNoteOfRun, IsNoteOfStop, IsOperatorPlace, IsStopNote, IsStopPlace, ReportsStop};
 ghost use Rattle.fbsim_command.specs.Texts.{given_of, lines_of};
 
 use crate::failure::Failure;
@@ -58,7 +58,44 @@ fn place_of(
     }
 }
 
-/// The note of a stop: its place, its words, the source line with a mark, and where the steps ran out, how they were used.
+/// What is the matter at a stop: its words, the source line with a mark, if it has a place, and where the steps ran
+/// out, how they were used.
+fn matter_of(
+    alloc: Global,
+    declaration: &[u8],
+    at: Option<TextLocation>,
+    words: &str,
+    spent: &str,
+) -> Result<String, AllocError> {
+    let Some(at) = at else {
+        return Ok(format!(in alloc; "{words}{spent}")?);
+    };
+    let source = excerpt(alloc, declaration, at)?;
+    Ok(format!(in alloc; "{words}\n{source}{spent}")?)
+}
+
+/// The note of what is the matter, with its place, if it has one.
+fn note_with(
+    alloc: Global,
+    types: &[&str],
+    own: &str,
+    texts: &Texts,
+    at: Option<TextLocation>,
+    matter: String,
+) -> Option<String>
+    ensures { IfSome result (λ note. IsNoteAtStop (map (λ t. t.now) types.now) own.now (lines_of texts.now) at (string_bytes matter) (string_bytes note)) }
+{
+    match at {
+        Some(at) => {
+            let lines = texts.lines.as_slice();
+            note_at(alloc, types, own, lines, at, matter.as_str())
+        }
+        None => Some(matter),
+    }
+}
+
+/// The note of a stop: its place, its words, the source line with a mark, and where the steps ran out, how they were
+/// used.
 fn note_of_found(
     alloc: Global,
     types: &[&str],
@@ -73,20 +110,11 @@ fn note_of_found(
 {
     let declaration = texts.declaration.as_slice();
     let shown = shown_of(alloc, declaration, system, stop)?;
+    let at = place_of(alloc, declaration, system, stop, shown)?;
     let words = words_of(alloc, system, stop, declaration, shown)?;
     let spent = spent_words(alloc, system, horizon, steps, stop)?;
-    match place_of(alloc, declaration, system, stop, shown)? {
-        Some(at) => {
-            let source = excerpt(alloc, declaration, at)?;
-            let matter = format!(in alloc; "{words}\n{source}{spent}")?;
-            let lines = texts.lines.as_slice();
-            Ok(note_at(alloc, types, own, lines, at, matter.as_str()))
-        }
-        None => {
-            let matter = format!(in alloc; "{words}{spent}")?;
-            Ok(Some(matter))
-        }
-    }
+    let matter = matter_of(alloc, declaration, at, words.as_str(), spent.as_str())?;
+    Ok(note_with(alloc, types, own, texts, at, matter))
 }
 
 /// The note of the stop of a system, if it stops below the horizon.

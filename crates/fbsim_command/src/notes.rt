@@ -1,19 +1,20 @@
 //! What is reported after the line of a failure: its place.
 
 ghost use Rattle.std.specs.Prelude.{◌≡◌, ◌++◌, IfOk, IfSome, map, option_map, string_bytes};
-ghost use Rattle.fbsim_command.specs.Notes.{AreNotesOf, IsFileNote, IsMatter, IsNote, IsNoteIn, IsNoteOfFindings, IsNoteOfName, IsNoteOfNumber, Notes, file_word, input_names, name_of, number_of, on_line, IsUnreadable};
-ghost use Rattle.fbsim_command.specs.InputNotes.{IsNoteThere, names_of};
+ghost use Rattle.fbsim_command.specs.Notes.{AreNotesOfAll, IsFileNote, IsMatter, IsNote, IsNoteOfName, IsNoteOfNumber, IsNoteOfOne, IsNoteOfShown, IsPlaceIn, Notes, file_word, input_names, name_of, number_of, on_line, IsUnreadable};
+ghost use Rattle.std.specs.List.{AllZip};
+ghost use Rattle.fbsim_command.specs.InputNotes.{IsNoteThere, names_of, types_in};
 ghost use Rattle.fbsim_command.specs.OwnLines.{IsPlaced};
 ghost use Rattle.fbsim_command.specs.Texts.{given_of, lines_of};
 
 use crate::Task;
 use crate::failure::{Failure, RefusalLine};
-use crate::input_notes::{InputNames, note_there};
+use crate::input_notes::{InputNames, RefusedInputs, note_there};
 use crate::own_lines::note_at;
 use crate::sources::SourceFault;
 use crate::texts::{Part, Texts, Unread};
 use fb_read_positions::{TextLocation, excerpt};
-use fb_why::{Findings, PlacedFinding, discard_findings, findings_of};
+use fb_why::{Findings, Place, PlacedFinding, discard_findings, findings_of, places_in_inputs};
 use std::alloc::{AllocError, Global};
 
 /// The number of a fault of the grammar, whose line says where it is also.
@@ -122,22 +123,22 @@ pub(crate) fn matter_at(
     Ok(format!(in alloc; "E{tens}{ones}: {words}\n{source}")?)
 }
 
-/// The note for a place at which the refusal of this number applies.
+/// The note for a place at which the refusal applies.
 fn note_at_place(
     alloc: Global,
-    types: &[&str],
-    own: &str,
-    number: u8,
-    texts: &Texts,
+    refused: &RefusedInputs<'_>,
     at: TextLocation,
     words: &str,
 ) -> Option<String>
-    ensures { IfSome result (λ note. IsPlaced (map (λ t. t.now) types.now) own.now (lines_of texts.now) at.line at.column (string_bytes note)) }
+    ensures { IfSome result (λ note. IsPlaced (types_in refused.now) refused.now.own.now (lines_of refused.now.texts.now) at.line at.column (string_bytes note)) }
 {
-    let declaration = texts.declaration.as_slice();
-    let lines = texts.lines.as_slice();
-    match matter_at(alloc, number, words, declaration, at) {
-        Ok(matter) => note_at(alloc, types, own, lines, at, matter.as_str()),
+    let declaration = refused.texts.declaration.as_slice();
+    let lines = refused.texts.lines.as_slice();
+    match matter_at(alloc, refused.number, words, declaration, at) {
+        Ok(matter) => {
+            let matter = matter.as_str();
+            note_at(alloc, refused.types, refused.own, lines, at, matter)
+        }
         Err(_) => None,
     }
 }
@@ -152,38 +153,33 @@ fn copied(text: &String) -> Option<String>
     }
 }
 
-/// The note for what was found elsewhere than in the declaration.
+/// The note for what was found elsewhere than in the declaration: at this place, if it has one.
 fn note_elsewhere(
     alloc: Global,
-    names: &InputNames<'_>,
-    number: u8,
-    texts: &Texts,
+    refused: &RefusedInputs<'_>,
     found: &PlacedFinding,
+    place: Option<Place>,
 ) -> Option<String>
-    ensures { IfSome result (λ note. IsNoteThere (names_of names.now) (given_of texts.now) found.now.finding.location (string_bytes found.now.finding.text) (string_bytes note)) }
+    requires { IsPlaceIn refused.now found.now place }
+    ensures { IfSome result (λ note. IsNoteThere (names_of refused.now.names) (given_of refused.now.texts.now) found.now.finding.location (string_bytes found.now.finding.text) (string_bytes note)) }
 {
     let words = copied(&found.finding.text)?;
-    note_there(alloc, names, number, texts, found.finding.location, words)
+    note_there(alloc, refused, place, words)
 }
 
-/// The note for what was found, with its place.
+/// The note for what was found, with its place: in the declaration, or else this one in another input.
 fn note_of_finding(
     alloc: Global,
-    types: &[&str],
-    own: &str,
-    names: &InputNames<'_>,
-    number: u8,
-    texts: &Texts,
+    refused: &RefusedInputs<'_>,
     found: &PlacedFinding,
+    place: Option<Place>,
 ) -> Option<String>
-    ensures { IfSome result (λ note. IsNoteIn (map (λ t. t.now) types.now) own.now (names_of names.now) (lines_of texts.now) (given_of texts.now) found.now (string_bytes note)) }
+    requires { IsPlaceIn refused.now found.now place }
+    ensures { IfSome result (λ note. IsNoteOfOne refused.now found.now (string_bytes note)) }
 {
     match found.place {
-        Some(at) => {
-            let words = found.finding.text.as_str();
-            note_at_place(alloc, types, own, number, texts, at, words)
-        }
-        None => note_elsewhere(alloc, names, number, texts, found),
+        Some(at) => note_at_place(alloc, refused, at, found.finding.text.as_str()),
+        None => note_elsewhere(alloc, refused, found, place),
     }
 }
 
@@ -207,43 +203,49 @@ fn with_note(mut text: String, is_first: bool, note: &str) -> Option<String>
     }
 }
 
-/// The notes of all that was found, each on a line of its own.
-fn notes_of(
+/// The notes of all that was found, each on a line of its own. The place at the index of a finding is that in another
+/// input than the declaration, if it has one there.
+fn notes_at(
     alloc: Global,
-    types: &[&str],
-    own: &str,
-    names: &InputNames<'_>,
-    number: u8,
-    texts: &Texts,
+    refused: &RefusedInputs<'_>,
     shown: &[PlacedFinding],
+    places: &[Option<Place>],
 ) -> Option<String>
-    ensures { IfSome result (λ note. AreNotesOf (map (λ t. t.now) types.now) own.now (names_of names.now) (lines_of texts.now) (given_of texts.now) shown.now (string_bytes note)) }
+    requires { AllZip (IsPlaceIn refused.now) shown.now places.now }
+    ensures { IfSome result (λ note. AreNotesOfAll refused.now shown.now (string_bytes note)) }
 {
     let mut text = String::new(alloc);
     for (index, found) in shown.iter().enumerate() {
-        let note = note_of_finding(alloc, types, own, names, number, texts, found)?;
+        let note = note_of_finding(alloc, refused, found, places[index])?;
         text = with_note(text, index == 0, note.as_str())?;
     }
     Some(text)
 }
 
-/// The notes of the findings of a number, and whether there are more. If nothing was found, there is none.
+/// The notes of all that was found, each on a line of its own.
+fn notes_of(alloc: Global, refused: &RefusedInputs<'_>, shown: &[PlacedFinding]) -> Option<String>
+    ensures { IfSome result (λ note. AreNotesOfAll refused.now shown.now (string_bytes note)) }
+{
+    let texts = refused.texts;
+    match places_in_inputs(alloc, texts.deployment(), texts.rows(), shown) {
+        Ok(places) => notes_at(alloc, refused, shown, places.as_slice()),
+        Err(_) => None,
+    }
+}
+
+/// The notes of the findings, and whether there are more. If nothing was found, there is none.
 fn note_of_findings(
     alloc: Global,
-    types: &[&str],
-    own: &str,
-    names: &InputNames<'_>,
-    number: u8,
-    texts: &Texts,
+    refused: &RefusedInputs<'_>,
     findings: &Findings,
 ) -> Option<String>
-    ensures { IfSome result (λ note. IsNoteOfFindings (map (λ t. t.now) types.now) own.now (names_of names.now) (lines_of texts.now) (given_of texts.now) findings.now (string_bytes note)) }
+    ensures { IfSome result (λ note. IsNoteOfShown refused.now findings.now (string_bytes note)) }
 {
     let shown = findings.shown.as_slice();
     if shown.is_empty() {
         return None;
     }
-    let text = notes_of(alloc, types, own, names, number, texts, shown)?;
+    let text = notes_of(alloc, refused, shown)?;
     if findings.more {
         with_note(text, false, "and more")
     } else {
@@ -262,10 +264,17 @@ pub(crate) fn note_of_number(
 ) -> Option<String>
     ensures { IfSome result (λ note. IsNoteOfNumber (map (λ t. t.now) types.now) own.now (names_of names.now) (lines_of texts.now) (given_of texts.now) number (string_bytes note)) }
 {
+    let refused = RefusedInputs {
+        number,
+        types,
+        own,
+        names: *names,
+        texts,
+    };
     let declaration = texts.declaration.as_slice();
     match findings_of(alloc, number, declaration, texts.deployment(), texts.rows()) {
         Ok(findings) => {
-            let note = note_of_findings(alloc, types, own, names, number, texts, &findings);
+            let note = note_of_findings(alloc, &refused, &findings);
             discard_findings(findings);
             note
         }

@@ -1,4 +1,5 @@
-//! Refusals of a declaration in several files: the name of the file and the line in it, in place of the line of the whole.
+//! Refusals of a declaration in several files: the name of the file and the line in it, in place of the line of the
+//! whole.
 
 ghost use Rattle.std.specs.Prelude.{◌≡◌, IfSome, map, string_bytes};
 ghost use Rattle.fbsim_command.specs.OwnLines as spec;
@@ -42,8 +43,8 @@ fn syntax_line(end: &Result<Done, Failure>) -> Option<u32>
     }
 }
 
-/// How a call ends of which the declaration is in files of these names, with this many lines each. Without lines it is in one
-/// file.
+/// How a call ends of which the declaration is in files of these names, with this many lines each. Without lines it is
+/// in one file.
 pub(crate) fn end_in(
     alloc: Global,
     types: &[&str],
@@ -88,8 +89,8 @@ pub(crate) fn placed(
     }
 }
 
-/// The note for a place in the text of a declaration in files of these names, with this many lines each. Without lines it
-/// is in one file.
+/// The note for a place in the text of a declaration in files of these names, with this many lines each. Without lines
+/// it is in one file.
 pub(crate) fn note_at(
     alloc: Global,
     types: &[&str],

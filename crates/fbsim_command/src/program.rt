@@ -118,6 +118,18 @@ fn ended(end: Result<Done, Failure>) -> Answer
     }
 }
 
+/// The answer of what ended so, with this note and nothing reported before.
+fn ended_with(ended: (Result<Done, Failure>, Option<String>)) -> Answer
+    ensures { result ≡ record { end = ended.0; is_heard = true; note = ended.1 } }
+{
+    let (end, note) = ended;
+    Answer {
+        end,
+        is_heard: true,
+        note,
+    }
+}
+
 /// Does with the files what a task asks for. It says how that ends, and whether standard error took all reports
 /// meanwhile.
 fn meet<R: Threads + Wait + Sync, C: Clock + CpuClock, W: Write, E: Write>(
@@ -280,41 +292,23 @@ fn obey<'w, R: Threads + Wait + Sync, C: Clock + CpuClock, S: Source + Streams, 
             perform(rt, clock, alloc, types.as_slice(), &task, source, out, err)
         }
         Ok(Call::Explain(name)) => ended(explain_to(alloc, name, out)),
-        Ok(Call::Wave(wave, types)) => {
-            let (end, note) = show(alloc, types.as_slice(), &wave, source, out);
-            Answer {
-                end,
-                is_heard: true,
-                note,
-            }
-        }
-        Ok(Call::Expect(call)) => {
-            let (end, note) = expect(alloc, &call, source, out);
-            Answer {
-                end,
-                is_heard: true,
-                note,
-            }
-        }
+        Ok(Call::Wave(wave, types)) => ended_with(show(
+            alloc,
+            types.as_slice(),
+            &wave,
+            source,
+            out,
+        )),
+        Ok(Call::Expect(call)) => ended_with(expect(alloc, &call, source, out)),
         Ok(Call::Diff(call)) => ended(diff(alloc, &call, source, out)),
         Ok(Call::Draw(call, types)) => {
             ended(show_graph(alloc, types.as_slice(), &call, source, out))
         }
         Ok(Call::Inspect(call, types)) => {
-            let (end, note) = show_insides(alloc, types.as_slice(), &call, source, out);
-            Answer {
-                end,
-                is_heard: true,
-                note,
-            }
+            ended_with(show_insides(alloc, types.as_slice(), &call, source, out))
         }
         Ok(Call::Coverage(call, types)) => {
-            let (end, note) = show_coverage(alloc, types.as_slice(), &call, source, out);
-            Answer {
-                end,
-                is_heard: true,
-                note,
-            }
+            ended_with(show_coverage(alloc, types.as_slice(), &call, source, out))
         }
         Err(LineFault::Help(text)) => ended(help_to(text.as_str(), out)),
         Err(LineFault::Fault(text)) => ended(Err(Failure::Line(text))),

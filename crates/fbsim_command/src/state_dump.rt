@@ -12,8 +12,8 @@ use fb_sim::{Inputs, discard, open};
 use std::alloc::Global;
 use std::io::{BufRead, Write};
 
-/// Reads a trace of what is declared, and writes its waveforms with the inside of basic blocks. It says how that ends, and
-/// what is reported of the line at which the trace is refused.
+/// Reads a trace of what is declared, and writes its waveforms with the inside of basic blocks. It says how that ends,
+/// and what is reported of the line at which the trace is refused.
 pub(crate) fn dump_states<R: BufRead, W: Write>(
     alloc: Global,
     why: bool,

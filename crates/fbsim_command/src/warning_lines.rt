@@ -122,7 +122,7 @@ fn lines_at(
     Ok(text)
 }
 
-/// The lines of warnings, with their places in the text of the declaration, which is read once more for all of them.
+/// The lines of warnings, with their places in the text of the declaration, which is read again for all of them.
 pub(crate) fn all_lines(
     alloc: Global,
     naming: &Naming<'_, '_, '_>,

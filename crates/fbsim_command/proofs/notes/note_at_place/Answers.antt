@@ -1,9 +1,11 @@
-use Rattle.std.proofs.Common.{List, ℕ, map, string_bytes, subst}
+use Rattle.std.proofs.Common.{List, ℕ, string_bytes, subst}
 use Rattle.std.specs.Prelude.{IfSome}
+use Rattle.fbsim_command.specs.InputNotes.{types_in}
 use Rattle.fbsim_command.specs.OwnLines.{IsPlaced}
 use Rattle.fbsim_command.proofs.notes.note_at_place.Goals as goal
 
 pub returns-in-Ok : goal.returns-in-Ok
 returns-in-Ok c =
-    subst (λ (lines : List ℕ). IfSome c.note_at.result (λ note. IsPlaced (map (λ t. t.now) c.args.types.now) c.args.own.now lines c.args.at.line c.args.at.column (string_bytes note)))
+    let refused = c.args.refused.now in
+    subst (λ (lines : List ℕ). IfSome c.note_at.result (λ note. IsPlaced (types_in refused) refused.own.now lines c.args.at.line c.args.at.column (string_bytes note)))
     c.as_slice-lines.ensures.value c.note_at.ensures

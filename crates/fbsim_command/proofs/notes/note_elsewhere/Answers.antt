@@ -2,9 +2,12 @@ use Rattle.std.proofs.Common.{List, ℕ, string_bytes, subst}
 use Rattle.std.specs.Prelude.{IfSome}
 use Rattle.fbsim_command.specs.InputNotes.{IsNoteThere, names_of}
 use Rattle.fbsim_command.specs.Texts.{given_of}
+use Rattle.fbsim_command.proofs.Noting.{noted-there}
 use Rattle.fbsim_command.proofs.notes.note_elsewhere.Goals as goal
 
 pub returns : goal.returns
 returns c =
-    subst (λ (w : List ℕ). IfSome c.note_there.result (λ note. IsNoteThere (names_of c.args.names.now) (given_of c.args.texts.now) c.args.found.now.finding.location w (string_bytes note)))
-    c.in_ok-words.ensures c.note_there.ensures
+    let refused = c.args.refused.now in
+    subst (λ (w : List ℕ). IfSome c.note_there.result (λ note. IsNoteThere (names_of refused.names) (given_of refused.texts.now) c.args.found.now.finding.location w (string_bytes note)))
+    c.in_ok-words.ensures
+    (noted-there (names_of refused.names) (given_of refused.texts.now) c.args.found.now c.args.place (string_bytes c.in_ok-words.words) c.note_there.result c.requires c.note_there.ensures)

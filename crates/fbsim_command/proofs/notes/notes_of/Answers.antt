@@ -1,21 +1,17 @@
-use Rattle.std.proofs.Common.{Bor, List, ℕ, ◌++◌, ◌∙◌, ap, map, refl, string_bytes, subst}
-use Rattle.std.specs.Prelude.{nat_eq}
-use Rattle.std.proofs.lemmas.List.{take_all}
-use Rattle.fb_why.specs.declared.place.PlacedFinding.{PlacedFinding}
-use Rattle.fbsim_command.specs.Notes.{AreNotesOf, on_line}
-use Rattle.fbsim_command.specs.InputNotes.{names_of}
-use Rattle.fbsim_command.specs.Texts.{given_of, lines_of}
-use Rattle.fbsim_command.proofs.Noting.{notes_more}
+use Rattle.std.proofs.Common.{Bor, List, ℕ, Option, option_map, subst, sym}
+use Rattle.std.specs.List.{AllZip}
+use Rattle.fb_why.specs.InputPlaces.{IsPlaceOf}
+use Rattle.fb_why.specs.declared.input_place.Place.{Place}
+use Rattle.fbsim_command.specs.Notes.{IsPlaceIn}
+use Rattle.fbsim_command.specs.Texts.{given_of}
 use Rattle.fbsim_command.proofs.notes.notes_of.Goals as goal
 
-pub loop-index-preserved : goal.loop-index-preserved
-loop-index-preserved c =
-    notes_more (map (λ (t : Bor (List ℕ)). t.now) c.args.types.now) c.args.own.now (names_of c.args.names.now) (lines_of c.args.texts.now) (given_of c.args.texts.now) c.args.shown.now c.loop-index.index
-    c.index-shown-index.result (nat_eq c.loop-index.index 0) (string_bytes c.loop-index.text) (string_bytes c.in_ok-note.note) (string_bytes c.in_ok-text.text) c.loop-index-test.true c.index-shown-index.is refl
-    c.loop-index.invariant c.in_ok-note.ensures
-    (c.in_ok-text.ensures ∙ ap (λ (n : List ℕ). string_bytes c.loop-index.text ++ on_line (nat_eq c.loop-index.index 0) n) c.as_str.ensures.value)
-
-pub returns : goal.returns
-returns c =
-    subst (λ (fs : List PlacedFinding). AreNotesOf (map (λ (t : Bor (List ℕ)). t.now) c.args.types.now) c.args.own.now (names_of c.args.names.now) (lines_of c.args.texts.now) (given_of c.args.texts.now) fs (string_bytes c.loop-index.text))
-    (take_all c.loop-index.index c.args.shown.now c.loop-index-test.false) c.loop-index.invariant
+pub notes_at-requires : goal.notes_at-requires
+notes_at-requires c =
+    let given = given_of c.args.refused.now.texts.now in
+    let rows = option_map (λ (b : Bor (List ℕ)). b.now) c.rows.result in
+    let found = c.args.shown.now in
+    let places = c.in-Ok.places.items in
+    subst (λ (ps : List (Option Place)). AllZip (IsPlaceIn c.args.refused.now) found ps) (sym c.as_slice.ensures.value)
+    (subst (λ (s : Option (List ℕ)). AllZip (IsPlaceOf given.deploy s) found places) c.rows.ensures
+    (subst (λ (d : Option (List ℕ)). AllZip (IsPlaceOf d rows) found places) c.deployment.ensures c.in-Ok.ensures))

@@ -1,4 +1,4 @@
-use Rattle.std.proofs.Common.{Bor, List, [], ℕ, Option, Err, map, option_map, string_bytes, inl, inr, refl, sym, subst}
+use Rattle.std.proofs.Common.{Bor, List, ℕ, Option, Err, map, option_map, string_bytes, inl, inr, refl, sym, subst}
 use Rattle.clap.specs.Words.{Text}
 use Rattle.fbsim_command.specs.Line.{AreCall, IsFault, IsHelp}
 use Rattle.fbsim_command.specs.declared.line.LineFault.{LineFault}
@@ -10,7 +10,7 @@ use Rattle.fbsim_command.specs.Inspecting.{ShowsInsides}
 use Rattle.fbsim_command.specs.Showing.{Shows}
 use Rattle.fbsim_command.specs.Outcomes.{End}
 use Rattle.fbsim_command.specs.declared.failure.Failure.TheVariants.{Line, Memory}
-use Rattle.fbsim_command.proofs.Reporting.{ended_so, helped, quiet}
+use Rattle.fbsim_command.proofs.Reporting.{ended_so, helped, noted_so}
 use Rattle.fbsim_command.proofs.program.obey.Goals as goal
 
 pub returns-in-Ok-Task : goal.returns-in-Ok-Task
@@ -36,15 +36,19 @@ pub returns-in-Ok-Wave : goal.returns-in-Ok-Wave
 returns-in-Ok-Wave g c =
     let words = map (λ (w : Bor (List ℕ)). w.now) c.args.words.now in
     let asked = subst (λ (r : Call). AreCall words r) c.in-Ok-Wave.field-0-is c.in-Ok-Wave.ensures.call in
-    let shown = subst (λ (ns : List (Bor Text)). Shows g.S.Source.gives g.S.Streams.opens c.args.source.now c.show-end.new.source (map (λ (n : Bor Text). n.now) ns) c.in-Ok-Wave.wave
-    (g.W.Write.contents c.args.out.now) (g.W.Write.contents c.show-end.new.out) c.show-end.result.0 (option_map string_bytes c.show-end.result.1)) c.as_slice-in-Ok-Wave.ensures.value c.show-end.ensures in
-    ([], quiet (g.E.Write.contents c.args.err.now), inr (inl (c.in-Ok-Wave.wave, c.in-Ok-Wave.types, asked, c.in-Ok-Wave.ensures.taken, shown, refl)))
+    let shown = subst (λ (ns : List (Bor Text)). Shows g.S.Source.gives g.S.Streams.opens c.args.source.now c.show.new.source (map (λ (n : Bor Text). n.now) ns) c.in-Ok-Wave.wave
+    (g.W.Write.contents c.args.out.now) (g.W.Write.contents c.show.new.out) c.show.result.0 (option_map string_bytes c.show.result.1)) c.as_slice-in-Ok-Wave.ensures.value c.show.ensures in
+    noted_so c.ended_with.result _ c.ended_with.ensures refl (g.E.Write.contents c.args.err.now)
+    (λ (end : End) (reports : Text) (note : Option Text). Does g.S.Source.gives g.S.Streams.opens c.args.source.now c.show.new.source words (g.W.Write.contents c.args.out.now) (g.W.Write.contents c.show.new.out) end reports note)
+    (inr (inl (c.in-Ok-Wave.wave, c.in-Ok-Wave.types, asked, c.in-Ok-Wave.ensures.taken, shown, refl)))
 
 pub returns-in-Ok-Expect : goal.returns-in-Ok-Expect
 returns-in-Ok-Expect g c =
     let words = map (λ (w : Bor (List ℕ)). w.now) c.args.words.now in
     let asked = subst (λ (r : Call). AreCall words r) c.in-Ok-Expect.field-0-is c.in-Ok-Expect.ensures.call in
-    ([], quiet (g.E.Write.contents c.args.err.now), inr (inr (inr (inl (c.in-Ok-Expect.call, asked, c.in-Ok-Expect.ensures.taken, c.expect-end.ensures, refl)))))
+    noted_so c.ended_with-in-Ok-Expect.result _ c.ended_with-in-Ok-Expect.ensures refl (g.E.Write.contents c.args.err.now)
+    (λ (end : End) (reports : Text) (note : Option Text). Does g.S.Source.gives g.S.Streams.opens c.args.source.now c.expect.new.source words (g.W.Write.contents c.args.out.now) (g.W.Write.contents c.expect.new.out) end reports note)
+    (inr (inr (inr (inl (c.in-Ok-Expect.call, asked, c.in-Ok-Expect.ensures.taken, c.expect.ensures, refl)))))
 
 pub returns-in-Ok-Diff : goal.returns-in-Ok-Diff
 returns-in-Ok-Diff g c =
@@ -72,17 +76,21 @@ pub returns-in-Ok-Inspect : goal.returns-in-Ok-Inspect
 returns-in-Ok-Inspect g c =
     let words = map (λ (w : Bor (List ℕ)). w.now) c.args.words.now in
     let asked = subst (λ (r : Call). AreCall words r) c.in-Ok-Inspect.field-0-is c.in-Ok-Inspect.ensures.call in
-    let shown = subst (λ (ns : List (Bor Text)). ShowsInsides g.S.Source.gives g.S.Streams.opens c.args.source.now c.show_insides-end.new.source (map (λ (n : Bor Text). n.now) ns) c.in-Ok-Inspect.call
-    (g.W.Write.contents c.args.out.now) (g.W.Write.contents c.show_insides-end.new.out) c.show_insides-end.result.0 (option_map string_bytes c.show_insides-end.result.1)) c.as_slice-in-Ok-Inspect.ensures.value c.show_insides-end.ensures in
-    ([], quiet (g.E.Write.contents c.args.err.now), inr (inr (inr (inr (inr (inr (inl (c.in-Ok-Inspect.call, c.in-Ok-Inspect.types, asked, c.in-Ok-Inspect.ensures.taken, shown, refl))))))))
+    let shown = subst (λ (ns : List (Bor Text)). ShowsInsides g.S.Source.gives g.S.Streams.opens c.args.source.now c.show_insides.new.source (map (λ (n : Bor Text). n.now) ns) c.in-Ok-Inspect.call
+    (g.W.Write.contents c.args.out.now) (g.W.Write.contents c.show_insides.new.out) c.show_insides.result.0 (option_map string_bytes c.show_insides.result.1)) c.as_slice-in-Ok-Inspect.ensures.value c.show_insides.ensures in
+    noted_so c.ended_with-in-Ok-Inspect.result _ c.ended_with-in-Ok-Inspect.ensures refl (g.E.Write.contents c.args.err.now)
+    (λ (end : End) (reports : Text) (note : Option Text). Does g.S.Source.gives g.S.Streams.opens c.args.source.now c.show_insides.new.source words (g.W.Write.contents c.args.out.now) (g.W.Write.contents c.show_insides.new.out) end reports note)
+    (inr (inr (inr (inr (inr (inr (inl (c.in-Ok-Inspect.call, c.in-Ok-Inspect.types, asked, c.in-Ok-Inspect.ensures.taken, shown, refl))))))))
 
 pub returns-in-Ok-Coverage : goal.returns-in-Ok-Coverage
 returns-in-Ok-Coverage g c =
     let words = map (λ (w : Bor (List ℕ)). w.now) c.args.words.now in
     let asked = subst (λ (r : Call). AreCall words r) c.in-Ok-Coverage.field-0-is c.in-Ok-Coverage.ensures.call in
-    let shown = subst (λ (ns : List (Bor Text)). ReportsCoverage g.S.Source.gives g.S.Streams.opens c.args.source.now c.show_coverage-end.new.source (map (λ (n : Bor Text). n.now) ns) c.in-Ok-Coverage.call
-    (g.W.Write.contents c.args.out.now) (g.W.Write.contents c.show_coverage-end.new.out) c.show_coverage-end.result.0 (option_map string_bytes c.show_coverage-end.result.1)) c.as_slice-in-Ok-Coverage.ensures.value c.show_coverage-end.ensures in
-    ([], quiet (g.E.Write.contents c.args.err.now), inr (inr (inr (inr (inr (inr (inr (inl (c.in-Ok-Coverage.call, c.in-Ok-Coverage.types, asked, c.in-Ok-Coverage.ensures.taken, shown, refl)))))))))
+    let shown = subst (λ (ns : List (Bor Text)). ReportsCoverage g.S.Source.gives g.S.Streams.opens c.args.source.now c.show_coverage.new.source (map (λ (n : Bor Text). n.now) ns) c.in-Ok-Coverage.call
+    (g.W.Write.contents c.args.out.now) (g.W.Write.contents c.show_coverage.new.out) c.show_coverage.result.0 (option_map string_bytes c.show_coverage.result.1)) c.as_slice-in-Ok-Coverage.ensures.value c.show_coverage.ensures in
+    noted_so c.ended_with-in-Ok-Coverage.result _ c.ended_with-in-Ok-Coverage.ensures refl (g.E.Write.contents c.args.err.now)
+    (λ (end : End) (reports : Text) (note : Option Text). Does g.S.Source.gives g.S.Streams.opens c.args.source.now c.show_coverage.new.source words (g.W.Write.contents c.args.out.now) (g.W.Write.contents c.show_coverage.new.out) end reports note)
+    (inr (inr (inr (inr (inr (inr (inr (inl (c.in-Ok-Coverage.call, c.in-Ok-Coverage.types, asked, c.in-Ok-Coverage.ensures.taken, shown, refl)))))))))
 
 pub returns-in-Err-Help : goal.returns-in-Err-Help
 returns-in-Err-Help g c =
