@@ -1,12 +1,12 @@
 //! Finds what an accepted declaration, deployment and list of stimuli probably do not mean.
 //!
-//! Guarantees to callers: `warnings` returns exactly what the definitions have of a declaration, a deployment and stimuli:
-//! the warnings about the block types one after another, then about the application and the links. By `laws::warnings_hold`
-//! each of them holds at its position.
+//! Guarantees to callers: `warnings` returns exactly what the definitions have of a declaration, a deployment and
+//! stimuli: the warnings about the block types one after another, then about the application and the links. By
+//! `laws::warnings_hold` each of them holds at its position.
 //!
-//! Read in this order: `warning`; `findings` and `names`; `interfaces`, `charts`, `reached`, `reads`, `algorithms`, `uses`,
-//! `networks` and `links`, which have the numbers; `lint`, all of them; `laws`; `words` and `lines`, warnings as texts;
-//! `positions`, where they are.
+//! Read in this order: `warning`; `findings` and `names`; `interfaces`, `charts`, `reached`, `reads`, `algorithms`,
+//! `uses`, `networks` and `links`, which have the numbers; `lint`, all of them; `laws`; `words` and `lines`, warnings
+//! as texts; `positions`, where they are.
 #![tactic(auto)]
 
 pub mod algorithms;

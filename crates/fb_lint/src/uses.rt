@@ -1,4 +1,5 @@
-//! Variables that no guard and no algorithm names (L11), and output events whose data outputs no algorithm assigns (L12).
+//! Variables that no guard and no algorithm names (L11), and output events whose data outputs no algorithm assigns
+//! (L12).
 
 ghost use Rattle.std.specs.Prelude.{◌≡◌, ◌++◌, IfOk, OnOk, flat_map};
 ghost use Rattle.std.specs.List.{list_any};

@@ -1,6 +1,7 @@
-//! What the program does not show of a run: pieces, rounds, their bounds, gates, what follows a failure; of what it depends on, a
-//! board and a phase; and how its calls end with files in memory. Traces of runs are in cases/, where the program is called for
-//! them. Each test ends the process where a call fails that must not, so that little is dropped on the way.
+//! What the program does not show of a run: pieces, rounds, their bounds, gates, what follows a failure; of what it
+//! depends on, a board and a phase; and how its calls end with files in memory. Traces of runs are in cases/, where the
+//! program is called for them. Each test ends the process where a call fails that must not, so that little is dropped
+//! on the way.
 
 mod advances;
 mod board;

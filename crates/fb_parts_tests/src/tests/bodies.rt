@@ -9,7 +9,8 @@ use std::alloc::Global;
 use std::mem::forget;
 use std::process::Abort;
 
-/// A body for each of ROWS, and one that names a variable that there is not. EXIT outside of loops is in no accepted text.
+/// A body for each of ROWS, and one that names a variable that there is not. EXIT outside of loops is in no accepted
+/// text.
 static BODIES: &str = "FUNCTION_BLOCK F VAR X : INT; END_VAR EC_STATES S; END_STATES\n\
     ALGORITHM A0 IN ST: X := 32767 + 1; END_ALGORITHM\n\
     ALGORITHM A1 IN ST: X := 1 / 0; END_ALGORITHM\n\

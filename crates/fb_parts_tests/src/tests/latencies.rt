@@ -1,5 +1,5 @@
-//! A table of latencies, by which a message overtakes another: when messages arrive, and the least ticks at which one can arrive that is
-//! sent from a tick on. All were worked out by hand.
+//! A table of latencies, by which a message overtakes another: when messages arrive, and the least ticks at which one
+//! can arrive that is sent from a tick on. All were worked out by hand.
 
 ghost use Rattle.std.specs.Prelude.{◌<◌, ◌≤◌, ◌^◌};
 

@@ -19,7 +19,8 @@ struct Talk {
     /// Whether the messages are handed over in the other order.
     turned: bool,
     stimuli: &'static str,
-    /// The least tick of the events of the second before it gets the messages, and with them. After its run there is none.
+    /// The least tick of the events of the second before it gets the messages, and with them. After its run there is
+    /// none.
     alone: Option<u64>,
     with_messages: Option<u64>,
     /// The lines of the second.
@@ -127,8 +128,8 @@ fn expect_received(rt: &impl Abort, alloc: Global, system: &System, talk: &Talk)
     forget(ran);
 }
 
-/// Where one request for memory is refused to a resource that takes messages, it takes them at a second try. Any other that is
-/// refused ends the test. `tools/refuse.py` runs this with each request refused in turn.
+/// Where one request for memory is refused to a resource that takes messages, it takes them at a second try. Any other
+/// that is refused ends the test. `tools/refuse.py` runs this with each request refused in turn.
 #[test]
 fn messages_come_after_out_of_memory(rt: HostRuntime) {
     for talk in [&LATCH, &SPLIT, &OTHER, &PASS] {

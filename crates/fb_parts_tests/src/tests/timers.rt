@@ -1,4 +1,5 @@
-//! What is asked of the timers of a delay and of a cycle with the longest time, at the latest tick, which no trace shows.
+//! What is asked of the timers of a delay and of a cycle with the longest time, at the latest tick, which no trace
+//! shows.
 
 use fb_event::{EventState, expire, react};
 use fb_types::{Emission, Emits, EventKind, TimerAsk, Value, Values};

@@ -1,7 +1,7 @@
 //! Runs that are advanced piece by piece.
 //!
-//! Each simulation is ended here, also where a call on it failed. So none is dropped in this crate, and the destructors of
-//! all that a simulation holds are not proved once more.
+//! Each simulation is ended here, also where a call on it failed. So none is dropped in this crate, and the destructors
+//! of all that a simulation holds are not proved once more.
 
 use super::inputs_of;
 use super::texts::{
@@ -38,7 +38,7 @@ struct Pieces {
     trace: &'static str,
 }
 
-/// A tick that was advanced to before, or at which it has stopped, writes nothing once more. A tick past the last is none.
+/// A tick that was advanced to before, or at which it has stopped, writes nothing again. A tick past the last is none.
 static PIECES: [Pieces; 6] = [
     Pieces {
         case: CYCLE,
@@ -80,8 +80,8 @@ fn outcome_at(case: &Case, tick: u64) -> Outcome {
     }
 }
 
-/// Each advance to a tick, and the end, answers as the outcome at the greatest tick so far. All together write the trace, into a writer
-/// that takes at most `step` bytes a call.
+/// Each advance to a tick, and the end, answers as the outcome at the greatest tick so far. All together write the
+/// trace, into a writer that takes at most `step` bytes a call.
 fn expect_pieces<R: Abort + Threads + Wait + Sync>(
     rt: &R,
     alloc: Global,
@@ -203,8 +203,8 @@ fn try_pieces<R: Threads + Wait + Sync>(
     tried
 }
 
-/// A simulation that was once out of memory has failed for good. `tools/refuse.py` runs this with each request refused in turn. Without
-/// that no call fails.
+/// A simulation that was once out of memory has failed for good. `tools/refuse.py` runs this with each request refused
+/// in turn. Without that no call fails.
 #[test]
 fn after_out_of_memory_nothing_is_written(rt: HostRuntime) {
     for case in [&CYCLE, &ARRIVAL, &BETWEEN, &TWICE, &RING] {

@@ -1,5 +1,5 @@
-//! Boards whose jobs are numbers, to be squared. Each test ends the process where it is out of memory, so that nothing is dropped on the
-//! way.
+//! Boards whose jobs are numbers, to be squared. Each test ends the process where it is out of memory, so that nothing
+//! is dropped on the way.
 ghost use Rattle.std.specs.Prelude.{◌≡◌, ◌*◌, All};
 ghost use Rattle.fb_board.specs.Models.{IsDrySeatOf, IsIdleSeatOf};
 
@@ -95,7 +95,8 @@ impl Tally {
 
     const LOOKS: u32 = 100_000_000;
 
-    /// Begins a thread. It looks whether the others have begun, so that they draw at the same time, but gives up in the end.
+    /// Begins a thread. It looks whether the others have begun, so that they draw at the same time, but gives up in the
+    /// end.
     fn begin(&self) {
         self.begun.fetch_add(1, SeqCst);
         for _ in 0..Self::LOOKS {

@@ -1,5 +1,5 @@
-//! How calls of the program end with files and outputs in memory, for each status. Expected bytes were worked out by hand, or are
-//! the texts of clap, the parser of command lines.
+//! How calls of the program end with files and outputs in memory, for each status. Expected bytes were worked out by
+//! hand, or are the texts of clap, the parser of command lines.
 
 use super::files::FILES;
 use super::memory::Memory;

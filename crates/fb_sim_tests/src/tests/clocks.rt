@@ -13,8 +13,8 @@ use std::sync::atomic::Ordering::SeqCst;
 use std::thread::Threads;
 use std::time::{Clock, CpuClock, Duration};
 
-/// Clocks that go on by these nanoseconds each time they are read. From one reading on, the machine's clock is ten seconds
-/// later.
+/// Clocks that go on by these nanoseconds each time they are read. From one reading on, the machine's clock is ten
+/// seconds later.
 #[derive(Drop)]
 struct Stepping {
     by_wall: u64,
@@ -79,8 +79,8 @@ impl Gate for Counting {
     }
 }
 
-/// A run of the four resources with these clocks writes this trace. The answer is how often workers passed the gate: four
-/// times in each round.
+/// A run of the four resources with these clocks writes this trace. The answer is how often workers passed the gate:
+/// four times in each round.
 fn passes_with<R: Abort + Threads + Wait + Sync, C: Clock + CpuClock>(
     rt: &R,
     alloc: Global,
@@ -101,8 +101,8 @@ fn passes_with<R: Abort + Threads + Wait + Sync, C: Clock + CpuClock>(
     gate.passes.load(SeqCst)
 }
 
-// Messages take five ticks, and the horizon is at tick 40: eight rounds of some 1,280 lines. Each run begins with three that
-// are not timed, and two that are.
+// Messages take five ticks, and the horizon is at tick 40: eight rounds of some 1,280 lines. Each run begins with three
+// that are not timed, and two that are.
 #[test]
 fn clocks_choose_how_a_run_goes_on(rt: HostRuntime) {
     let inputs = inputs_of(DECLARATION, DEPLOYMENT, "");
@@ -132,8 +132,8 @@ fn clocks_choose_how_a_run_goes_on(rt: HostRuntime) {
     }
 }
 
-// One agenda takes half as long as a round for as many lines, or twice as long: that is read after the lines that are not
-// timed, and before all others.
+// One agenda takes half as long as a round for as many lines, or twice as long: that is read after the lines that are
+// not timed, and before all others.
 #[test]
 fn the_higher_pace_goes_on(rt: HostRuntime) {
     let inputs = inputs_of(DECLARATION, DEPLOYMENT, "");

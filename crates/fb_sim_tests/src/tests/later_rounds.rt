@@ -84,9 +84,9 @@ fn expect_the_same<R: Abort + Threads + Wait + Sync, P: Gate>(
     assert!(rt; outcome == Outcome::End(HORIZON) && out.as_slice() == trace);
 }
 
-// A resource gives 2 lines at tick 0; 1, 2 and 60 at each of the 39 ticks from 1 on, and one more with the event that leads
-// away; and 2 for each message, which were sent at the 34 ticks from 1 to 34: 2 + 39 * 63 + 34 * 2 = 2,527. Four of them, and
-// the last line: 10,109. A round of five ticks writes more than 20,000 bytes.
+// A resource gives 2 lines at tick 0; 1, 2 and 60 at each of the 39 ticks from 1 on, and one more with the event that
+// leads away; and 2 for each message, which were sent at the 34 ticks from 1 to 34: 2 + 39 * 63 + 34 * 2 = 2,527. Four
+// of them, and the last line: 10,109. A round of five ticks writes more than 20,000 bytes.
 #[test]
 fn workers_meet_in_a_later_round(rt: HostRuntime) {
     let inputs = inputs_of(DECLARATION, DEPLOYMENT, "");
@@ -103,8 +103,8 @@ fn workers_meet_in_a_later_round(rt: HostRuntime) {
     expect_the_same(&rt, rt.alloc(), &inputs, (7, &OpenGate), trace.as_slice());
 }
 
-// Messages that take fifty ticks are on their way at the end of the run, so it is one round. Its lines are those of the run
-// above without two for each message: 4 * (2 + 39 * 63) = 9,836, and the last line.
+// Messages that take fifty ticks are on their way at the end of the run, so it is one round. Its lines are those of the
+// run above without two for each message: 4 * (2 + 39 * 63) = 9,836, and the last line.
 #[test]
 fn threads_make_the_text_of_a_long_round(rt: HostRuntime) {
     let deployment = DEPLOYMENT

@@ -122,8 +122,8 @@ fn squares_of<R: Abort + Threads + Wait + Sync>(
     }
 }
 
-/// The squares come in order, and each of the first ten numbers has passed the gate once, before its work. A square is the one before it
-/// and the next odd number.
+/// The squares come in order, and each of the first ten numbers has passed the gate once, before its work. A square is
+/// the one before it and the next odd number.
 fn expect_squares<R: Abort + Threads + Wait + Sync>(
     rt: &R,
     alloc: Global,
@@ -161,8 +161,8 @@ fn squares_come_in_order(rt: HostRuntime) {
     }
 }
 
-/// One worker is held up by its first job, so the other has to do the nine others: both work at the same time, and neither has a
-/// fixed part of the jobs.
+/// One worker is held up by its first job, so the other has to do the nine others: both work at the same time, and
+/// neither has a fixed part of the jobs.
 #[test]
 fn two_workers_draw_as_they_become_free(rt: HostRuntime) {
     expect_squares(&rt, rt.alloc(), (10, 2, true));

@@ -1,5 +1,5 @@
-//! The reports of a run come between the lines of one hundredth and those of the next. Both writers share counts, so that each sees how far
-//! the other one is.
+//! The reports of a run come between the lines of one hundredth and those of the next. Both writers share counts, so
+//! that each sees how far the other one is.
 
 use super::inputs_of;
 use fb_sim::{Options, Outcome, run_with_progress};

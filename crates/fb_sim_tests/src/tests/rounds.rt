@@ -89,7 +89,8 @@ pub fn opened<R: Abort>(rt: &R, alloc: Global, system: &System, steps: u64) -> C
     core
 }
 
-/// The rounds of a run. A round that is out of memory has written nothing. It ends the test, and so does a writer that is.
+/// The rounds of a run. A round that is out of memory has written nothing. It ends the test, and so does a writer that
+/// is.
 fn expect_rounds<R: Abort + Threads + Wait + Sync>(
     rt: &R,
     alloc: Global,

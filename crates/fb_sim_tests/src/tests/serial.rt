@@ -29,8 +29,8 @@ fn serial<R: Abort>(rt: &R, alloc: Global, inputs: &Inputs<'_>, plan: HandPlan) 
     trace
 }
 
-/// Rounds by hand write what `run_serial` writes, in both forms, whether their jobs are run in rising or in falling order. Returns the
-/// trace in form one.
+/// Rounds by hand write what `run_serial` writes, in both forms, whether their jobs are run in rising or in falling
+/// order. Returns the trace in form one.
 pub fn expect_serial<R: Abort>(
     rt: &R,
     alloc: Global,
