@@ -87,11 +87,6 @@ module _ {A : Type 0} where
   at_from_slice_get (x ∷ xs) zero a e = let p : x ≡ a = cc in ap some p
   at_from_slice_get (x ∷ xs) (suc i) a e = at_from_slice_get xs i a e
 
-  pub slice_get_from_at : (l : List A) (i : ℕ) (a : A) → get_elem? l i ≡ some a → slice_get l i ≡ Some a
-  slice_get_from_at [] i a e = absurd (some-ne-none a (sym e))
-  slice_get_from_at (x ∷ xs) zero a e = ap Some (some-injective x a e)
-  slice_get_from_at (x ∷ xs) (suc i) a e = slice_get_from_at xs i a e
-
   pub slice_get_along : (l l' : List A) (i i' : ℕ) (a : A) → l ≡ l' → i ≡ i' → slice_get l i ≡ Some a → slice_get l' i' ≡ Some a
   slice_get_along l l' i i' a p q e = (λ j. slice_get (sym p j) (sym q j)) ∙ e
 

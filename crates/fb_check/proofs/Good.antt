@@ -255,24 +255,6 @@ good_from lib s known take =
       held = passes_from (is_held (ports_of k)) s.settings (λ v c. (each v c).held);
     }
 
-take_from : (lib : Library) (s : Stimulus) → Known lib → IsGood lib s → CanTake lib s
-take_from lib s known good =
-    let k = good.kind in
-    record {
-      ports = ports_of k;
-      of_ports = ap (option_map ports_of) good.of_kind;
-      is_event = good.is_event;
-      once = good.once;
-      each = passes_from (can_set lib (ports_of k) s) s.settings
-          (λ v c.
-          let n = Contains-map (λ (v : Setting). v.variable) s.settings v c in
-          can_set_from lib k s v known good.of_kind (record {
-            with_event = good.with_event v.variable n;
-            unconnected = good.unconnected v.variable n;
-            held = each_from_all (is_held (ports_of k)) s.settings good.held v c;
-          }));
-    }
-
 -- what is wrong makes a stimulus bad
 not_good : (lib : Library) (s : Stimulus) (f : StimulusFault) → IsBad lib s f → ¬ (IsGood lib s)
 not_good lib s fault.Event (inl none) good = absurd (let no = sym none ∙ good.of_kind in cc)

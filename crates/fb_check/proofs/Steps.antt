@@ -199,11 +199,6 @@ first_more {A} {X} name made xs i x m m' k value h at is made_is absent so_far u
 
 -- ---- Targets of connections
 
-pub targets_none : (s : set.BTreeSet Pair) → s.keys ≡ [] → AreTargets [] s
-targets_none s e = record {
-  has = λ n m. ap (list_any (λ (k : Pair). is_eq (ordering_then (names.name_cmp n k.0.now) (names.name_cmp m k.1.now)))) e;
-}
-
 -- the port of one more connection, and whether it is the one
 abbrev is_target : Connection → Name → Name → Bool
 is_target w c n = same_port (port_in [] w.to) (record { at = c ∷ []; name = n })
@@ -264,9 +259,6 @@ inputs_push (q ∷ qs) [] p x each is i = absurd (each 0)
 inputs_push (q ∷ qs) (y ∷ ys) p x each is zero = each 0
 inputs_push (q ∷ qs) (y ∷ ys) p x each is (suc i) = inputs_push qs ys p x (λ j. each (suc j)) is i
 
-pub inputs_none : (xs : List TypeInputs) → xs ≡ [] → AreInputs [] xs
-inputs_none xs e = subst (λ (ys : List TypeInputs). AreInputs [] ys) (sym e) (record { each = λ i. tt })
-
 pub inputs_more :
     {A : Type 0} (f : A → Ports) (ts : List A) (i : ℕ) (a : A) (p : Ports) (xs ys : List TypeInputs) (x : TypeInputs) → i < length ts → a ≡ get_or ts i a → p ≡ f a
     → AreInputs (map f (take i ts)) xs → IsInputs p x → ys ≡ xs ++ x ∷ [] → AreInputs (map f (take (i + 1) ts)) ys
@@ -275,7 +267,7 @@ inputs_more f ts i a p xs ys x h at is so_far new grown =
     let P : List Ports → Type 0 = λ qs. AreInputs qs ys in
     more_of_part P f ts i a p h at is (subst R (sym grown) (record { each = inputs_push (map f (take i ts)) xs p x so_far.each new }))
 
--- the event blocks at the indices of their interfaces
+-- the event blocks at the indexes of their interfaces
 pub event_inputs :
     (ps : List Ports) (xs : List TypeInputs) → ArePortsOfKinds ps → AreInputs (map (λ p. p) ps) xs → (k : EventKind)
     → IsFound (Some (ports_of_event_block k)) (slice_get xs (kind_index k))

@@ -59,7 +59,7 @@ pub record AreFirst {A X : Type 0} (name : A → Name) (made : ℕ → A → X) 
 abbrev pub lists : List EventPort → Name → Name → Bool
 lists events e v = list_any (λ q. same_name q.name e && among q.with v) events
 
--- the indices of the events
+-- the indexes of the events
 abbrev pub AreEvents : List EventPort → tree.BTreeMap (Bor Name) ℕ → Type 0
 AreEvents events m = AreFirst (λ (e : EventPort). e.name) (λ k e. k) events m
 
@@ -74,7 +74,7 @@ pub record AreWiths (events : List EventPort) (s : set.BTreeSet Pair) : Type 0 w
 abbrev pub input_of : ℕ → Variable → Input
 input_of k v = record { index = k; ty = v.ty }
 
--- the indices and the types of the variables
+-- the indexes and the types of the variables
 abbrev pub AreVariables : List Variable → tree.BTreeMap (Bor Name) Input → Type 0
 AreVariables variables m = AreFirst (λ (v : Variable). v.name) input_of variables m
 
@@ -105,7 +105,7 @@ leads_to cs c n = list_any (λ w. same_port (port_in [] w.to) (record { at = c �
 pub record AreTargets (cs : List Connection) (s : set.BTreeSet Pair) : Type 0 where
   pub has : (c n : Name) → has_pair s c n ≡ leads_to cs c n
 
--- the event blocks at the indices of their interfaces, the block types of the declaration at theirs, and the targets of
+-- the event blocks at the indexes of their interfaces, the block types of the declaration at theirs, and the targets of
 -- the application's data connections
 pub record IsDirectory (lib : Library) (d : Directory) : Type 0 where
   pub event_blocks : (k : EventKind) → IsFound (Some (ports_of_event_block k)) (slice_get d.event_blocks (kind_index k))

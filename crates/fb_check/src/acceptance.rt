@@ -56,7 +56,7 @@ fn elaborate(alloc: Global, case: &Case) -> Result<Given, CheckError>
 /// );
 /// let system = accept(rt.alloc(), library, deploy, stimuli).expect(&rt, "accepted");
 /// assert!(rt; system.resources() == 1);
-/// discard_system(system);
+/// drop(system);
 /// ```
 pub fn accept(
     alloc: Global,

@@ -18,7 +18,7 @@ pub struct Case<'a> {
 /// What the check makes of inputs that are accepted.
 #[derive(Drop)]
 pub struct Judged<'a> {
-    /// The indices of all names.
+    /// The indexes of all names.
     pub catalog: Catalog<'a>,
     /// The meaning of the names, by numbers.
     pub numbers: Resolved,

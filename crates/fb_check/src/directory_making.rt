@@ -52,7 +52,7 @@ pub struct Input {
 /// What stimuli may name of a type.
 #[derive(Drop)]
 pub struct TypeInputs<'a> {
-    /// The indices of the event inputs.
+    /// The indexes of the event inputs.
     pub events: BTreeMap<&'a Name, u32, Global>,
     /// The event inputs, each with a variable that goes WITH it.
     pub withs: Pairs<'a>,
@@ -60,7 +60,7 @@ pub struct TypeInputs<'a> {
     pub variables: BTreeMap<&'a Name, Input, Global>,
 }
 
-/// The indices of events. If events have the same name, the first counts.
+/// The indexes of events. If events have the same name, the first counts.
 fn events_of<'a>(
     alloc: Global,
     events: &'a [EventPort],
@@ -102,7 +102,7 @@ fn withs_of<'a>(alloc: Global, events: &'a [EventPort]) -> Result<Pairs<'a>, All
     Ok(withs)
 }
 
-/// The indices and the types of variables. If variables have the same name, the first counts.
+/// The indexes and the types of variables. If variables have the same name, the first counts.
 fn variables_of<'a>(
     alloc: Global,
     variables: &'a [Variable],

@@ -23,7 +23,7 @@ use fb_system::StimulusRow;
 use fb_types::{Items, MOST_STIMULI};
 use std::alloc::{AllocError, Global};
 
-/// E20: the indices of all names, if none is given twice.
+/// E20: the indexes of all names, if none is given twice.
 fn catalog<'a>(alloc: Global, case: &Case<'a>) -> Result<Catalog<'a>, Stop>
     ensures ok { IfOk result (IsCatalog case.now.library.now case.now.plan.now) }
     ensures refused { IfErr result (IsStop (inputs_in case.now)) }
@@ -82,7 +82,7 @@ fn judge_limits(alloc: Global, case: &Case, resolved: &Resolved) -> Result<(), S
     Ok(())
 }
 
-/// The checks from E22 on, by the indices and the numbers of names. Returns, for each instance of the application, the
+/// The checks from E22 on, by the indexes and the numbers of names. Returns, for each instance of the application, the
 /// resource that holds it, and the stimuli by number.
 fn judge_by_numbers(
     alloc: Global,

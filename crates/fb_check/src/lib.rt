@@ -1,13 +1,13 @@
 //! The check of a declaration, a deployment and stimuli, and the system of inputs that are accepted.
 //!
-//! Guarantees to callers: `judgement::judge` accepts if none of E20 to E30 applies, and otherwise returns the least that
-//! does. `judgement::judged` returns what the check made on the way: indices and numbers of names, the resources that
-//! hold instances, and the stimuli by number. `judgement::why_refused` returns why inputs are refused, with all locations at
-//! which the least number applies. `acceptance::accept` returns a system exactly for inputs that are accepted, and otherwise
-//! the least number that applies.
+//! Guarantees to callers: `judgement::judge` accepts if none of E20 to E30 applies, and otherwise returns the least
+//! that does. `judgement::judged` returns what the check made on the way: indexes and numbers of names, the resources
+//! that hold instances, and the stimuli by number. `judgement::why_refused` returns why inputs are refused, with all
+//! locations at which the least number applies. `acceptance::accept` returns a system exactly for inputs that are
+//! accepted, and otherwise the least number that applies.
 //!
-//! Read in this order: `case`, `fault`, `error`, `location` and `refusal`; `judgement`, the checks in the order of their numbers;
-//! `network_checks` (E22 to E25) and `mapping_checks` (E26 to E28); `stimuli` (E29) with `directory` and
+//! Read in this order: `case`, `fault`, `error`, `location` and `refusal`; `judgement`, the checks in the order of
+//! their numbers; `network_checks` (E22 to E25) and `mapping_checks` (E26 to E28); `stimuli` (E29) with `directory` and
 //! `directory_making`, what stimuli may name. Then `acceptance`.
 #![tactic(auto)]
 

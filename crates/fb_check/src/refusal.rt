@@ -32,7 +32,7 @@ pub enum Refusal {
     NotMapped(Vec<Unmapped>),
     /// Connections between two resources without a link (E27).
     NoLink(Vec<Unlinked>),
-    /// Data connections between two resources that no event serves, by their indices in the application (E28).
+    /// Data connections between two resources that no event serves, by their indexes in the application (E28).
     NoEvent(Vec<usize>),
     /// Stimuli that the application can't take (E29).
     BadStimulus(Vec<StimulusLocation>),

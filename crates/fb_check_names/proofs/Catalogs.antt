@@ -1,10 +1,8 @@
 -- The catalog of all names, from its parts.
-use Rattle.std.proofs.Common.{◌≡◌, List, ◌++◌, map, Result, Bor, ℕ, ◌∙◌, ap, append_assoc, inl, subst, sym}
+use Rattle.std.proofs.Common.{◌≡◌, List, ◌++◌, map, Result, ◌∙◌, ap, append_assoc, inl, subst, sym}
 use Rattle.std.specs.Prelude.{Ok, Err, IfOk}
-use Rattle.std.specs.BTreeMap.{BTreeMap}
 use Rattle.fb_types.specs.Blocks.{event_blocks}
 use Rattle.fb_types.specs.Flat.{type_name, resource_names_of}
-use Rattle.fb_types.specs.Names.{Name}
 use Rattle.fb_types.specs.Repeated.{NameTwice, Twice, instance_names}
 use Rattle.fb_types.specs.declared.library.Library.{Library}
 use Rattle.fb_types.specs.declared.library.BlockType.{BlockType}
@@ -41,9 +39,6 @@ of_all types blocks instances resources declared located z P Q R S is_declared i
     (of_both declared types blocks P Q is_declared p q) (of_both located instances resources R S is_located r s)
 
 -- ---- The catalog
-
-abbrev Indexes : Type 0
-Indexes = BTreeMap (Bor Name) ℕ
 
 pub catalog_made :
     (lib : Library) (plan : Plan) (c : Catalog) (ts : List BlockType) → ts ≡ lib.blocks

@@ -94,7 +94,3 @@ each_at {A} {B} f (y ∷ xs) zs (suc i) x h g =
     let p = each_parts f y xs zs h in
     let r = each_at f xs p.1 i x p.3 g in
     (r.0, ap (λ (ys : List B). slice_get ys (suc i)) p.4 ∙ r.1, r.2)
-
-pub each-agree : {A B : Type 0} (f g : A → Option B) → ((x : A) → f x ≡ g x) → (xs : List A) → each_or_none f xs ≡ each_or_none g xs
-each-agree f g same [] = refl
-each-agree f g same (x ∷ xs) = λ i. option_and_then (λ y. option_map (λ ys. y ∷ ys) (each-agree f g same xs i)) (same x i)

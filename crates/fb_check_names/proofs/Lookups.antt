@@ -1,4 +1,4 @@
--- Types, ports and instances by the indices of their names.
+-- Types, ports and instances by the indexes of their names.
 use Rattle.std.proofs.Common.{◌≡◌, ℕ, ◌<◌, ◌≤◌, ◌-◌, List, ◌++◌, length, map, get_or, Some, None, Option, Bor, MatchOption, SomeIff, refl, sym, ◌∙◌, ap, subst, append_assoc}
 use Rattle.std.specs.Prelude.{slice_get, option_map, option_and_then, position}
 use Rattle.std.specs.BTreeMap.{BTreeMap}
@@ -26,7 +26,7 @@ use Rattle.fb_check_names.specs.declared.numbers.TypeNumber.TheVariants as numbe
 use Rattle.fb_types.proofs.TwiceLaws.{once_right}
 use Rattle.fb_check_names.proofs.Parts.{after_part, first_part}
 
--- ---- Ports by the indices of all names of their type
+-- ---- Ports by the indexes of all names of their type
 
 abbrev from_data_outs : Ports → List Name → List Name
 from_data_outs p ns = data_outs p ++ ns
@@ -111,7 +111,7 @@ from_last : (a b c d e : List Name) → a ++ b ++ c ++ d ++ e ≡ a ++ (b ++ (c 
 from_last a b c d e =
     append_assoc (a ++ b ++ c) d e ∙ append_assoc (a ++ b) c (d ++ e) ∙ append_assoc a b (c ++ (d ++ e))
 
--- the indices of a block type's names are those of its ports
+-- the indexes of a block type's names are those of its ports
 pub block_indexes :
     (lib : Library) (c : Catalog) (ds : List BlockIndexes) (k : ℕ) (t : BlockType) (x : BlockIndexes) (p : Ports) → HasTypes lib c
     → slice_get lib.blocks k ≡ Some t → ds ≡ c.blocks.items → k < length ds → x ≡ get_or ds k x → p ≡ ports_of_block t → AreIndexesOf p x.ports

@@ -1,4 +1,4 @@
--- Indices in a list of names that differ, and in the parts of which it is made.
+-- Indexes in a list of names that differ, and in the parts of which it is made.
 use Rattle.std.proofs.Common.{◌≡◌, ℕ, suc, ◌<◌, ◌≤◌, ◌+◌, ◌-◌, Bool, true, false, cond, List, [], ◌∷◌, ◌++◌, length, Some, None, Option, Contains, MatchOption, SomeIff, refl, sym, ◌∙◌, ap, subst, inl, inr, arith}
 use Rattle.std.specs.Prelude.{position, option_map, is_some}
 use Rattle.std.proofs.lemmas.List.Elements.{Contains-append_right}

@@ -1,19 +1,19 @@
 -- Items of a list that are the same as one before.
-use Rattle.std.proofs.Common.{◌≡◌, ℕ, zero, suc, ◌+◌, ◌<◌, ◌≤◌, Bool, not, true, false, cond, List, [], ◌∷◌, ◌++◌, append_assoc, length, map, take, drop, get_or, Option, Some, None, Contains, Ordering, refl, sym, ◌∙◌, ap, subst, inl, inr, arith}
+use Rattle.std.proofs.Common.{◌≡◌, ℕ, zero, suc, ◌+◌, ◌<◌, Bool, not, true, false, cond, List, [], ◌∷◌, ◌++◌, append_assoc, length, map, take, drop, get_or, Option, Some, None, Contains, Ordering, refl, sym, ◌∙◌, ap, subst, inl, inr, arith}
 use Rattle.std.specs.Prelude.{All, slice_get}
 use Rattle.std.specs.Bool.{Decides}
 use Rattle.std.specs.Map.{lookup}
 use Rattle.std.specs.Ordering.{is_eq}
 use Rattle.std.specs.BTreeMap as tree
 use Rattle.std.proofs.lemmas.Bool.{true≢false}
-use Rattle.std.proofs.lemmas.List.{append-nil, length-map, length-take, length_push, take_all}
+use Rattle.std.proofs.lemmas.List.{append-nil, length-map, length-take, length_push}
 use Rattle.std.proofs.lemmas.List.Elements.{All-nil, All-cons}
 use Rattle.std.proofs.lemmas.Option.{same_Some}
 use Rattle.fb_types.specs.Names.{Port, same_port}
 use Rattle.fb_types.specs.Repeated.{Twice}
 use Rattle.fb_types.proofs.ByIndex.{element_of_index}
 use Rattle.fb_types.proofs.Elements.{Contains-cons_cases, Contains-nil}
-use Rattle.fb_types.proofs.LoopSteps.{map_take_more, more_of_part}
+use Rattle.fb_types.proofs.LoopSteps.{more_of_part}
 use Rattle.fb_types.proofs.NameLaws.{same_name-itself}
 use Rattle.fb_types.proofs.PathLaws.{same_path_itself, same_port_is}
 use Rattle.fb_types.proofs.TwiceLaws.{once_push}
@@ -88,19 +88,6 @@ map_itself {A} (x ∷ xs) = ap (λ (ys : List A). x ∷ ys) (map_itself xs)
 
 so_many : {A B : Type 0} (f : A → B) (xs : List A) (i : ℕ) → i < length xs → length (map f (take i xs)) ≡ i
 so_many f xs i h = length-map (take i xs) f ∙ length-take i xs ∙ (grind arith)
-
--- one item more
-pub last_step :
-    {A Y : Type 0} (p : Y → Bool) (f : A → Y) (xs : List A) (i : ℕ) (x : A) (o next : Option ℕ) → i < length xs → x ≡ get_or xs i x → o ≡ last_place p (map f (take i xs))
-    → next ≡ cond (p (f x)) (Some i) o → next ≡ last_place p (map f (take (i + 1) xs))
-last_step p f xs i x o next h e before made =
-    made ∙ (λ k. cond (p (f x)) (Some (sym (so_many f xs i h) k)) (before k)) ∙ sym (last_place-push p (map f (take i xs)) (f x))
-    ∙ ap (last_place p) (sym (map_take_more f xs i x h e))
-
--- all items
-pub last_whole :
-    {A Y : Type 0} (p : Y → Bool) (f : A → Y) (xs : List A) (i : ℕ) (o : Option ℕ) → length xs ≤ i → o ≡ last_place p (map f (take i xs)) → o ≡ last_place p (map f xs)
-last_whole {A} p f xs i o past before = before ∙ ap (λ (ys : List A). last_place p (map f ys)) (take_all i xs past)
 
 -- ---- A table of what was seen
 

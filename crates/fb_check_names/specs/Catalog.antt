@@ -1,4 +1,4 @@
--- The indices of the names of a declaration and a deployment (IEC 61499-1, 5 to 7; the name spaces are this project's
+-- The indexes of the names of a declaration and a deployment (IEC 61499-1, 5 to 7; the name spaces are this project's
 -- profile).
 use Rattle.std.specs.Prelude.{◌≡◌, ℕ, List, [], map, length, Some, slice_get}
 use Rattle.fb_types.specs.Names.{Name}

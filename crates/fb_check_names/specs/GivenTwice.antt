@@ -38,7 +38,7 @@ TypeTwice ts = Twice (map (λ e. e.0) event_blocks ++ map type_name ts)
 abbrev pub PlanTwice : Plan → Type 0
 PlanTwice plan = Twice (resource_names_of plan) ⊎ Twice (link_pairs plan)
 
--- The names of each block type by their indices, if it gives nothing twice.
+-- The names of each block type by their indexes, if it gives nothing twice.
 pub record AreBlocks (ts : List BlockType) (xs : List BlockIndexes) : Type 0 where
   pub counted : length xs ≡ length ts
   pub each : (k : ℕ) (t : BlockType) (x : BlockIndexes) → slice_get ts k ≡ Some t → slice_get xs k ≡ Some x → ¬ (BlockTwice t) → IsBlock t x

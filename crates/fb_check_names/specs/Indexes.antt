@@ -1,4 +1,4 @@
--- Names by their indices (this project's profile).
+-- Names by their indexes (this project's profile).
 use Rattle.std.specs.Prelude.{◌≡◌, ℕ, List, map, Option, position}
 use Rattle.std.specs.BTreeMap.{BTreeMap, get_by}
 use Rattle.std.specs.Borrow.{Bor}

@@ -1,7 +1,7 @@
 -- Locations along a list, in its order.
 use Rattle.std.specs.Prelude.{ℕ, ◌+◌, Bool, true, false, List, [], ◌∷◌, ◌++◌}
 
--- what belongs to each element and its index, one after another; indices are counted from this one
+-- what belongs to each element and its index, one after another; indexes are counted from this one
 abbrev pub each_from : {A B : Type 0} → (ℕ → A → List B) → ℕ → List A → List B
 each_from f k [] = []
 each_from f k (x ∷ xs) = f k x ++ each_from f (k + 1) xs

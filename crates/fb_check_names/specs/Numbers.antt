@@ -1,4 +1,4 @@
--- A declaration and a deployment by number: types, ports, instances and resources by their indices (IEC 61499-1, 5.3 and
+-- A declaration and a deployment by number: types, ports, instances and resources by their indexes (IEC 61499-1, 5.3 and
 -- 7).
 use Rattle.std.specs.Prelude.{◌≡◌, ℕ, List, [], ◌∷◌, map, length, Option, Some, None, position, slice_get, option_map, option_and_then}
 use Rattle.fb_types.specs.Names.{Name, same_name}
@@ -75,7 +75,7 @@ data_wire lib n c = both_ends (end_number lib n data_outs data_ins c.from) (end_
 
 -- ---- Networks
 
--- the indices of the data inputs that an instance's parameters set
+-- the indexes of the data inputs that an instance's parameters set
 abbrev pub parameter_numbers : Library → Instance → Option (List ℕ)
 parameter_numbers lib i =
     elim (kind_of_instance lib i) [ None ↦ None | Some k ↦ each_or_none (λ x. index_of (data_ins (ports_of k)) x.name) i.parameters ]

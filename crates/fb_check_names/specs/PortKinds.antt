@@ -1,4 +1,4 @@
--- The kinds of ports, and their indices among all names of a type (IEC 61499-1, 5.1; the order of the names is this
+-- The kinds of ports, and their indexes among all names of a type (IEC 61499-1, 5.1; the order of the names is this
 -- project's profile).
 use Rattle.std.specs.Prelude.{ℕ, List, ◌++◌}
 use Rattle.std.specs.Borrow.{Bor}
@@ -17,7 +17,7 @@ names_of_kind EventOutput = event_outs
 names_of_kind Input = data_ins
 names_of_kind Output = data_outs
 
--- The map has the indices of the ports, and of the internal variables after them, as one list.
+-- The map has the indexes of the ports, and of the internal variables after them, as one list.
 pub record AreIndexesOf (p : Ports) (indexes : BTreeMap (Bor Name) ℕ) : Type 0 where
   pub internals : List Name
   pub index : IsIndex (event_ins p ++ (event_outs p ++ (data_ins p ++ (data_outs p ++ internals)))) indexes

@@ -1,8 +1,8 @@
--- What is in a list before, by its indices.
+-- What is in a list before, by its indexes.
 use Rattle.std.specs.Prelude.{◌≡◌, ◌<◌, ◌+◌, ℕ, Bool, List, [], ◌∷◌, Option, Some, None, cond, slice_get, take}
 use Rattle.fb_check_names.specs.Listed.{each_at}
 
--- The same item is at both indices, the earlier one first.
+-- The same item is at both indexes, the earlier one first.
 pub record IsPair {A : Type 0} (xs : List A) (locations : ℕ × ℕ) : Type 0 where
   pub in_order : locations.0 < locations.1
   pub what : A

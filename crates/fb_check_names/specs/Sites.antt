@@ -1,6 +1,6 @@
--- The networks, block types and variables of a declaration by their indices, and what is at an index in a network (IEC
+-- The networks, block types and variables of a declaration by their indexes, and what is at an index in a network (IEC
 -- 61499-1, 5.1 to 5.3).
-use Rattle.std.specs.Prelude.{ℕ, List, [], ◌++◌, Option, Some, None, slice_get, option_and_then, ◌≡◌, Bool, true}
+use Rattle.std.specs.Prelude.{ℕ, List, [], ◌++◌, Option, Some, None, slice_get, option_and_then, Bool, true}
 use Rattle.fb_types.specs.Blocks.{ports_of}
 use Rattle.fb_types.specs.Flat.{kind_of}
 use Rattle.fb_types.specs.Repeated.{OwnedNetwork, internals_of}
@@ -39,10 +39,6 @@ connections_of Data net = net.data_connections
 abbrev pub each_inside : (OwnedNetwork → Bool) → BlockType → Bool
 each_inside test (block.Basic t) = true
 each_inside test (block.Composite t) = test (Some t, t.network)
-
--- the network is there, inside a composite type or not
-abbrev pub IsNetworkAt : Library → Site → Network → Type 0
-IsNetworkAt lib s net = (n : OwnedNetwork) × (network_at lib s ≡ Some n) × (n.1 ≡ net)
 
 abbrev pub basic_inside : BlockType → Option BasicType
 basic_inside (block.Basic t) = Some t

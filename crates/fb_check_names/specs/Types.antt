@@ -1,4 +1,4 @@
--- The types of a declaration with the indices of their names (IEC 61499-1, 5.1).
+-- The types of a declaration with the indexes of their names (IEC 61499-1, 5.1).
 use Rattle.std.specs.Prelude.{◌≡◌, ℕ, List, map, length, Option, Some, slice_get, option_and_then}
 use Rattle.fb_types.specs.Names.{Name}
 use Rattle.fb_types.specs.Blocks.{ports_of}
@@ -15,7 +15,7 @@ use Rattle.fb_check_names.specs.Numbers.{index_of, kind_of_number}
 use Rattle.fb_check_names.specs.declared.numbers.TypeNumber.{TypeNumber}
 use Rattle.fb_check_names.specs.declared.types.Types.{Types}
 
--- The catalog has the indices of the types and of their names.
+-- The catalog has the indexes of the types and of their names.
 pub record HasTypes (lib : Library) (c : Catalog) : Type 0 where
   pub types : IsIndex (map type_name lib.blocks) c.types
   pub counted : length c.blocks.items ≡ length lib.blocks

@@ -1,4 +1,4 @@
-//! The indices of all names of a declaration and a deployment.
+//! The indexes of all names of a declaration and a deployment.
 
 ghost use Rattle.std.specs.Prelude.{◌≡◌, ◌++◌, IfOk};
 ghost use Rattle.fb_types.specs.Repeated.{NameTwice};
@@ -16,7 +16,7 @@ use crate::twice::GivenTwice;
 use fb_types::{Library, Plan};
 use std::alloc::{AllocError, Global};
 
-/// The indices of the names of a block type.
+/// The indexes of the names of a block type.
 pub struct BlockIndexes<'a> {
     /// Event inputs, event outputs, inputs, outputs and internal variables, numbered in this order as one list.
     pub ports: Indexes<'a>,
@@ -40,7 +40,7 @@ impl Drop for BlockIndexes<'_> {
     }
 }
 
-/// The indices of the names of a declaration and a deployment, in which no name is given twice.
+/// The indexes of the names of a declaration and a deployment, in which no name is given twice.
 pub struct Catalog<'a> {
     /// The block types of the declaration. The event blocks are not among them.
     pub types: Indexes<'a>,
@@ -63,8 +63,8 @@ impl Drop for Catalog<'_> {
     }
 }
 
-/// The indices of all names, if nothing is given twice. Adds what is (E20), in the order of the declaration: the names of
-/// block types, what each block type gives twice, then the application, the resources and the links.
+/// The indexes of all names, if nothing is given twice. Adds what is (E20), in the order of the declaration: the names
+/// of block types, what each block type gives twice, then the application, the resources and the links.
 ///
 /// # Errors
 ///

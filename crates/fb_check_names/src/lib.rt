@@ -1,14 +1,22 @@
-//! Names: their indices in a declaration and a deployment, and the numbers of their meaning. This finds names that
+//! Names: their indexes in a declaration and a deployment, and the numbers of their meaning. This finds names that
 //! are given twice (E20).
 //!
-//! Guarantees to callers: `catalog::catalog_of` lists all that is given twice, in the order of the declaration; the list is
-//! empty exactly if E20 does not apply, and then it returns the index of every name.
+//! Guarantees to callers: `catalog::catalog_of` lists all that is given twice, in the order of the declaration; the
+//! list is empty exactly if E20 does not apply, and then it returns the index of every name.
 //!
-//! Locations at which a number applies count what is meant by its indices in the lists of a declaration.
+//! Locations at which a number applies count what is meant by its indexes in the lists of a declaration.
 //!
-//! Read in this order: `location` and `twice`, locations; `listed` and `pairs`, lists of them; `together`; `placing` and `named`, the names of one list; `repeats`, what a list gives twice; `spaces`,
-//! the names of a type, a network or a deployment; `catalog` and `laws`. Then `numbers`, the numbers of types, ports,
-//! instances, resources and links; `types` and `ports`, the meaning of names by their indices.
+//! Read in this order:
+//!
+//! - `location` and `twice`: locations;
+//! - `listed` and `pairs`: lists of them;
+//! - `together`;
+//! - `placing` and `named`: the names of one list;
+//! - `repeats`: what a list gives twice;
+//! - `spaces`: the names of a type, a network or a deployment;
+//! - `catalog` and `laws`;
+//! - `numbers`: the numbers of types, ports, instances, resources and links;
+//! - `types` and `ports`: the meaning of names by their indexes.
 #![tactic(auto)]
 
 pub mod catalog;

@@ -192,7 +192,7 @@ pub struct Misjoin {
 pub struct Joined {
     /// The network.
     pub site: Site,
-    /// Their indices among the data connections of the network.
+    /// Their indexes among the data connections of the network.
     pub connections: Repeat,
 }
 
@@ -214,7 +214,7 @@ pub enum Unmapped {
     Again(Repeat),
 }
 
-/// A composite type and an instance inside it that makes it too high, by their indices (E25).
+/// A composite type and an instance inside it that makes it too high, by their indexes (E25).
 #[derive(Clone, Copy)]
 pub enum Descent {
     /// The type contains itself.

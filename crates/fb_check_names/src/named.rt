@@ -105,7 +105,7 @@ pub fn push_names<'a, T: Named>(names: &mut Vec<&'a Name>, items: &'a [T]) -> Re
     Ok(())
 }
 
-/// The indices of the names of a list, or `None` if a name is given twice.
+/// The indexes of the names of a list, or `None` if a name is given twice.
 pub fn indexes<'a, T: Named>(
     alloc: Global,
     items: &'a [T],

@@ -1,4 +1,4 @@
-//! Types, ports, instances and resources by their indices.
+//! Types, ports, instances and resources by their indexes.
 
 use fb_types::{EventKind, Items};
 
@@ -9,8 +9,8 @@ pub enum TypeNumber {
     Declared(usize),
 }
 
-/// An end of a connection: the index of the component, or none at the boundary, and the index of the port among the ports
-/// of its kind and direction.
+/// An end of a connection: the index of the component, or none at the boundary, and the index of the port among the
+/// ports of its kind and direction.
 #[derive(Clone, Copy)]
 pub struct ConnectionEnd {
     /// The index among the instances of the network, or none at the boundary.

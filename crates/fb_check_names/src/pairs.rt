@@ -5,7 +5,7 @@ ghost use Rattle.fb_check_names.specs.Repeats.{pair_at};
 
 use std::alloc::AllocError;
 
-/// The indices of two equal items in a list, the earlier one first.
+/// The indexes of two equal items in a list, the earlier one first.
 pub type Repeat = (usize, usize);
 
 /// Adds a pair for an item that is in the list before.

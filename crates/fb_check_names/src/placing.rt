@@ -1,4 +1,4 @@
-//! Names by their indices.
+//! Names by their indexes.
 
 ghost use Rattle.std.specs.Prelude.{◌≡◌, ◌++◌, IfOk, MatchOption};
 ghost use Rattle.fb_types.specs.Names.{same_name};
@@ -14,8 +14,8 @@ use std::collections::BTreeMap;
 /// The index of each name of a list, from 0.
 pub type Indexes<'a> = BTreeMap<&'a Name, usize, Global>;
 
-/// The last place of each name in a list. Each name that is in the list before is added, with the index of the nearest such
-/// name.
+/// The last place of each name in a list. Each name that is in the list before is added, with the index of the nearest
+/// such name.
 pub fn last_places<'a>(
     alloc: Global,
     again: &mut Vec<Repeat>,
@@ -32,7 +32,7 @@ pub fn last_places<'a>(
     Ok(places)
 }
 
-/// The indices of names, or `None` if a name is given twice.
+/// The indexes of names, or `None` if a name is given twice.
 pub fn indexes_of<'a>(alloc: Global, names: &[&'a Name]) -> Result<Option<Indexes<'a>>, AllocError>
     ensures { IfOk result (λ o. MatchOption o (Twice (names_in names.now)) (IsIndex (names_in names.now))) }
 {

@@ -1,4 +1,4 @@
-//! Ports of a type by their indices among the ports of their kind.
+//! Ports of a type by their indexes among the ports of their kind.
 
 ghost use Rattle.std.specs.Prelude.{◌≡◌, ◌<◌, ◌≤◌, ◌-◌, None, MatchOption, SomeIff, map};
 ghost use Rattle.fb_check_names.specs.Numbers as spec;
@@ -58,7 +58,7 @@ fn within(index: Option<usize>, count: usize) -> Option<usize>
     }
 }
 
-/// The index of a port among those of its kind, from the indices of all names of the type.
+/// The index of a port among those of its kind, from the indexes of all names of the type.
 pub fn index_in(ports: &Ports, indexes: &Indexes, port_kind: PortKind, name: &Name) -> Option<usize>
     requires { AreIndexesOf ports.now indexes.now }
     ensures { result ≡ spec.index_of (names_of_kind port_kind ports.now) name.now }

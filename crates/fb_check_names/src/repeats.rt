@@ -106,8 +106,8 @@ pub fn end_names(port: &PortName) -> EndNames<'_>
     }
 }
 
-/// The names at both ends of a connection: the component, if there is one, and the port of its beginning, and the same of
-/// its end.
+/// The names at both ends of a connection: the component, if there is one, and the port of its beginning, and the same
+/// of its end.
 type ConnectionNames<'a> = (Option<&'a Name>, &'a Name, Option<&'a Name>, &'a Name);
 
 /// The names at both ends of a connection.

@@ -1,4 +1,4 @@
-//! The indices of the names of one block type, one network or one deployment, and what is given twice there.
+//! The indexes of the names of one block type, one network or one deployment, and what is given twice there.
 
 ghost use Rattle.std.specs.Prelude.{◌≡◌, ◌++◌, [], map, IfOk};
 ghost use Rattle.fb_types.specs.Flat.{resource_names_of};
@@ -25,7 +25,7 @@ use fb_types::{
 use std::alloc::{AllocError, Global};
 use std::collections::BTreeMap;
 
-/// The indices of the names of a name space, if they differ. Adds those that are given twice.
+/// The indexes of the names of a name space, if they differ. Adds those that are given twice.
 fn name_indexes<'a>(
     alloc: Global,
     found: &mut Vec<GivenTwice>,
@@ -88,7 +88,7 @@ fn push_port_names<'a>(
     push_names(names, internals)
 }
 
-/// The indices of ports and of internal variables, as one list. Adds the names that are given twice.
+/// The indexes of ports and of internal variables, as one list. Adds the names that are given twice.
 fn port_indexes<'a>(
     alloc: Global,
     found: &mut Vec<GivenTwice>,
@@ -139,8 +139,8 @@ fn push_parameters(
     Ok(())
 }
 
-/// The indices of the instances of a network. Adds the names, the parameters of an instance and the event connections that
-/// are given twice.
+/// The indexes of the instances of a network. Adds the names, the parameters of an instance and the event connections
+/// that are given twice.
 pub fn network_indexes<'a>(
     alloc: Global,
     found: &mut Vec<GivenTwice>,
@@ -199,7 +199,7 @@ fn composite_indexes<'a>(
     })
 }
 
-/// The indices of the names of the block type at an index. Adds what it gives twice.
+/// The indexes of the names of the block type at an index. Adds what it gives twice.
 fn block_indexes<'a>(
     alloc: Global,
     found: &mut Vec<GivenTwice>,
@@ -215,7 +215,7 @@ fn block_indexes<'a>(
     }
 }
 
-/// The indices of the names of each block type. Adds what they give twice.
+/// The indexes of the names of each block type. Adds what they give twice.
 pub fn blocks_indexes<'a>(
     alloc: Global,
     found: &mut Vec<GivenTwice>,
@@ -246,7 +246,7 @@ pub fn push_event_blocks(
     Ok(())
 }
 
-/// The indices of the resources. Adds the names and the links that are given twice.
+/// The indexes of the resources. Adds the names and the links that are given twice.
 pub fn resource_indexes<'a>(
     alloc: Global,
     found: &mut Vec<GivenTwice>,

@@ -31,7 +31,7 @@ pub enum InBlock {
     Inside(InNetwork),
 }
 
-/// What a declaration or a deployment gives twice. Indices in lists are counted from 0.
+/// What a declaration or a deployment gives twice. Indexes in lists are counted from 0.
 #[derive(Clone, Copy)]
 pub enum GivenTwice {
     /// The name of an event block, given to the block type at this index.

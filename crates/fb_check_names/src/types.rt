@@ -12,19 +12,19 @@ use crate::ports::{PortKind, index_among, index_in};
 use fb_types::{Items, Library, Name, Ports, all_ports, kind_named};
 use std::alloc::{AllocError, Global};
 
-/// The block types of a declaration, with the indices of their names, and the ports of the event blocks.
+/// The block types of a declaration, with the indexes of their names, and the ports of the event blocks.
 #[derive(Drop)]
 pub struct Types<'a, 'b> {
     /// The declaration.
     pub library: &'a Library,
-    /// The indices of its names.
+    /// The indexes of its names.
     pub catalog: &'a Catalog<'b>,
     /// In the order of the event blocks' kinds.
     event_ports: Items<Ports>,
 }
 
 impl<'a, 'b> Types<'a, 'b> {
-    /// The types of a declaration, from the indices of its names.
+    /// The types of a declaration, from the indexes of its names.
     ///
     /// # Errors
     ///

@@ -98,7 +98,7 @@ outputs_among p e k apart h =
 
 -- ---- Ends of connections
 
--- The types of the variables of a kind are found by their indices.
+-- The types of the variables of a kind are found by their indexes.
 abbrev Finds : (Ports → List Variable) → Ports → Type 0
 Finds sort p = (e : PortName) (k : ℕ) → index_of (variable_names (sort p)) e.port ≡ Some k → type_at (sort p) k ≡ type_among p e
 

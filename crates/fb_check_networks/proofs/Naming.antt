@@ -1,4 +1,4 @@
--- What the numbers of types and the indices of ports say of the names that they represent.
+-- What the numbers of types and the indexes of ports say of the names that they represent.
 use Rattle.std.proofs.Common.{◌≡◌, ℕ, zero, suc, List, [], ◌∷◌, ◌++◌, map, Some, None, Contains, refl, ◌∙◌, ap, subst, inl, inr}
 use Rattle.std.specs.Prelude.{slice_get, option_map, option_and_then, position, flat_map}
 use Rattle.std.proofs.lemmas.List.Elements.{Contains-append_left, Contains-append_right}

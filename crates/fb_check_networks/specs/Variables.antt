@@ -1,4 +1,4 @@
--- The types of variables by the numbers of block types and the indices of ports (IEC 61499-1, 5.3).
+-- The types of variables by the numbers of block types and the indexes of ports (IEC 61499-1, 5.3).
 use Rattle.std.specs.Prelude.{ℕ, List, Option, Some, None, slice_get, option_and_then}
 use Rattle.fb_types.specs.Blocks.{ports_of, type_at}
 use Rattle.fb_types.specs.declared.value.Ty.{Ty}

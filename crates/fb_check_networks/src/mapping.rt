@@ -156,7 +156,8 @@ fn holder(mapping: &Mapping, name: &Name) -> usize
     }
 }
 
-/// The index of the resource that holds the component at an end of a connection of the application. The boundary gives 0.
+/// The index of the resource that holds the component at an end of a connection of the application. The boundary gives
+/// 0.
 pub fn resource_of(mapping: &Mapping, end: &PortName) -> usize
     ensures { result ≡ resource_in mapping.now end.now }
 {

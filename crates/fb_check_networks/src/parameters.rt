@@ -50,8 +50,8 @@ fn push_parameters(
     Ok(())
 }
 
-/// Adds the parameters of the instances of a network that are not values of their inputs' types. The numbers are those of the
-/// network.
+/// Adds the parameters of the instances of a network that are not values of their inputs' types. The numbers are those
+/// of the network.
 ///
 /// # Errors
 ///

@@ -129,8 +129,8 @@ fn all_misjoins(
     Ok(found)
 }
 
-/// All data connections to a type that does not contain all values of the source type, in the order of the declaration. No
-/// name is given twice, and the numbers are those of the declaration.
+/// All data connections to a type that does not contain all values of the source type, in the order of the declaration.
+/// No name is given twice, and the numbers are those of the declaration.
 ///
 /// # Errors
 ///

@@ -42,8 +42,8 @@ fn extend<'a>(
     Ok(())
 }
 
-/// Adds the variables that output events carry from their components to resources. `events` has the events that were met;
-/// at first both sets are empty.
+/// Adds the variables that output events carry from their components to resources. `events` has the events that were
+/// met; at first both sets are empty.
 fn serve_all<'a>(
     events: &mut Leads<'a>,
     served: &mut Leads<'a>,

@@ -90,7 +90,7 @@ fn all_unserved(
     unserved_by(alloc, library, plan, mapping, numbers, &served)
 }
 
-/// The indices of all data connections of the application that go from one resource to another, and no output event WITH
+/// The indexes of all data connections of the application that go from one resource to another, and no output event WITH
 /// the variable goes from the same instance to that resource (E28), in the order of the declaration.
 ///
 /// # Errors

@@ -1,4 +1,4 @@
-//! The types of variables by the numbers of block types and the indices of ports.
+//! The types of variables by the numbers of block types and the indexes of ports.
 
 ghost use Rattle.std.specs.Prelude.{◌≡◌};
 ghost use Rattle.std.specs.Option.{option_copied};

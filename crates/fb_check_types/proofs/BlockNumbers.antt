@@ -52,7 +52,7 @@ next_block lib bs n b o all more e h at is so_far grown = first_more lib n b o a
 pub has_indexes : (lib : Library) (c : Catalog) (n : ℕ) (t : BlockType) → HasTypes lib c → slice_get lib.blocks n ≡ Some t → n < length c.blocks.items
 has_indexes lib c n t has at = subst (λ (m : ℕ). n < m) (sym has.counted) (slice_get_within lib.blocks n t at)
 
--- the indices of its ports and of its instances
+-- the indexes of its ports and of its instances
 pub composite_ports :
     (lib : Library) (c : Catalog) (n : ℕ) (t : CompositeType) (x : BlockIndexes) → HasTypes lib c → slice_get lib.blocks n ≡ Some (block.Composite t)
     → x ≡ get_or c.blocks.items n x → AreIndexesOf t.ports x.ports

@@ -222,7 +222,7 @@ sides_are plan m k l is =
     let met : (n : Name) → is_some (index_in m n) ≡ is_resource plan.resources n = λ n. index_met (λ (r : ResourceEntry). r.name) m plan.resources n is in
     λ i. unless (met l.from i) (location.LinkEnd k From) ++ unless (met l.to i) (location.LinkEnd k To)
 
--- the names of a deployment that are unknown, by their indices
+-- the names of a deployment that are unknown, by their indexes
 pub deployment_is :
     (lib : Library) (plan : Plan) (instances resources : BTreeMap (Bor Name) ℕ) (rs : List ResourceEntry) (ls : List Link)
     → IsIndex (instance_names lib.application.network) instances → IsIndex (resource_names_of plan) resources → rs ≡ plan.resources → ls ≡ plan.links

@@ -287,7 +287,7 @@ type_says d n r is once =
     ∙ ap variable_type (sym (named-append (λ v. v.name) n (d.ports.inputs ++ d.ports.outputs) d.internals
     ∙ ap (λ r. or_else r (variable_at d.internals n)) (named-append (λ v. v.name) n d.ports.inputs d.ports.outputs)))
 
--- ---- By indices
+-- ---- By indexes
 
 events_named : (r : Role) (es : List EventPort) → map (λ d. d.0) (events_as r es) ≡ event_names es
 events_named r [] = refl

@@ -19,7 +19,7 @@ use Rattle.fb_types.specs.declared.library.Transition.{Transition}
 use Rattle.fb_check_names.specs.Catalog.{IsBlock}
 use Rattle.fb_check_names.specs.declared.catalog.BlockIndexes.{BlockIndexes}
 
--- The indices of the names of each block type, in the order of the types.
+-- The indexes of the names of each block type, in the order of the types.
 pub record AreBlocks (ts : List BlockType) (xs : List BlockIndexes) : Type 0 where
   pub counted : length xs ≡ length ts
   pub blocks : (k : ℕ) (t : BlockType) (x : BlockIndexes) → slice_get ts k ≡ Some t → slice_get xs k ≡ Some x → IsBlock t x

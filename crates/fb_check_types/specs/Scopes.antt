@@ -1,4 +1,4 @@
--- Networks by number, with the indices of their names (IEC 61499-1, 5.3).
+-- Networks by number, with the indexes of their names (IEC 61499-1, 5.3).
 use Rattle.std.specs.Prelude.{◌≡◌, ℕ, List, [], length, Option, Some, None, option_map, option_and_then}
 use Rattle.std.specs.Option.{ForSome}
 use Rattle.fb_types.specs.Names.{Name}

@@ -10,7 +10,7 @@ use fb_check_names::{Indexes, LinkEnds, Side, UnknownName, index_of_name, push_u
 use fb_types::{Items, Link, Name, ResourceEntry};
 use std::alloc::{AllocError, Global};
 
-/// The indices of the instances that a resource lists. Adds the names that are no instances.
+/// The indexes of the instances that a resource lists. Adds the names that are no instances.
 fn listed_of(
     alloc: Global,
     found: &mut Vec<UnknownName>,
@@ -51,7 +51,7 @@ pub fn held_of(
 }
 
 /// The resources of a link, if both are known.
-fn linked(from: Option<usize>, to: Option<usize>) -> Option<LinkEnds>
+fn link_between(from: Option<usize>, to: Option<usize>) -> Option<LinkEnds>
     ensures { result ≡ option_and_then (λ x. option_map (λ y. record { from = x; to = y }) to) from }
 {
     let from = from?;
@@ -82,7 +82,7 @@ fn push_link(
         side: Side::To,
     };
     push_unless(found, to.is_some(), location)?;
-    push_some(all, linked(from, to))?;
+    push_some(all, link_between(from, to))?;
     Ok(())
 }
 

@@ -21,10 +21,10 @@ use fb_check_names::{
 use fb_types::{CompositeType, Connection, Items, Name, Network, PortName};
 use std::alloc::{AllocError, Global};
 
-/// A network, with the indices of the names in it.
+/// A network, with the indexes of the names in it.
 #[derive(Clone, Copy)]
 pub struct NetworkScope<'a, 'b> {
-    /// The composite type that contains the network, with the indices of its names, or none for the application's.
+    /// The composite type that contains the network, with the indexes of its names, or none for the application's.
     pub composite: Option<(&'a CompositeType, &'a Indexes<'b>)>,
     /// The network itself.
     pub network: &'a Network,
@@ -130,7 +130,10 @@ fn side_of(
 }
 
 /// A connection by number, if both its ends are.
-fn joined(from: Option<ConnectionEnd>, to: Option<ConnectionEnd>) -> Option<NumberedConnection>
+fn connection_between(
+    from: Option<ConnectionEnd>,
+    to: Option<ConnectionEnd>,
+) -> Option<NumberedConnection>
     ensures { result ≡ both_ends from to }
 {
     let from = from?;
@@ -175,7 +178,7 @@ fn push_wire(
     )?;
     let to = side_of(types, scope, kinds, flow, Side::To, declared);
     push_unless(found, to.is_some(), end(site, flow, connection, Side::To))?;
-    push_some(wires, joined(from, to))?;
+    push_some(wires, connection_between(from, to))?;
     Ok(())
 }
 

@@ -1,4 +1,4 @@
-//! The meaning of the names of a block type's interface, by their indices.
+//! The meaning of the names of a block type's interface, by their indexes.
 
 ghost use Rattle.std.specs.Prelude.{◌≡◌, List, option_map, slice_get};
 ghost use Rattle.fb_types.specs.Blocks.{among, named, type_named};
@@ -46,7 +46,7 @@ impl Role {
     }
 }
 
-/// The ports and the internal variables of a block type, whose names have indices. Contracts see the ports and the
+/// The ports and the internal variables of a block type, whose names have indexes. Contracts see the ports and the
 /// variables.
 #[derive(Drop)]
 pub struct Interface<'a, 'n> {

@@ -1,17 +1,17 @@
-//! Names that are unknown in a declaration or a deployment (E21) and the numbers of those that are known, the meaning of the
-//! names of a block type, the kinds of expressions, and where kinds are wrong (E22).
+//! Names that are unknown in a declaration or a deployment (E21) and the numbers of those that are known, the meaning
+//! of the names of a block type, the kinds of expressions, and where kinds are wrong (E22).
 //!
-//! Guarantees to callers: `resolution::resolve` lists the locations at which nothing of the required kind has a name, exactly
-//! those. If there is none, it returns types, ports, instances, resources and links by their indices. `scope` has the
-//! meaning of the names of a basic type, `value_kinds` the kinds of expressions, and `variables` the types of variables if no
-//! index of names is at hand. `misfits::misfit_locations` lists all locations at which a declared value, a parameter, a
-//! guard or a statement has the wrong kind, in the order of the declaration. By the functions of `laws` and `kind_laws` the
-//! number applies if a location is listed. `statements::all_statements` lists the statements of an algorithm as they begin
-//! in the text.
+//! Guarantees to callers: `resolution::resolve` lists the locations at which nothing of the required kind has a name,
+//! exactly those. If there is none, it returns types, ports, instances, resources and links by their indexes. `scope`
+//! has the meaning of the names of a basic type, `value_kinds` the kinds of expressions, and `variables` the types of
+//! variables if no index of names is at hand. `misfits::misfit_locations` lists all locations at which a declared
+//! value, a parameter, a guard or a statement has the wrong kind, in the order of the declaration. By the functions of
+//! `laws` and `kind_laws` the number applies if a location is listed. `statements::all_statements` lists the statements
+//! of an algorithm as they begin in the text.
 //!
-//! Read in this order: `interface` and `scope`, the meaning of names; `mentions`, `charts` and `basics`, names in basic types;
-//! `there`, `ends` and `networks`, networks; `blocks` and `deployment`; `resolution`; `laws`. Then `value_kinds`, kinds;
-//! `variables`; `statements`, `misfits`; `kind_laws`.
+//! Read in this order: `interface` and `scope`, the meaning of names; `mentions`, `charts` and `basics`, names in basic
+//! types; `there`, `ends` and `networks`, networks; `blocks` and `deployment`; `resolution`; `laws`. Then
+//! `value_kinds`, kinds; `variables`; `statements`, `misfits`; `kind_laws`.
 #![tactic(auto)]
 
 mod basics;

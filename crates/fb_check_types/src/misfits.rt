@@ -129,8 +129,8 @@ fn push_in_composite(
     }
 }
 
-/// Adds what is wrong inside a block type, after its variables. The indexes are those of its names, and the numbers those of
-/// its network.
+/// Adds what is wrong inside a block type, after its variables. The indexes are those of its names, and the numbers
+/// those of its network.
 fn push_inside(
     alloc: Global,
     found: &mut Vec<Misfit>,

@@ -19,8 +19,8 @@ use fb_check_names::{
 use fb_types::{Instance, Items, Parameter};
 use std::alloc::{AllocError, Global};
 
-/// The indices of the inputs that the parameters of an instance set, from the number of its type. Adds the parameters that
-/// are no inputs of the type.
+/// The indexes of the inputs that the parameters of an instance set, from the number of its type. Adds the parameters
+/// that are no inputs of the type.
 fn inputs_of(
     alloc: Global,
     found: &mut Vec<UnknownName>,
@@ -55,8 +55,8 @@ fn no_type(types: &Types) -> TypeNumber
     TypeNumber::Declared(types.library.blocks.len())
 }
 
-/// Adds the number of an instance's type and the inputs that its parameters set, or those names of them that are unknown.
-/// If the type is unknown, the parameters are not looked at, and the number is one that no type has.
+/// Adds the number of an instance's type and the inputs that its parameters set, or those names of them that are
+/// unknown. If the type is unknown, the parameters are not looked at, and the number is one that no type has.
 fn push_instance(
     alloc: Global,
     found: &mut Vec<UnknownName>,

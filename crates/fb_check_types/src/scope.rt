@@ -12,7 +12,7 @@ use fb_check_names::{BlockIndexes, PortKind, index_of_name};
 use fb_types::{BasicType, Name, Ty};
 use std::marker::Model;
 
-/// A basic type, whose names have indices. Contracts see the type.
+/// A basic type, whose names have indexes. Contracts see the type.
 #[derive(Drop)]
 pub struct Scope<'a, 'n> {
     block: &'a BasicType,
@@ -37,7 +37,7 @@ impl<'a, 'n> Model for Scope<'a, 'n> {
 }
 
 impl<'a, 'n> Scope<'a, 'n> {
-    /// The scope of a basic type. `indexes` has the indices of its names.
+    /// The scope of a basic type. `indexes` has the indexes of its names.
     pub(crate) fn new(block: &'a BasicType, indexes: &'a BlockIndexes<'n>) -> Scope<'a, 'n>
         requires { IsBlock (Basic block.now) indexes.now }
         ensures { result ≡ block.now }

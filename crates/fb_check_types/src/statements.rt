@@ -116,7 +116,7 @@ pub fn all_statements(alloc: Global, body: &Body) -> Result<Vec<Standing>, Alloc
     Ok(all)
 }
 
-/// A statement of an algorithm of a block type, by its indices.
+/// A statement of an algorithm of a block type, by its indexes.
 #[derive(Clone, Copy)]
 pub struct StatementIndex {
     /// The index of the block type.

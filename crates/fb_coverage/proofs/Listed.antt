@@ -1,12 +1,10 @@
 -- Texts, rows and counts that grow by one element of a list after another.
-use Rattle.std.proofs.Common.{◌≡◌, ◌<◌, ◌≤◌, ◌+◌, ℕ, Bool, List, [], ◌∷◌, ◌++◌, drop, get_or, length, map, take, zero, suc, None, refl, sym, ◌∙◌, ap, append_assoc, append-nil}
+use Rattle.std.proofs.Common.{◌≡◌, ◌<◌, ◌≤◌, ◌+◌, ℕ, List, [], ◌∷◌, ◌++◌, drop, get_or, length, map, take, zero, suc, None, refl, sym, ◌∙◌, ap, append_assoc, append-nil}
 use Rattle.std.specs.Prelude.{OnOk, Result, Ok, Err, if◌then◌else◌, is_ok, slice_get, slice_set, unwrap_or}
-use Rattle.std.proofs.lemmas.List.{at_drop_all, at_drop_more, map-append, take_all, take_more}
+use Rattle.std.proofs.lemmas.List.{at_drop_all, at_drop_more, map-append, take_more}
 use Rattle.std.proofs.lemmas.Option.{get_or_from_slice_get, unwrap_or-slice_get}
 use Rattle.fb_types.proofs.ByIndex.{element_at}
 use Rattle.fb_coverage.specs.Reports.{listed}
-use Rattle.fb_coverage.specs.Shares.{with_row, with_rows}
-use Rattle.fb_coverage.specs.declared.share.Share.{Share}
 
 -- ---- Texts
 
@@ -44,27 +42,11 @@ mapped_more {A} {B} f xs i d old new within before added =
     ∙ sym (map-append f (take i xs) (get_or xs i d ∷ []))
     ∙ ap (map f) (sym (take_more xs i d within))
 
-pub mapped_all : {A B : Type 0} (f : A → B) (xs : List A) (i : ℕ) (new : List B) → length xs ≤ i → new ≡ map f (take i xs) → new ≡ map f xs
-mapped_all f xs i new past before = before ∙ ap (map f) (take_all i xs past)
-
 -- nothing is written past the end
 pub set_none : {A : Type 0} (xs : List A) (i : ℕ) (v : A) → slice_get xs i ≡ None → slice_set xs i v ≡ xs
 set_none [] i v none = refl
 set_none (x ∷ xs) zero v none = absurd (cc)
 set_none {A} (x ∷ xs) (suc i) v none = ap (λ (ys : List A). x ∷ ys) (set_none xs i v none)
-
--- ---- Counts
-
-pub rows_next :
-    (rows : List (List Bool)) (i : ℕ) (r : List Bool) (old new all : Share) → i < length rows → r ≡ get_or rows i r → new ≡ with_row old r → with_rows old (drop i rows) ≡ all
-    → with_rows new (drop (i + 1) rows) ≡ all
-rows_next rows i r old new all within is counted before =
-    let rest : List (List Bool) = drop (i + 1) rows in
-    ap (λ (s : Share). with_rows s rest) counted
-    ∙ sym (at_drop_more (λ (ys : List (List Bool)). with_rows old ys) rows i r within ∙ ap (λ (y : List Bool). with_rows old (y ∷ rest)) (sym is)) ∙ before
-
-pub rows_done : (rows : List (List Bool)) (i : ℕ) (new all : Share) → length rows ≤ i → with_rows new (drop i rows) ≡ all → new ≡ all
-rows_done rows i new all past before = sym (at_drop_all (λ (ys : List (List Bool)). with_rows new ys) rows i past) ∙ before
 
 -- ---- What the last of six calls adds
 

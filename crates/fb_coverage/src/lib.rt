@@ -4,8 +4,9 @@
 //! that it says, and no other; the report is exactly the text that the definitions have of the marks. `fb_inspect` sets
 //! the marks while it goes through a trace.
 //!
-//! Read in this order: `table`, flags in rows; `marks`, which marks there are; `part` and `opening`, the marks before the
-//! first trace; `share`, how much is covered; `block_report` and `port_report`, what is not; `report`, the whole text.
+//! Read in this order: `table`, flags in rows; `marks`, which marks there are; `part` and `opening`, the marks before
+//! the first trace; `share`, how much is covered; `block_report` and `port_report`, what is not; `report`, the whole
+//! text.
 #![tactic(auto)]
 
 mod block_report;

@@ -10,8 +10,8 @@ use crate::table::Table;
 use fb_system::System;
 use std::alloc::{AllocError, Global};
 
-/// What happened in the charts of basic types. Each table has a row for each declared type, which is empty for a type that
-/// is not basic or that no instance has.
+/// What happened in the charts of basic types. Each table has a row for each declared type, which is empty for a type
+/// that is not basic or that no instance has.
 pub struct ChartMarks {
     /// States that were entered. The initial one is, as soon as an instance has the type.
     pub states: Table,
@@ -40,7 +40,8 @@ impl Drop for ChartMarks {
     }
 }
 
-/// What happened at the event ports of instances. Each table has a row for each instance, which is empty for basic blocks.
+/// What happened at the event ports of instances. Each table has a row for each instance, which is empty for basic
+/// blocks.
 pub struct PortMarks {
     /// Event inputs at which an event was taken.
     pub inputs: Table,

@@ -44,8 +44,8 @@ fn named_graph(alloc: Global, library: &Library, name: &Name) -> Result<Option<V
     }
 }
 
-/// The graph of the application in its resources, or of the block type that has a name: of a basic type its chart, and of a
-/// composite type its network. There is none if no declared type has the name.
+/// The graph of the application in its resources, or of the block type that has a name: of a basic type its chart, and
+/// of a composite type its network. There is none if no declared type has the name.
 ///
 /// # Errors
 /// When memory runs out.

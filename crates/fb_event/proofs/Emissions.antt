@@ -99,7 +99,7 @@ map-nil f (x ∷ xs) e = cc
 pub silent-Performs : (s : State) (r : Reaction) (m : EventMemory) (step : Step) → Performs s r m step → r.emits ≡ [] → step.emits.now ≡ []
 silent-Performs s r m step h e = map-nil _ step.emits.now (h.emits ∙ e)
 
--- .. after what was emitted before
+-- what a step emits is put after what was emitted before
 pub appended-Performs : (s : State) (r : Reaction) (m : EventMemory) (step : Step) (old new : List run.Emission) → Performs s r m step
     → new ≡ old ++ map (emission_at (state_of s.kind m)) step.emits.now → EmitsAfter s.kind r old new
 appended-Performs s r m step old new h e = record {

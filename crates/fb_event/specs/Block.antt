@@ -18,7 +18,7 @@ use Rattle.fb_event.specs.declared.memory.EventMemory.TheVariants.{Flag, Running
 abbrev pub state : EventKind → Memory → State
 state k m = record { kind = k; memory = m }
 
--- .. in the program's form
+-- the state of an event block, made of the program's form of what it remembers
 abbrev pub state_of : EventKind → EventMemory → State
 state_of k m = state k (seen_memory m)
 
@@ -37,7 +37,7 @@ values_in (Flag q) = value.Bool q ∷ []
 values_in (Count count reached) = value.Bool reached ∷ value.Whole (pos count) ∷ []
 values_in _ = []
 
--- .. if there are data outputs
+-- the values of the data outputs, if there are any
 abbrev pub values_if_any : List Variable → EventMemory → List Value
 values_if_any [] m = []
 values_if_any (x ∷ xs) m = values_in m

@@ -10,17 +10,18 @@ use fb_types::{Emission, Emits, EventKind, Value, Values, event_block_output};
 use std::alloc::{AllocError, Global};
 
 /// Emits the events at these indexes in order, each with the values of all data outputs: of the fourteen
-/// blocks, those that have data outputs emit no event without them. The memory is that after the reaction.
+/// blocks, those that have data outputs emit no event without them. The memory is that after the reaction; it is lent,
+/// since mostly only its variant is read.
 #[inline(always)]
 pub(crate) fn emit_all(
     kind: EventKind,
-    memory: EventMemory,
+    memory: &EventMemory,
     events: &[u32],
     emits: &mut Emits,
 ) -> Result<(), AllocError>
-    requires in_range { IsInRange kind memory }
+    requires in_range { IsInRange kind memory.now }
     requires events { All (IsEventOutput kind) events.now }
-    ensures ok { OnOk result (emits.new ≡ emits.old ++ map (emission_at (state_of kind memory)) events.now) }
+    ensures ok { OnOk result (emits.new ≡ emits.old ++ map (emission_at (state_of kind memory.now)) events.now) }
     ensures well_formed { let IsFit = IsWellFormed kind in All IsFit emits.old → All IsFit emits.new }
     ensures kept { BeginsWith emits.old emits.new }
     ensures silent { events.now ≡ [] → IsOk result }
@@ -35,17 +36,17 @@ pub(crate) fn emit_all(
     Ok(())
 }
 
-/// .. of a block without data outputs.
+/// The same as `emit_all`, of a block without data outputs.
 #[inline(always)]
 fn emit_all_bare(
     kind: EventKind,
-    memory: EventMemory,
+    memory: &EventMemory,
     events: &[u32],
     emits: &mut Emits,
 ) -> Result<(), AllocError>
     requires events { All (IsEventOutput kind) events.now }
-    requires bare { values_of (state_of kind memory) ≡ [] }
-    ensures ok { OnOk result (emits.new ≡ emits.old ++ map (emission_at (state_of kind memory)) events.now) }
+    requires bare { values_of (state_of kind memory.now) ≡ [] }
+    ensures ok { OnOk result (emits.new ≡ emits.old ++ map (emission_at (state_of kind memory.now)) events.now) }
     ensures well_formed { let IsFit = IsWellFormed kind in All IsFit emits.old → All IsFit emits.new }
     ensures kept { BeginsWith emits.old emits.new }
     ensures silent { events.now ≡ [] → IsOk result }
@@ -57,16 +58,17 @@ fn emit_all_bare(
     emit_each_bare(kind, memory, events, emits)
 }
 
+/// The same as `emit_all_bare`, for any number of events.
 #[inline(never)]
 fn emit_each_bare(
     kind: EventKind,
-    memory: EventMemory,
+    memory: &EventMemory,
     events: &[u32],
     emits: &mut Emits,
 ) -> Result<(), AllocError>
     requires events { All (IsEventOutput kind) events.now }
-    requires bare { values_of (state_of kind memory) ≡ [] }
-    ensures ok { OnOk result (emits.new ≡ emits.old ++ map (emission_at (state_of kind memory)) events.now) }
+    requires bare { values_of (state_of kind memory.now) ≡ [] }
+    ensures ok { OnOk result (emits.new ≡ emits.old ++ map (emission_at (state_of kind memory.now)) events.now) }
     ensures well_formed { let IsFit = IsWellFormed kind in All IsFit emits.old → All IsFit emits.new }
     ensures kept { BeginsWith emits.old emits.new }
     ensures silent { events.now ≡ [] → IsOk result }
@@ -80,12 +82,12 @@ fn emit_each_bare(
 #[inline(always)]
 fn emit_bare(
     kind: EventKind,
-    memory: EventMemory,
+    memory: &EventMemory,
     event: u32,
     emits: &mut Emits,
 ) -> Result<(), AllocError>
-    requires { values_of (state_of kind memory) ≡ [] }
-    ensures ok { OnOk result (emits.new ≡ emits.old ++ emission_at (state_of kind memory) event ∷ []) }
+    requires { values_of (state_of kind memory.now) ≡ [] }
+    ensures ok { OnOk result (emits.new ≡ emits.old ++ emission_at (state_of kind memory.now) event ∷ []) }
     ensures err { OnErr result (emits.new ≡ emits.old) }
 {
     emits.push_bare(event)
@@ -93,12 +95,12 @@ fn emit_bare(
 
 fn emit(
     kind: EventKind,
-    memory: EventMemory,
+    memory: &EventMemory,
     event: u32,
     emits: &mut Emits,
 ) -> Result<(), AllocError>
-    requires { values_of (state_of kind memory) ≡ values_in memory }
-    ensures ok { OnOk result (emits.new ≡ emits.old ++ emission_at (state_of kind memory) event ∷ []) }
+    requires { values_of (state_of kind memory.now) ≡ values_in memory.now }
+    ensures ok { OnOk result (emits.new ≡ emits.old ++ emission_at (state_of kind memory.now) event ∷ []) }
     ensures err { OnErr result (emits.new ≡ emits.old) }
 {
     let values = outputs(memory, emits.allocator())?;
@@ -109,10 +111,10 @@ fn emit(
 /// does not.
 #[tactic(auto, using(crate::proofs::Emissions::shown_values))]
 #[inline(always)]
-fn is_bare(kind: EventKind, memory: EventMemory) -> bool
-    requires { IsInRange kind memory }
-    ensures bare { IsTrue result → values_of (state_of kind memory) ≡ [] }
-    ensures shown { result ≡ false → values_of (state_of kind memory) ≡ values_in memory }
+fn is_bare(kind: EventKind, memory: &EventMemory) -> bool
+    requires { IsInRange kind memory.now }
+    ensures bare { IsTrue result → values_of (state_of kind memory.now) ≡ [] }
+    ensures shown { result ≡ false → values_of (state_of kind memory.now) ≡ values_in memory.now }
 {
     match memory {
         EventMemory::Idle | EventMemory::Marks { .. } | EventMemory::Running(_) => true,
@@ -122,13 +124,16 @@ fn is_bare(kind: EventKind, memory: EventMemory) -> bool
 
 /// The values of the data outputs, of a block that has any.
 #[inline(always)]
-fn outputs(memory: EventMemory, alloc: Global) -> Result<Values, AllocError>
-    ensures { IfOk result (λ values. values ≡ values_in memory) }
+fn outputs(memory: &EventMemory, alloc: Global) -> Result<Values, AllocError>
+    ensures { IfOk result (λ values. values ≡ values_in memory.now) }
 {
     match memory {
-        EventMemory::Flag(q) => Values::from_slice(alloc, &[Value::Bool(q)]),
+        EventMemory::Flag(q) => Values::from_slice(alloc, &[Value::Bool(*q)]),
         EventMemory::Count { count, reached } => {
-            Values::from_slice(alloc, &[Value::Bool(reached), Value::Whole(count as i128)])
+            Values::from_slice(
+                alloc,
+                &[Value::Bool(*reached), Value::Whole(*count as i128)],
+            )
         }
         EventMemory::Idle | EventMemory::Marks { .. } | EventMemory::Running(_) => Ok(Values::new(
             alloc,

@@ -48,13 +48,13 @@ pub fn react(
     ensures silent { (reaction_to state.old event tick inputs.now).emits ≡ [] → IsOk result }
 {
     let step = reaction(state.kind, &mut state.memory, event, tick, first(inputs));
-    emit_all(state.kind, state.memory, step.emits, emits)?;
+    emit_all(state.kind, &state.memory, step.emits, emits)?;
     *ask = step.ask;
     Ok(())
 }
 
-/// The event output that a block of a kind emits for each event, where this is all that it ever does: it has no data, and it
-/// remembers and asks nothing. `None` says nothing of the kind.
+/// The event output that a block of a kind emits for each event, where this is all that it ever does: it has no data,
+/// and it remembers and asks nothing. `None` says nothing of the kind.
 #[inline(always)]
 pub fn passes_to(kind: EventKind) -> Option<u32>
     ensures { IfSome result (PassesTo kind) }
@@ -95,7 +95,7 @@ pub fn expire(
     ensures silent { (expiry_of state.old tick).emits ≡ [] → IsOk result }
 {
     let step = expiry(state.kind, &mut state.memory, tick);
-    emit_all(state.kind, state.memory, step.emits, emits)?;
+    emit_all(state.kind, &state.memory, step.emits, emits)?;
     *ask = step.ask;
     Ok(())
 }

@@ -29,8 +29,8 @@ const R_OF_COUNT_UP: u32 = 1;
 /// The last time in the range of TIME.
 const LONGEST: i128 = i64::MAX as i128;
 
-/// The result of a reaction of an event block, apart from what the block is then: what it emits, and what it asks of
-/// its timer.
+/// The result of a reaction of an event block, without the block's new memory: what it emits, and what it asks of its
+/// timer.
 #[derive(Clone, Copy)]
 pub(crate) struct Step {
     /// The indexes of the event outputs that are emitted, in order. The same values go with each.
@@ -125,7 +125,7 @@ pub(crate) fn reaction(
         EventKind::Select => Step::emitting_if((event == EI0_OF_SELECT) != is_true(input)),
         EventKind::Switch => Step::emitting(if is_true(input) { &[1] } else { &[0] }),
         EventKind::Delay | EventKind::Cycle => {
-            let (after, ask) = timed(*memory, event, tick, input);
+            let (after, ask) = timer_after(*memory, event, tick, input);
             *memory = after;
             Step {
                 ask,
@@ -171,13 +171,13 @@ pub(crate) fn expiry(kind: EventKind, memory: &mut EventMemory, tick: u64) -> St
             *memory = EventMemory::Idle;
             Step::emitting(&[0])
         }
-        EventKind::Cycle => again(*memory, tick),
+        EventKind::Cycle => restart_cycle(*memory, tick),
         _ => Step::silent(),
     }
 }
 
 /// E_CYCLE emits EO, and its timer is set again, for the time of the START that began it.
-fn again(memory: EventMemory, tick: u64) -> Step
+fn restart_cycle(memory: EventMemory, tick: u64) -> Step
     requires early { tick ≤ 10 ^ 12 }
     requires running { IsInRange EventKind.Cycle memory }
     ensures { let before = state_of EventKind.Cycle memory in Performs before (expiry_of before tick) memory result }
@@ -198,12 +198,12 @@ fn rendezvous(memory: EventMemory, event: u32) -> (EventMemory, Step)
         Performs before (reaction_with before event 0 (Value.Bool false)) result.0 result.1 }
 {
     match memory {
-        EventMemory::Marks { first, second } => met(first, second, event),
+        EventMemory::Marks { first, second } => mark_rendezvous(first, second, event),
         _ => (memory, Step::silent()),
     }
 }
 
-fn met(first: bool, second: bool, event: u32) -> (EventMemory, Step)
+fn mark_rendezvous(first: bool, second: bool, event: u32) -> (EventMemory, Step)
     ensures { let before = state_of EventKind.Rendezvous (EventMemory.Marks first second) in
         Performs before (reaction_with before event 0 (Value.Bool false)) result.0 result.1 }
 {
@@ -225,7 +225,7 @@ fn met(first: bool, second: bool, event: u32) -> (EventMemory, Step)
 
 /// The timer of E_DELAY and E_CYCLE after START or STOP, and what is asked of it. A time past the range of TIME, which
 /// no input of that type has, counts as the longest.
-fn timed(memory: EventMemory, event: u32, tick: u64, input: Value) -> (EventMemory, TimerAsk)
+fn timer_after(memory: EventMemory, event: u32, tick: u64, input: Value) -> (EventMemory, TimerAsk)
     requires early { tick ≤ 10 ^ 12 }
     requires running { IsTimeInRange memory }
     ensures { IsTimerAfter (timed_with (seen_memory memory) event tick (as_time input)) result.0 result.1 }

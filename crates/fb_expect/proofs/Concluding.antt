@@ -120,9 +120,6 @@ broken-here n hs end b none x =
     either k f less (inl y) = x.before k f less y
     either k f less (inr y) = none k f (let lt = x.inside in omega arith) y
 
-pub never-later : (k : ℕ) (f : Fault) → ⊥ → ⊥
-never-later k f x = x
-
 pub clean-nowhere : (n : Need) (hs : List Hit) (end : End) → ((k : ℕ) (f : Fault) → BreaksLater n hs end k f → ⊥) → IsClean n hs → BreaksNowhere n hs end
 clean-nowhere n hs end none clean k f (inl x) = clean k f x
 clean-nowhere n hs end none clean k f (inr x) = none k f x
@@ -144,9 +141,6 @@ not-holds within hs end (Some t) over knows clean = (
 )
 
 -- ---- Counts
-
-abbrev counts : (least : ℕ) (most every : Option ℕ) → Need
-counts least most every = Count least most every
 
 -- what breaks at a line comes before the end
 fewer-is-after : (e : Option ℕ) (least : ℕ) (hs : List Hit) (end : End) (k : ℕ) → k < length hs → IsFewerAtEnd e least hs end k → ⊥

@@ -1,33 +1,25 @@
 -- A trace, line by line.
-use Rattle.std.proofs.Common.{◌≡◌, ℕ, ◌+◌, ◌≤◌, List, [], ◌∷◌, ◌++◌, length, refl, sym, ap, subst, ◌∙◌, arith, append_assoc, append-nil}
-use Rattle.std.specs.Prelude.{IfSome, Option, Some, None}
+use Rattle.std.proofs.Common.{ℕ, ◌+◌, ◌≤◌, List, [], ◌∷◌, ◌++◌, refl, sym, ap, subst, ◌∙◌, arith, append_assoc, append-nil}
+use Rattle.std.specs.Prelude.{Option}
 use Rattle.std.specs.Io.KnownBytes.{Consumes, IsAtEnd}
 use Rattle.std.proofs.KnownBytes.{Consumes-trans, Consumes-whole}
 use Rattle.std.proofs.lemmas.List.{length_push}
 use Rattle.fb_types.specs.declared.run.Form.{Form}
 use Rattle.fb_expect.specs.Events.{Event, IsLine}
-use Rattle.fb_expect.specs.Judging.{AllFollow, AllMove, AreJudged, IsFollowed, IsRead, Judges, rules_of}
+use Rattle.fb_expect.specs.Judging.{AllMove, IsFollowed, IsRead}
 use Rattle.fb_expect.specs.Lines.{IsOneLine}
-use Rattle.fb_expect.specs.Traces.{AreBelow, AreLines, EndsAfter, IsLast, IsTrace, last_tick, tick_of}
+use Rattle.fb_expect.specs.Traces.{AreLines, EndsAfter, IsLast, IsTrace, last_tick, tick_of}
 use Rattle.fb_expect.specs.Words.{Text}
 use Rattle.fb_expect.specs.declared.ending.End.{End}
 use Rattle.fb_expect.specs.declared.ending.End.TheVariants.{Horizon, Stop, Cut}
 use Rattle.fb_expect.specs.declared.judging.Cut.{Cut as MayCut}
-use Rattle.fb_expect.specs.declared.judging.Judged.{Judged}
 use Rattle.fb_expect.specs.declared.judging.Watcher.{Watcher}
-use Rattle.fb_expect.specs.declared.rule.Rule.{Rule}
 use Rattle.fb_expect.proofs.Following.{all-below, below-later, last-one, rise-one}
 
 lines-one : (form : Form) (text : Text) (es : List Event) (line : Text) (e : Event) → AreLines form text es → IsLine form line e → AreLines form (text ++ line) (es ++ e ∷ [])
 lines-one form text [] line e are is = (line, [], is, refl, ap (λ (t : Text). t ++ line) are ∙ sym (append-nil line))
 lines-one form text (x ∷ es) line e (l, rest, one, more, parts) is =
     (l, rest ++ line, one, lines-one form rest es line e more is, ap (λ (t : Text). t ++ line) parts ∙ append_assoc l rest line)
-
-pub read-none :
-    (form : Form) (input left : Option Text) (line : Text) (ws : List Watcher) → AllFollow [] ws → Consumes input left line → IsOneLine line
-    → IsRead form input left line 0 1 ws
-read-none form input left line ws follow read one =
-    record { events = []; lines = []; counted = refl; follow = follow; are_lines = refl; rise = tt; last = refl; read = read; one = one }
 
 pub read-one :
     (form : Form) (input left new : Option Text) (line next : Text) (tick number : ℕ) (e : Event) (ws vs : List Watcher) → IsRead form input left line tick number ws
@@ -69,23 +61,3 @@ followed form cut input left line tick number end ws r is after over =
           Consumes-whole input left (r.lines ++ line) (λ text. IsTrace cut text r.events end) r.read over
           (record { form = form; lines = r.lines; last = line; are_lines = r.are_lines; rise = r.rise; is_last = is; ends = ends; parts = refl });
     }
-
-on-some : (o : Option Text) (P Q : Text → Type 0) → ((t : Text) → P t → Q t) → IfSome o P → IfSome o Q
-on-some None P Q f p = tt
-on-some (Some t) P Q f p = f t p
-
-pub judges :
-    (cut : MayCut) (input : Option Text) (ws : List Watcher) (rules : List Rule) (number : ℕ) (end : End) (js : List Judged) → IsFollowed cut input ws number end
-    → rules_of ws ≡ rules
-    → ((es : List Event) → number ≡ length es + 1 → AreBelow es (tick_of end) → AllFollow es ws → AreJudged es end (rules_of ws) js)
-    → IfSome input (λ text. Judges cut text rules js)
-judges cut input ws rules number end js f same concludes =
-    on-some input _ _
-    (λ text trace.
-    record {
-      events = f.events;
-      end = end;
-      trace = trace;
-      judged = subst (λ (rs : List Rule). AreJudged f.events end rs js) same (concludes f.events f.counted f.below f.follow);
-    })
-    f.trace

@@ -1,5 +1,5 @@
 -- Places of lists of lines that grow by one line.
-use Rattle.std.proofs.Common.{◌≡◌, ℕ, ◌<◌, Bool, true, false, List, [], ◌∷◌, ◌++◌, length, refl, sym, ap, subst, ◌∙◌, arith, inl, inr}
+use Rattle.std.proofs.Common.{◌≡◌, ℕ, ◌<◌, Bool, true, false, List, [], ◌∷◌, ◌++◌, length, sym, ap, subst, ◌∙◌, arith, inl, inr}
 use Rattle.std.specs.Prelude.{◌⊎◌}
 use Rattle.std.proofs.Math.Seq.{get_or-append_seam}
 use Rattle.std.proofs.lemmas.Bool.{cases_lt}
@@ -57,12 +57,3 @@ found test hs h i none is =
           (let same : i ≡ length hs = omega arith in
           inr (same, new-back test hs h (subst (λ (k : ℕ). test (hit_at (hs ++ h ∷ []) k) ≡ true) same is)))
     ]
-
-pub first-none : ◌≡◌ {A = Bool} no_hit.first false
-first-none = refl
-
-pub second-none : ◌≡◌ {A = Bool} no_hit.second false
-second-none = refl
-
-pub third-none : ◌≡◌ {A = Bool} no_hit.third false
-third-none = refl

@@ -59,18 +59,6 @@ stands-more n (Some x) now new line at reads =
     known-rest : (o : Option Text) → o ≡ Some (rest_at n x) → IfSome o (λ y. new ≡ Some (drop_through 10 y)) → new ≡ Some (drop_through 10 (rest_at n x))
     known-rest o same holds = subst (λ (p : Option Text). IfSome p (λ y. new ≡ Some (drop_through 10 y))) same holds
 
-pub passed-none : (a b : Option Text) → HasPassed 0 a b a b
-passed-none a b = record { first = at a; second = at b; same = none a b }
-  where
-    at : (o : Option Text) → ComesAfter 0 o o
-    at None = tt
-    at (Some x) = refl
-
-    none : (a b : Option Text) → IfSome a (λ x. IfSome b (λ y. AreSame 0 x y))
-    none None b = tt
-    none (Some x) None = tt
-    none (Some x) (Some y) = λ k lt. absurd (omega arith)
-
 pub passed-one :
     (n : ℕ) (a b a-now b-now a-new b-new : Option Text) (left right : Text) → HasPassed n a b a-now b-now → Reads a-now a-new left → Reads b-now b-new right → left ≡ right
     → HasPassed (n + 1) a b a-new b-new

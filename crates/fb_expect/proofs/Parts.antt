@@ -1,10 +1,10 @@
 -- The parts of a text before and after a mark.
-use Rattle.std.proofs.Common.{◌≡◌, ℕ, ◌+◌, ◌-◌, ◌<◌, ◌≤◌, ltb, nat_eq, true, false, [], ◌∷◌, length, get_or, take, drop, Some, None, refl, arith}
+use Rattle.std.proofs.Common.{◌≡◌, ℕ, ◌+◌, ◌-◌, ◌<◌, ◌≤◌, ltb, nat_eq, true, false, length, get_or, take, drop, Some, None, refl, arith}
 use Rattle.std.proofs.lemmas.List.{take_all, length-drop}
 use Rattle.std.proofs.lemmas.Bool.{lt-ltb}
 use Rattle.std.proofs.lemmas.List.Sums.{position_or_len_is}
-use Rattle.std.specs.List.{position_or_len, slice_split}
-use Rattle.fb_expect.specs.Words.{Text, split_at_mark, words_after}
+use Rattle.std.specs.List.{position_or_len}
+use Rattle.fb_expect.specs.Words.{Text, split_at_mark}
 use Rattle.fb_expect.specs.Written.{at_comparison, is_sign}
 
 pub parted_at : (mark : ℕ) (z : Text) (i : ℕ) → i < length z → ((k : ℕ) → k < i → nat_eq mark (get_or z k 0) ≡ false) → nat_eq mark (get_or z i 0) ≡ true
@@ -37,8 +37,3 @@ sign_none z before =
     let e : position_or_len is_sign z ≡ length z = position_or_len_is is_sign z (length z) 0 (omega arith) before (λ lt. absurd (omega arith)) in
     let never : ltb (length z) (length z) ≡ false = grind arith in
     rw (e, never) refl
-
--- the words after the first byte of a text
-pub words_from : (z : Text) → 0 < length z → words_after z ≡ slice_split (nat_eq 32) (drop 1 z)
-words_from [] some = absurd (omega arith)
-words_from (b ∷ z) some = refl

@@ -96,10 +96,6 @@ before-broken within line hit (watch.Count m c) other hs number below knows = ab
 
 -- ---- Stretches
 
--- whether a stretch has the new line
-abbrev pub IsHere : (on third here : Bool) → Type 0
-IsHere on third here = here ≡ (on && not third)
-
 here : (f : Bool) (hs : List Hit) (hit : Hit) (on b : Bool) → b ≡ (on && not hit.third) → KnowsStretch f hs on → KnowsHere f hs hit b
 here f hs hit on b is knows = subst (λ (x : Bool). KnowsHere f hs hit x) (sym is) (stays f hs hit on hit.third refl knows)
 

@@ -80,13 +80,13 @@ fn next(watcher: &mut Watcher<'_>, number: u64, entry: &Entry<'_>)
     ensures { Moves number (event_of entry.now) watcher.old watcher.new }
 {
     if watcher.ports.may_have(entry) {
-        note_one(watcher, number, entry);
+        take_line_for_rule(watcher, number, entry);
     }
 }
 
 /// Takes one more line, of this number, whatever its port.
 #[inline(never)]
-fn note_one(watcher: &mut Watcher<'_>, number: u64, entry: &Entry<'_>)
+fn take_line_for_rule(watcher: &mut Watcher<'_>, number: u64, entry: &Entry<'_>)
     ensures { Moves number (event_of entry.now) watcher.old watcher.new }
 {
     let rule = watcher.rule;
@@ -96,7 +96,7 @@ fn note_one(watcher: &mut Watcher<'_>, number: u64, entry: &Entry<'_>)
 }
 
 /// Takes one more line for all rules.
-fn note(watchers: &mut [Watcher<'_>], number: u64, entry: &Entry<'_>)
+fn take_line(watchers: &mut [Watcher<'_>], number: u64, entry: &Entry<'_>)
     ensures rules { rules_of watchers.new ≡ rules_of watchers.old }
     ensures moves { AllMove number (event_of entry.now) watchers.old watchers.new }
 {
@@ -194,7 +194,7 @@ fn follow<R: BufRead>(
         }
         match read_entry(form, line.as_slice()) {
             Some(entry) if tick <= entry.tick => {
-                note(watchers.as_mut_slice(), number, &entry);
+                take_line(watchers.as_mut_slice(), number, &entry);
                 tick = entry.tick;
             }
             _ => return Err(TraceError::Refused(number)),

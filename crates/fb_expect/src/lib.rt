@@ -1,17 +1,27 @@
 //! Rules over traces, and where two traces differ.
 //!
 //! Guarantees to callers: `read_rules` gives the rules that the definitions make of the tree of the TOML reader, or the
-//! number of the refusal. `judge` gives for each rule whether it holds of the lines of a trace, breaks (and at which line
-//! first), or is undecided, as the definitions say of the whole list of lines. `part` says that two texts are the same
-//! exactly if their bytes are, and otherwise gives the first lines in which they differ.
+//! number of the refusal. `judge` gives for each rule whether it holds of the lines of a trace, breaks (and at which
+//! line first), or is undecided, as the definitions say of the whole list of lines. `part` says that two texts are the
+//! same exactly if their bytes are, and otherwise gives the first lines in which they differ.
 //!
 //! The report and the text of a difference are the texts that the definitions make of these answers.
 //!
-//! Read in this order: `error`; `rule` and `pattern`, the data of rules; `words`, `number` and `names`, parts of texts;
-//! `document` and `rules`, how rules are read; `location`, where they are refused. Then `event` and `ending`, the meaning of a
-//! line; `meeting`, whether it meets a pattern; `hit`, `watch` and `verdict`, the state and the answer of a rule; `sight`,
-//! what a trace never has; `fingerprint` and `port_set`, which lines are passed over. Then `judging`, a trace line by line;
-//! `tap`, the report; `parting` and `difference_report`, where two texts first differ.
+//! Read in this order:
+//!
+//! - `error` and `fault`;
+//! - `rule`, `pattern` and `port_pattern`: the data of rules;
+//! - `words`, `number`, `names` and `lines`: parts of texts;
+//! - `document` and `rules`: how rules are read;
+//! - `location`: where they are refused;
+//! - `event`, `entry` and `ending`: the meaning of a line;
+//! - `meeting`: whether a line meets a pattern;
+//! - `hit`, `watch` and `verdict`: the state and the answer of a rule;
+//! - `sight`: what a trace never has;
+//! - `fingerprint` and `port_set`: which lines are passed over;
+//! - `judging`: a trace line by line;
+//! - `tap`: the report;
+//! - `parting` and `difference_report`: where two texts first differ.
 #![tactic(auto)]
 
 pub mod difference_report;

@@ -368,7 +368,8 @@ fn pattern_location(
     Ok(None)
 }
 
-/// The key of the first number of a rule that counts which is out of its range, or that of the most, which is under the least.
+/// The key of the first number of a rule that counts which is out of its range, or that of the most, which is under the
+/// least.
 fn count_key(least: Option<i64>, every: Option<i64>) -> RuleKey
     ensures { spec.IsCountKey least every result }
 {

@@ -73,7 +73,7 @@ fn broken(line: u64, tick: u64, fault: Fault) -> Watch
 }
 
 /// What waits after a line, if `mark` waited before it.
-fn waiting(mark: Option<Mark>, line: u64, hit: Hit) -> Option<Mark>
+fn mark_after(mark: Option<Mark>, line: u64, hit: Hit) -> Option<Mark>
     ensures { WaitsNext mark line hit result }
 {
     if hit.second {
@@ -101,7 +101,7 @@ fn fresh(line: u64, hit: Hit) -> Option<Mark>
 }
 
 /// What waited, if at a tick it is too late for it.
-fn missed(mark: Option<Mark>, within: u64, tick: u64) -> Option<Mark>
+fn overdue(mark: Option<Mark>, within: u64, tick: u64) -> Option<Mark>
     ensures { MatchOption result (InTime within mark tick) (λ m. (mark ≡ Some m) × (m.tick + within < tick)) }
 {
     match mark {
@@ -119,9 +119,9 @@ fn missed(mark: Option<Mark>, within: u64, tick: u64) -> Option<Mark>
 fn see(within: u64, mark: Option<Mark>, line: u64, hit: Hit) -> Watch
     ensures { Steps (Need.See within) (Watch.See mark) line hit result }
 {
-    match missed(mark, within, hit.tick) {
+    match overdue(mark, within, hit.tick) {
         Some(late) => broken(late.line, late.tick, Fault::Unanswered),
-        None => Watch::See(waiting(mark, line, hit)),
+        None => Watch::See(mark_after(mark, line, hit)),
     }
 }
 
@@ -204,8 +204,8 @@ fn is_over(most: Option<u64>, count: u64) -> bool
     }
 }
 
-/// The state of a count after one more line, if the windows before its own have enough. `before` is the count of P in its
-/// window before it.
+/// The state of a count after one more line, if the windows before its own have enough. `before` is the count of P in
+/// its window before it.
 fn count_on(most: Option<u64>, window: u64, before: u64, line: u64, hit: Hit) -> Watch
     ensures { CountsOn most window before line hit result }
 {

@@ -30,7 +30,7 @@ use Rattle.fb_types.proofs.Lookups.{option_cases, none_some}
 use Rattle.fb_types.proofs.ByIndex.{element_of_index}
 use Rattle.fb_types.proofs.EachLaws.{each_append}
 
--- ---- Indices in lists
+-- ---- Indexes in lists
 
 each_contained : {X : Type 0} (P : X → Type 0) (xs : List X) → ((x : X) → Contains xs x → P x) → Each P xs
 each_contained P [] h = tt
@@ -50,7 +50,7 @@ placed p (y ∷ ys) i e =
     let h = position-Some p (y ∷ ys) i y e in
     (slice_index_or (y ∷ ys) i y, slice_get-get_or (y ∷ ys) i y h.0, h.1)
 
--- of two that are equal, at two indices
+-- of two that are equal, at two indexes
 twice_at : {X : Type 0} (xs : List X) (i j : ℕ) (x : X) → i < j → slice_get xs i ≡ Some x → slice_get xs j ≡ Some x → Twice xs
 twice_at [] i j x b e f = absurd (none_some None x refl e)
 twice_at (y ∷ ys) i zero x b e f = absurd (omega arith)

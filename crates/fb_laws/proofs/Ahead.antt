@@ -6,7 +6,7 @@ use Rattle.fb_types.specs.Values.{Values, truth}
 use Rattle.fb_types.specs.Blocks.{Kind, Basic, Event, Composite, Emission, ports_of, is_event_input, bound, outputs_with}
 use Rattle.fb_types.specs.Charts.{Position}
 use Rattle.fb_types.specs.EventBlocks as blocks
-use Rattle.fb_types.specs.EventBlocks.{Memory, Idle, Marks, Flag, Running, Count, Reaction, stays, emits, emits_if, reaction, expiry, started, timed, counted, rendezvous, met, again, is, ticks, differ, flag}
+use Rattle.fb_types.specs.EventBlocks.{Memory, Idle, Marks, Flag, Running, Count, Reaction, emits, emits_if, reaction, expiry, started, timed, counted, rendezvous, met, again, is, ticks, differ, flag}
 use Rattle.fb_types.specs.Systems.{System}
 use Rattle.fb_types.specs.States.{Block, Event as AnEvent, Stimulated, Expired, Arrived, Raised}
 use Rattle.fb_types.specs.Reactions.{World, Outcome, memory_of, with_block, silent, taking, emitted, emitted_all, settled, remembered, emissions, answered, crossing_in, crossing_out, from_inside, expires, with_slots, hold_all, ReactsAt, Reacts}
@@ -40,9 +40,6 @@ pub record IsSteady (tick : ℕ) (x : Reaction) : Type 0 where
 if_steady : (tick : ℕ) (b : Bool) (x y : Reaction) → IsSteady tick x → IsSteady tick y → IsSteady tick (if b then x else y)
 if_steady tick true x y h g = h
 if_steady tick false x y h g = g
-
-kept : (tick : ℕ) (m : Memory) (es : List Name) → IsLong m → IsSteady tick (emits m es)
-kept tick m es h = record { long = h; ahead = tt }
 
 ticks_long : (z : ℤ) → 1 ≤ ticks z
 ticks_long (pos n) = omega arith

@@ -20,15 +20,6 @@ module _ (M : Machine) where
   pub agree_refl : (r t : ℕ) (l : Local M) → Agree r t l l
   agree_refl r t l = record { part = refl; stop = refl; own = λ k e b. refl; inbox = λ k e b. refl }
 
-  pub agree_sym : (r t : ℕ) (l m : Local M) → Agree r t l m → Agree r t m l
-  agree_sym r t l m h = record { part = sym h.part; stop = sym h.stop; own = λ k e b. sym (h.own k e b); inbox = λ k e b. sym (h.inbox k e b) }
-
-  pub agree_trans : (r t : ℕ) (l m n : Local M) → Agree r t l m → Agree r t m n → Agree r t l n
-  agree_trans r t l m n h g = record { part = h.part ∙ g.part; stop = h.stop ∙ g.stop; own = λ k e b. h.own k e b ∙ g.own k e b; inbox = λ k e b. h.inbox k e b ∙ g.inbox k e b }
-
-  pub agree_less : (r t u : ℕ) (l m : Local M) → u ≤ t → Agree r t l m → Agree r u l m
-  agree_less r t u l m b h = record { part = h.part; stop = h.stop; own = λ k e c. h.own k e (omega arith); inbox = λ k e c. h.inbox k e (omega arith) }
-
   pub agree_waiting : (r t : ℕ) (l m : Local M) → Agree r t l m → (k : Key) → k.resource ≡ r → k.tick < t → waiting M l k ≡ waiting M m k
   agree_waiting r t l m h k e b = rw (h.own k e b, h.inbox k e b)
 

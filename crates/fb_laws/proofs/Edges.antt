@@ -172,10 +172,6 @@ module _ {A : Type 0} where
   each_right P [] ys h = h
   each_right P (x ∷ xs) ys h = each_right P xs ys h.1
 
-  pub none_since_each : (xs : List A) → Each (λ x. ⊥) xs → xs ≡ []
-  none_since_each [] h = refl
-  none_since_each (x ∷ xs) h = absurd h.0
-
   pub append_none : (xs : List A) → xs ++ [] ≡ xs
   append_none [] = refl
   append_none (x ∷ xs) = ap (λ z. x ∷ z) (append_none xs)
@@ -190,9 +186,6 @@ module _ (M : Machine) where
 
   pub none_before : (u : ℕ) (xs : List M.Line) → Each (λ (x : M.Line). u ≤ M.line_tick x) xs → lines_before M u xs ≡ []
   none_before u xs h = filter_nothing (is_before u) xs (each_map _ _ xs (λ x b. le-ltb (M.line_tick x) u b) h)
-
-  pub all_before : (u : ℕ) (xs : List M.Line) → Each (λ (x : M.Line). M.line_tick x < u) xs → lines_before M u xs ≡ xs
-  all_before u xs h = filter_all (is_before u) xs (each_map _ _ xs (λ x b. lt-ltb (M.line_tick x) u b) h)
 
   pub all_from : (u : ℕ) (xs : List M.Line) → Each (λ (x : M.Line). u ≤ M.line_tick x) xs → lines_from M u xs ≡ xs
   all_from u xs h = filter_all (λ x. not (is_before u x)) xs (each_map _ _ xs (λ x b. not_from_false (is_before u x) (le-ltb (M.line_tick x) u b)) h)
@@ -246,15 +239,6 @@ module _ (M : Machine) where
         (subst (Each P) e (h r k.0)).0,
     each_at P count xs k.1 (λ r b. each_rest P x (lines_at M r xs) (M.line_resource x == r) (h r b)),
   )
-
-  -- if nothing is from a tick on, all lines are before it
-  pub before_whole : (u : ℕ) (xs : List M.Line) → lines_from M u xs ≡ [] → lines_before M u xs ≡ xs
-  before_whole u [] e = refl
-  before_whole u (x ∷ xs) e =
-      ⊎_elim
-      (λ (b : M.line_tick x < u). before_in u x xs b ∙ ap (λ z. x ∷ z) (before_whole u xs (sym (from_out u x xs b) ∙ e)))
-      (λ (b : u ≤ M.line_tick x). absurd (let n : [] ≡ x ∷ lines_from M u xs = sym e ∙ from_in u x xs b in cc))
-      (cases_lt (M.line_tick x) u)
 
   -- the same for lines that are merged, by their resource
   pub each_merged : (P : ℕ → M.Line → Type 0) (count : ℕ) (lists : ℕ → List M.Line) (xs : List M.Line) → IsMerge M count lists xs

@@ -280,10 +280,6 @@ module _ (M : Machine) where
               let p : (i.out.changes k) ≡ None = none_since _ (λ v z. n (sym d ∙ f.edits_own k v z ∙ mine)) in
               ap (λ o. changed_to o (without i.key w.agenda k)) p ∙ without_other i.key w.agenda k (⊎_elim (λ z. absurd (n (sym d ∙ sym (ap (λ y. y.resource) z) ∙ mine))) (λ z. z) (same_cases i.key k))
 
-  if_none : {V : Type 0} (b : Bool) (o : Option V) → o ≡ None → (if b then o else None) ≡ None
-  if_none true o h = h
-  if_none false o h = refl
-
   if_none' : {V : Type 0} (b : Bool) (o : Option V) → o ≡ None → (if b then None else o) ≡ None
   if_none' true o h = refl
   if_none' false o h = h

@@ -400,10 +400,6 @@ module _ (M : Machine) where
   floor_passed None clock m = omega arith
   floor_passed (Some reason) clock m = omega arith
 
-  -- what a core knows is a family: each resource to the greater of its clock and the floor of all
-  pub core_bound : (horizon : ℕ) (w : World M) (c : Core M) (runs : ℕ → List (Item M)) → Inv horizon w c runs → ℕ → ℕ
-  core_bound horizon w c runs v r = max (passed (c r)) v.m
-
   pub unposted : (horizon : ℕ) (w : World M) (c : Core M) (runs : ℕ → List (Item M)) (v : Inv horizon w c runs) (s r : ℕ) (k : Key) → k.resource ≡ r → k.tick < max (passed (c r)) v.m → found k (c s).outbox ≡ None
   unposted horizon w c runs v s r k e b =
       let l : passed (c r) ≤ limit (c r) = passed_limit w _ _ r (c r) (runs r) (v.each r) in

@@ -31,14 +31,6 @@ use Rattle.fb_laws.proofs.Opening.{opening_fits, is_opening, is_counted}
 pub same_trans : (M : Machine) (r : ℕ) (l m n : Local M) → IsSameAt M r l m → IsSameAt M r m n → IsSameAt M r l n
 same_trans M r l m n a b = record { part = a.part ∙ b.part; own = λ k e. a.own k e ∙ b.own k e; stop = a.stop ∙ b.stop }
 
-stop_tick : Ending → ℕ
-stop_tick (AtHorizon h) = h
-stop_tick (AtStop m r q) = m
-
-stop_resource : Ending → ℕ
-stop_resource (AtHorizon h) = h
-stop_resource (AtStop m r q) = r
-
 module _ (sys : System) (sound : IsSound sys) (stimuli : List Stimulus) (horizon limit : ℕ) (ts : List Taken) (x : IsSimulation sys stimuli horizon limit ts) where
   abbrev pub M : Machine
   M = machine sys limit

@@ -1,13 +1,12 @@
 -- A legal bound stays legal while others leave and come back: so a phase's steps may come in every order.
-use Rattle.std.proofs.Common.{◌≡◌, ℕ, ◌+◌, ◌<◌, ◌≤◌, max, Some, None, List, refl, sym, ◌∙◌, subst, arith}
+use Rattle.std.proofs.Common.{◌≡◌, ℕ, ◌<◌, ◌≤◌, max, Some, None, List, sym, ◌∙◌, subst, arith}
 use Rattle.fb_types.specs.declared.key.Key.{Key}
 use Rattle.fb_types.specs.Keys.{found}
 use Rattle.fb_types.specs.Machines.{Machine, Item, waiting, sent_by}
 use Rattle.fb_laws.specs.Facts.{IsLawful}
 use Rattle.fb_types.specs.Takes.{with_at}
-use Rattle.fb_laws.specs.Worlds.{World, IsOpening}
-use Rattle.fb_types.specs.Cores.{Member, Lend, Give, Core, floor, IsLegal, MayGive, MayLend, done, returned}
-use Rattle.fb_laws.proofs.Start.{opening}
+use Rattle.fb_laws.specs.Worlds.{World}
+use Rattle.fb_types.specs.Cores.{Member, Lend, Give, Core, floor, IsLegal, MayGive, done, returned}
 use Rattle.fb_types.proofs.Lookups.{none_since, or_else_nones, found-append}
 use Rattle.fb_types.proofs.EachLaws.{each_both}
 use Rattle.fb_laws.proofs.Late.{Fair, chain_fair, found_none, end_late}
@@ -61,13 +60,3 @@ module _ (M : Machine) where
           let f : seat_floor M x.m (c q) ≡ max (c q).clock x.m = floor_live M (c q).state.stop (c q).clock x.m mv.live in
           let g : seat_floor M x.m (c q) ≤ u = omega arith in
           subst (λ (z : ℕ). seat_floor M x.m (c z) ≤ u) (sym n) g
-
-  -- the opening core may lend each resource as far as the least latency
-  pub first_window : (w : World M) (horizon least r : ℕ) → IsOpening M w → ((k : Key) (u : ℕ) → M.Arrives k u → u + least ≤ k.tick) → least ≤ horizon → MayLend M horizon (opening M w) r least
-  first_window w horizon least r o latency b = record {
-    home = refl;
-    live = o.live r;
-    legal = record { m = 0; is_floor = λ s k c. absurd (omega arith); outboxes = λ s k e c. refl; links = λ k u a e c. let d = latency k u a in omega arith };
-    not_back = omega arith;
-    in_range = b;
-  }

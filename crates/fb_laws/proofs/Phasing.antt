@@ -18,10 +18,6 @@ module _ (M : Machine) where
   schedule_append horizon [] fs c x y = y
   schedule_append horizon (e ∷ es) fs c x y = (x.0, schedule_append horizon es fs (done M c e) x.1 y)
 
-  pub schedule_front : (horizon : ℕ) (es fs : List (CoreStep M)) (c : Core M) → IsSchedule M horizon c (es ++ fs) → IsSchedule M horizon c es
-  schedule_front horizon [] fs c x = tt
-  schedule_front horizon (e ∷ es) fs c x = (x.0, schedule_front horizon es fs (done M c e) x.1)
-
   pub after_append : (es fs : List (CoreStep M)) (c : Core M) → core_after M c (es ++ fs) ≡ core_after M (core_after M c es) fs
   after_append [] fs c = refl
   after_append (e ∷ es) fs c = after_append es fs (done M c e)

@@ -19,8 +19,8 @@ pub fn accepted_are_typed()
     ensures { AcceptedAreTyped }
 {}
 
-/// In each simulation of what was accepted, each event that is taken has values of the types of its variables, and leaves
-/// each variable with a value of its type.
+/// In each simulation of what was accepted, each event that is taken has values of the types of its variables, and
+/// leaves each variable with a value of its type.
 ///
 /// This function does nothing when it runs, and no program calls it: it is there for its contract.
 pub fn simulations_are_typed()

@@ -38,9 +38,6 @@ cmp_equal x y e = subst (λ (z : ℕ). nat_cmp x z ≡ Equal) e (tied_itself nat
 pub resource_before : (x y : Key) → x.tick ≡ y.tick → x.resource < y.resource → Precedes x y
 resource_before x y e h = rw (cmp_equal x.tick y.tick e, lt-ltb x.resource y.resource h) refl
 
-pub before_resource : (x y : Key) → Precedes x y → x.tick ≡ y.tick → x.resource ≤ y.resource
-before_resource x y h t = ⊎_elim (λ l. absurd (before_asym x y h (resource_before y x (sym t) l))) (λ l. l) (cases_lt y.resource x.resource)
-
 pub before_trans : (x y z : Key) → Precedes x y → Precedes y z → Precedes x z
 before_trans x y z h g = key_cmp_total.trans x y z h g
 

@@ -98,13 +98,6 @@ named-position f n (x ∷ xs) =
           ]))
     ] refl
 
-pub position-flip : {A : Type 0} (f : A → Name) (n : Name) (xs : List A) → position (λ x. same_name (f x) n) xs ≡ position (same_name n) (map f xs)
-position-flip f n [] = refl
-position-flip f n (x ∷ xs) =
-    position-cons (λ x. same_name (f x) n) x xs
-    ∙ (λ i. cond (same_name-flip (f x) n i) (Some 0) (option_map (λ i. i + 1) (position-flip f n xs i)))
-    ∙ sym (position-cons (same_name n) (f x) (map f xs))
-
 -- ---- Names that differ
 
 pub slice_get-Contains : {A : Type 0} (f : A → Name) (xs : List A) (i : ℕ) (x : A) → slice_get xs i ≡ Some x → Contains (map f xs) (f x)

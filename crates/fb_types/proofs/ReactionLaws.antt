@@ -1,16 +1,13 @@
 -- What emissions add to the outcome of a reaction, and what they leave.
-use Rattle.std.proofs.Common.{◌≡◌, ℕ, Bool, true, false, cond, eqb, List, [], ◌∷◌, ◌++◌, map, refl, sym, ap, ◌∙◌, append_assoc}
-use Rattle.std.specs.Prelude.{flat_map}
+use Rattle.std.proofs.Common.{◌≡◌, Bool, true, false, cond, List, [], ◌∷◌, ◌++◌, map, refl, sym, ap, ◌∙◌, append_assoc}
 use Rattle.std.proofs.lemmas.List.{append-nil}
-use Rattle.std.proofs.lemmas.Bool.{eq-eqb}
-use Rattle.fb_types.specs.Names.{Path, Port, same_path}
+use Rattle.fb_types.specs.Names.{Path, same_path}
 use Rattle.fb_types.specs.Blocks.{Emission}
 use Rattle.fb_types.specs.Systems.{System}
 use Rattle.fb_types.specs.States.{Block}
-use Rattle.fb_types.specs.Reactions.{World, Outcome, Out, Local, emitted, emitted_all, spread, carried_from}
+use Rattle.fb_types.specs.Reactions.{World, Outcome, emitted, emitted_all}
 use Rattle.fb_types.specs.Posted.{emission_line}
 use Rattle.fb_types.specs.declared.key.Key.{Key}
-use Rattle.fb_types.specs.declared.value.Value.{Value}
 use Rattle.fb_types.proofs.PathLaws.{same_path_is}
 
 -- ---- A world in which only outputs are published
@@ -57,20 +54,11 @@ emitted_all-publishes sys k p (e ∷ es) o =
 
 -- ---- Lines and what goes out
 
-abbrev pub emission_outs : System → Key → Path → Emission → List Out
-emission_outs sys k p e = spread sys k.resource (carried_from p e.values) (sys.targets (record { at = p; name = e.event }))
-
 pub emitted_all-lines : (sys : System) (k : Key) (p : Path) (es : List Emission) (o : Outcome)
     → (emitted_all sys k p es o).lines ≡ o.lines ++ map (emission_line k p) es
 emitted_all-lines sys k p [] o = sym (append-nil o.lines)
 emitted_all-lines sys k p (e ∷ es) o =
     emitted_all-lines sys k p es (emitted sys k p e o) ∙ append_assoc o.lines (emission_line k p e ∷ []) (map (emission_line k p) es)
-
-pub emitted_all-outs : (sys : System) (k : Key) (p : Path) (es : List Emission) (o : Outcome)
-    → (emitted_all sys k p es o).outs ≡ o.outs ++ flat_map (emission_outs sys k p) es
-emitted_all-outs sys k p [] o = sym (append-nil o.outs)
-emitted_all-outs sys k p (e ∷ es) o =
-    emitted_all-outs sys k p es (emitted sys k p e o) ∙ append_assoc o.outs (emission_outs sys k p e) (flat_map (emission_outs sys k p) es)
 
 pub emitted_all-timer : (sys : System) (k : Key) (p : Path) (es : List Emission) (o : Outcome) → (emitted_all sys k p es o).timer ≡ o.timer
 emitted_all-timer sys k p [] o = refl
@@ -83,12 +71,3 @@ emitted_all-left sys k p (e ∷ es) o = emitted_all-left sys k p es (emitted sys
 pub emitted_all-stop : (sys : System) (k : Key) (p : Path) (es : List Emission) (o : Outcome) → (emitted_all sys k p es o).stop ≡ o.stop
 emitted_all-stop sys k p [] o = refl
 emitted_all-stop sys k p (e ∷ es) o = emitted_all-stop sys k p es (emitted sys k p e o)
-
--- ---- Targets in the same resource
-
-pub spread-local : (sys : System) (r : ℕ) (carried : List (Port × Value)) (ps : List Port) → ((q : Port) → sys.resource q.at ≡ r)
-    → spread sys r carried ps ≡ map Local ps
-spread-local sys r carried [] here = refl
-spread-local sys r carried (q ∷ qs) here =
-    let e : eqb (sys.resource q.at) r ≡ true = eq-eqb (sys.resource q.at) r (here q) in
-    rw (e, spread-local sys r carried qs here) refl

@@ -1,6 +1,5 @@
 -- Lists in which something is twice.
-use Rattle.std.proofs.Common.{ℕ, List, [], ◌∷◌, ◌++◌, take, drop, Contains, sym, subst, inl, inr}
-use Rattle.std.proofs.lemmas.List.{take-append-drop}
+use Rattle.std.proofs.Common.{List, [], ◌∷◌, ◌++◌, Contains, sym, subst, inl, inr}
 use Rattle.std.proofs.lemmas.List.Elements.{Contains-append_left, Contains-append_right, Contains-push, Contains-push_cases}
 use Rattle.fb_types.specs.Repeated.{Twice}
 use Rattle.fb_types.proofs.Elements.{Contains-nil, Contains-cons_cases, Contains-here, Contains-there}
@@ -29,10 +28,6 @@ Twice-both {A} (x ∷ xs) ys z c d =
       | inl e ↦ inl (Contains-append_right xs ys x (subst (λ (w : A). Contains ys w) (sym e) d))
       | inr rest ↦ inr (Twice-both xs ys z rest d)
     ]
-
-pub Twice-take : {A : Type 0} (i : ℕ) (xs : List A) → Twice (take i xs) → Twice xs
-Twice-take {A} i xs h =
-    let P : List A → Type 0 = λ ys. Twice ys in subst P (take-append-drop i xs) (Twice-append_left (take i xs) (drop i xs) h)
 
 -- ---- Lists in which nothing is twice
 

@@ -66,19 +66,3 @@ is_the_name bs cs w v is other apart same =
     let first = short bs (λ e. apart (is ∙ e)) in
     let second = short cs (λ e. apart (same ∙ other ∙ e)) in
     packed-once bs cs (λ e. apart (is ∙ first ∙ e)) (sym first ∙ sym is ∙ same ∙ other ∙ second)
-
--- no name has this number
-not_packed : (bs : List ℕ) → ¬ (packed bs ≡ 2)
-not_packed [] e = omega arith
-not_packed (b ∷ bs) e =
-    let more = cons-is b bs (λ z. let both : 0 ≡ 2 = sym z ∙ e in omega arith) in
-    let last = more.1 in
-    let is = more.2 in
-    omega arith
-
-pub no_word : (bs : List ℕ) → ¬ (word_of bs ≡ 2)
-no_word bs e =
-    elim (nat_le (length bs) most) as (λ b. cond b (packed bs) 0 ≡ 2 → ⊥) [
-      | true ↦ λ f. not_packed bs f
-      | false ↦ λ f. omega arith
-    ] e

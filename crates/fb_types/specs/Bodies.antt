@@ -69,18 +69,18 @@ Assigns types n v = With (assigned (types n) v) (λ w p e q. Ends (record p { va
 
 -- ---- Loops
 
--- What follows a turn: one that left the loop ends it.
+-- What follows an iteration: one that left the loop ends it.
 abbrev pub AfterTurn : End → Running → Running
 AfterTurn Went rest p e q = rest p e q
 AfterTurn Left rest p e q = Ends p Went e q
 AfterTurn Returned rest p e q = Ends p Returned e q
 AfterTurn (Stopped r) rest p e q = Ends p (Stopped r) e q
 
--- a turn, and what follows it
+-- an iteration, and what follows it
 abbrev pub TurnThen : Running → Running → Running
 TurnThen turn rest p e q = (f : End) × (m : Point) × turn p f m × AfterTurn f rest m e q
 
--- A loop of a number of turns: before each the test says that there is one, and after the last one no more follows.
+-- A loop of a number of iterations: before each the test says that there is one, and after the last one no more follows.
 abbrev pub Turns : (Values → Result Bool Reason) → Running → ℕ → Running
 Turns test turn zero p e q = With (test p.vars) (λ more p e q. Either more (λ _ _ _. ⊥) (λ p e q. Ends p Went e q) p e q) p e q
 Turns test turn (suc n) p e q = (test p.vars ≡ Ok true) × TurnThen turn (Turns test turn n) p e q
@@ -92,13 +92,13 @@ Loop test turn p e q = (n : ℕ) × Turns test turn n p e q
 abbrev pub passed : (end step z : ℤ) → Bool
 passed end step z = (int_lt end z && int_lt (pos 0) step) || (int_lt z end && int_lt step (pos 0))
 
--- After a turn of FOR: if the next value has passed the end the loop is left, and else it is assigned.
+-- After an iteration of FOR: if the next value has passed the end the loop is left, and else it is assigned.
 abbrev pub Advances : Types → Name → (end step : ℤ) → Running
 Advances types n end step p e q =
     let next = whole (p.vars n) +ℤ step in
     Either (passed end step next) (λ p e q. Ends p Left e q) (Assigns types n (value.Whole next)) p e q
 
--- The turns of FOR, after the start is assigned.
+-- The iterations of FOR, after the start is assigned.
 abbrev pub Counts : Types → Name → (end step : ℤ) → Running → Running
 Counts types n end step body =
     Loop (λ vars. Ok (not (passed end step (whole (vars n))))) (Step (Then body (Advances types n end step)))
@@ -110,7 +110,7 @@ abbrev pub label_fits : List Label → ℤ → Bool
 label_fits [] z = false
 label_fits (l ∷ ls) z = (int_le l.first z && int_le z l.last) || label_fits ls z
 
--- Each statement costs a step when it is begun, and each turn of a loop one before its body.
+-- Each statement costs a step when it is begun, and each iteration of a loop one before its body.
 abbrev mutual
   pub Runs : Types → Stmt → Running
   Runs types Empty = Step (λ p e q. Ends p Went e q)

@@ -80,11 +80,11 @@ abbrev pub counting : read_stmt.Stmt
 counting =
     roll-Stmt (Stmt-F.For (codes "X") (whole_read (pos 32766)) (whole_read (pos 32767)) None (roll-Stmt Stmt-F.Empty ∷ []))
 
--- The tick takes ten steps ..
+-- The tick takes ten steps.
 abbrev pub CountingTrace : Type 0
 CountingTrace = IsTrace (calc counting) One 1 10 (codes "0 MAIN > B.GO\n0 MAIN < B.DONE X=32767\nend 1\n") (AtHorizon 1)
 
--- .. and nine are not enough.
+-- Nine steps are not enough.
 abbrev pub CountingStops : Type 0
 CountingStops =
     IsTrace (calc counting) One 1 9 (codes "0 MAIN > B.GO\n0 MAIN < B.DONE X=32767\nstop 0 MAIN steps\n") (AtStop 0 0 reason.Steps)
@@ -131,7 +131,7 @@ doubler_type =
 abbrev pub inwards : Name → (component port : Name) → Connection
 inwards p c q = record { from = record { component = None; port = p }; to = record { component = Some c; port = q } }
 
--- .. and back
+-- from a port of a component to a boundary port
 abbrev pub outwards : (component port : Name) → Name → Connection
 outwards c q p = record { from = record { component = Some c; port = q }; to = record { component = None; port = p } }
 

@@ -35,11 +35,11 @@ abbrev pub IsOnlyRun : Types → Stmts → Point → End → Point → Type 0
 IsOnlyRun types body p e q =
     RunsBody types body p e q × ((f : End) (s : Point) → RunsBody types body p f s → (f ≡ e) × (s ≡ q))
 
--- It takes five steps: the statement, and twice a turn and the empty statement.
+-- It takes five steps: the statement, and twice an iteration and the empty statement.
 abbrev pub CountsInFive : Type 0
 CountsInFive = (vars : Values) (left : ℕ) → IsOnlyRun calc_types counting_loop (point vars (left + 5)) Went (point (counted vars) left)
 
--- Four steps are not enough: the second turn begins, and its statement would be the fifth.
+-- Four steps are not enough: the second iteration begins, and its statement would be the fifth.
 abbrev pub StopsInFour : Type 0
 StopsInFour = (vars : Values) → IsOnlyRun calc_types counting_loop (point vars 4) (Stopped Steps) (point (counted vars) 0)
 

@@ -31,11 +31,11 @@ least = Whole (negsuc (2 ^ 127 - 1))
 abbrev pub three : Expr → Expr → Expr → Exprs
 three d e f = then_exprs d (then_exprs e (then_exprs f no_expr))
 
--- Expressions have these truth values, whatever the variables hold ..
+-- Expressions have these truth values, whatever the variables hold.
 abbrev pub HaveTruths : List (Expr × Bool) → Type 0
 HaveTruths cs = (vars : Values) → map (λ c. value_of c.0 vars) cs ≡ map (λ c. Ok (value.Bool c.1)) cs
 
--- .. or these numbers
+-- Expressions have these numbers, whatever the variables hold.
 abbrev pub HaveNumbers : List (Expr × ℤ) → Type 0
 HaveNumbers cs = (vars : Values) → map (λ c. value_of c.0 vars) cs ≡ map (λ c. number c.1) cs
 

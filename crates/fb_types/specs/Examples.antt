@@ -29,7 +29,7 @@ use Rattle.fb_types.specs.declared.run.Form.TheVariants.{One}
 abbrev pub instance : Name → Name → Instance
 instance n t = record { name = n; block_type = t; parameters = [] }
 
--- .. and with one, of type TIME
+-- an instance with one parameter, of type TIME
 abbrev pub timed_instance : Name → Name → ℕ → Instance
 timed_instance n t ticks =
     record { name = n; block_type = t; parameters = record { name = codes "DT"; value = value.Whole (pos ticks) } ∷ [] }
@@ -212,7 +212,7 @@ HeldCopyTrace =
 abbrev pub plain_state : Name → State
 plain_state n = record { name = n; actions = [] }
 
--- .. and one that emits an event when it is entered
+-- a state that emits an event when it is entered
 abbrev pub emitting_state : Name → Name → State
 emitting_state n e = record { name = n; actions = record { algorithm = None; output = Some e } ∷ [] }
 
@@ -220,7 +220,7 @@ emitting_state n e = record { name = n; actions = record { algorithm = None; out
 abbrev pub by_event : (from to event : Name) → Transition
 by_event s t e = record { from = s; to = t; condition = record { event = Some e; guard = None } }
 
--- .. and one by `1`
+-- a transition by `1`
 abbrev pub always : (from to : Name) → Transition
 always s t = record { from = s; to = t; condition = record { event = None; guard = None } }
 

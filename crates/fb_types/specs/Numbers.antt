@@ -24,7 +24,7 @@ pair_up [] vs = []
 pair_up (n ∷ ns) [] = []
 pair_up (n ∷ ns) (v ∷ vs) = record { variable = n; value = v } ∷ pair_up ns vs
 
--- what the variables hold whose values are at the indices of their names
+-- what the variables hold whose values are at the indexes of their names
 abbrev pub by_index : List Name → List Value → Values
 by_index [] vs m = zero_value
 by_index (n ∷ ns) [] m = zero_value

@@ -123,7 +123,7 @@ settled p c stop o =
     let b = o.world.blocks p in
     record o { world = with_block p (record b { memory = InState c.state; variables = c.vars }) o.world; left = c.left; stop = stop }
 
--- .. and what it emitted on the way
+-- a chart has come to rest, and what it emitted on the way goes out
 abbrev pub charted : System → Key → Path → Outcome → Position → Option Reason → Outcome
 charted sys k p o c stop = emitted_all sys k p c.emitted (settled p c stop o)
 
@@ -142,7 +142,7 @@ remembered p x o =
     let b = o.world.blocks p in
     record o { world = with_block p (record b { memory = Remembers x.memory }) o.world; timer = x.timer }
 
--- .. and what it emits
+-- an event block has reacted, and what it emits goes out
 abbrev pub answered : System → Key → Path → EventKind → blocks.Reaction → Outcome → Outcome
 answered sys k p kind x o =
     emitted_all sys k p (emissions (ports_of (Event kind)) (blocks.output_of x.memory) x.emits) (remembered p x o)

@@ -27,11 +27,6 @@ module _ (M : Machine) where
 
   -- ---- Completeness
 
-  -- no resource is out, and no message is on its way
-  pub record IsHome (c : Core M) : Type 0 where
-    pub home : (r : ℕ) → (c r).out ≡ None
-    pub posted : (r : ℕ) → (c r).outbox ≡ []
-
   -- no resource has stopped, and every clock is at the horizon
   pub record IsAtHorizon (count horizon : ℕ) (c : Core M) : Type 0 where
     pub live : (r : ℕ) → r < count → (c r).state.stop ≡ None
@@ -43,10 +38,6 @@ module _ (M : Machine) where
     pub stopped : (c s).state.stop ≡ Some reason
     pub least : (q : ℕ) (other : M.Reason) → (c q).state.stop ≡ Some other → ((c s).clock < (c q).clock) ⊎ (((c s).clock ≡ (c q).clock) × (s ≤ q))
     pub passed : (q : ℕ) → q < count → (c q).state.stop ≡ None → (c s).clock < (c q).clock
-
-  -- Nothing is left to do.
-  abbrev pub IsComplete : (count horizon : ℕ) → Core M → Type 0
-  IsComplete count horizon c = IsHome c × (IsAtHorizon count horizon c ⊎ ((s : ℕ) × (reason : M.Reason) × IsLeastStop count c s reason))
 
   -- ---- Final lines
 

@@ -8,13 +8,18 @@ use crate::value::Value;
 use std::alloc::{AllocError, Global};
 use std::collections::VecDeque;
 use std::marker::Model;
+use std::mem::replace;
 
 /// The emissions of a reaction, in order. Contracts see them as a list.
 ///
-/// The first one is stored in place, so that a reaction that emits one event takes no memory. The memory of the others is
-/// kept when they are removed: one list serves reaction after reaction.
+/// The first one is stored in place, so that a reaction that emits one event takes no memory. The memory of the others
+/// is kept when they are removed: one list serves reaction after reaction.
 pub struct Emits {
-    first: Option<Emission>,
+    /// Whether there is an emission.
+    is_filled: bool,
+    /// The first emission. If there is none, this is an earlier one, which is dropped when the next one is written: so
+    /// the list is cleared without a write to it.
+    first: Emission,
     /// The emissions after the first. If there is no first, this is empty.
     others: VecDeque<Emission>,
 }
@@ -23,6 +28,7 @@ pub struct Emits {
 impl Drop for Emits {
     fn drop(self) {
         let Emits {
+            is_filled: _,
             first: _,
             others: _,
         } = self;
@@ -36,9 +42,9 @@ impl Model for Emits {
 
     ghost Value = { List Emission };
 
-    ghost view = { λ e. in_order e.first e.others.items };
+    ghost view = { λ e. in_order e.is_filled e.first e.others.items };
 
-    ghost invariant = { λ e. AreAfter e.first e.others.items };
+    ghost invariant = { λ e. AreAfter e.is_filled e.others.items };
 }
 
 impl Emits {
@@ -46,8 +52,13 @@ impl Emits {
     pub fn new(alloc: Global) -> Emits
         ensures { result ≡ [] }
     {
+        let first = Emission {
+            event: 0,
+            values: Few::new(alloc),
+        };
         Emits {
-            first: None,
+            is_filled: false,
+            first,
             others: VecDeque::new(alloc),
         }
     }
@@ -62,7 +73,7 @@ impl Emits {
     pub fn is_empty(&self) -> bool
         ensures { IsTrue result ↔ (self.now ≡ []) }
     {
-        self.first.is_none()
+        !self.is_filled
     }
 
     /// Adds an emission at the end.
@@ -74,8 +85,9 @@ impl Emits {
         ensures ok { OnOk result (self.new ≡ self.old ++ emission ∷ []) }
         ensures err { OnErr result (self.new ≡ self.old) }
     {
-        if self.first.is_none() {
-            self.first = Some(emission);
+        if !self.is_filled {
+            self.first = emission;
+            self.is_filled = true;
             return Ok(());
         }
         self.push_other(emission)
@@ -91,8 +103,9 @@ impl Emits {
         ensures err { OnErr result (self.new ≡ self.old) }
     {
         let values = Few::new(self.allocator());
-        if self.first.is_none() {
-            self.first = Some(Emission { event, values });
+        if !self.is_filled {
+            self.first = Emission { event, values };
+            self.is_filled = true;
             return Ok(());
         }
         self.push_other(Emission { event, values })
@@ -108,14 +121,16 @@ impl Emits {
         ensures err { OnErr result (self.new ≡ self.old) }
     {
         let values = Few::one(self.allocator(), value);
-        if self.first.is_none() {
-            self.first = Some(Emission { event, values });
+        if !self.is_filled {
+            self.first = Emission { event, values };
+            self.is_filled = true;
             return Ok(());
         }
         self.push_other(Emission { event, values })
     }
 
-    /// Adds an emission after the first. It is apart so that a reaction with one emission does not pay for it.
+    /// Adds an emission after the first. A function of its own, so that a reaction with one emission does not
+    /// pay for it.
     #[inline(never)]
     fn push_other(&mut self, emission: Emission) -> Result<(), AllocError>
         requires { self.old ≢ [] }
@@ -131,42 +146,49 @@ impl Emits {
     pub fn pop_first(&mut self) -> Option<Emission>
         ensures { MatchOption result (self.old ≡ []) (λ emission. self.old ≡ emission ∷ self.new) }
     {
-        let first = self.first.take()?;
-        if !self.others.is_empty() {
-            self.first = self.others.pop_front();
+        if !self.is_filled {
+            return None;
+        }
+        let nothing = Few::new(self.allocator());
+        let first = Emission {
+            event: self.first.event,
+            values: replace(&mut self.first.values, nothing),
+        };
+        if self.others.is_empty() {
+            self.is_filled = false;
+        } else if let Some(next) = self.others.pop_front() {
+            self.first = next;
         }
         Some(first)
     }
 
-    /// Removes the only emission, if it is the only one and has no values, and returns its event. Otherwise the list stays
-    /// as it is.
+    /// Removes the only emission, if it is the only one and has no values, and returns its event. Otherwise the list
+    /// stays as it is.
     #[inline(always)]
     pub fn pop_bare(&mut self) -> Option<u32>
         ensures alone { IfSome result (λ event. self.old ≡ record { event = event; values = [] } ∷ []) }
         ensures none_left { IfSome result (λ event. self.new ≡ []) }
         ensures same { IfNone result (self.new ≡ self.old) }
     {
-        let first = self.first.as_ref()?;
-        if !first.values.is_nothing() || !self.others.is_empty() {
+        if !self.is_filled || !self.first.values.is_nothing() || !self.others.is_empty() {
             return None;
         }
-        let event = first.event;
-        self.first = None;
+        self.is_filled = false;
+        let event = self.first.event;
         Some(event)
     }
 
-    /// The event and the value of the only emission, if it is the only one and has one value, stored in place. The value is
-    /// lent, so that it is copied once, to where it stays.
+    /// The event and the value of the only emission, if it is the only one and has one value, stored in place. The
+    /// value is lent, so that it is copied once, to where it stays.
     #[inline(always)]
     pub fn only(&self) -> Option<(u32, &Value)>
         ensures { IfSome result (λ (event, value). self.now ≡ record { event = event; values = value.now ∷ [] } ∷ []) }
     {
-        let first = self.first.as_ref()?;
-        let value = first.values.only()?;
-        if !self.others.is_empty() {
+        if !self.is_filled || !self.others.is_empty() {
             return None;
         }
-        Some((first.event, value))
+        let value = self.first.values.only()?;
+        Some((self.first.event, value))
     }
 
     /// Drops all emissions and keeps their memory.
@@ -175,11 +197,8 @@ impl Emits {
         ensures { self.new ≡ [] }
     {
         // Mostly there is none, or one, which is stored in place.
-        if self.first.is_none() {
-            return;
-        }
         if self.others.is_empty() {
-            self.first = None;
+            self.is_filled = false;
         } else {
             self.drop_all();
         }
@@ -189,7 +208,7 @@ impl Emits {
     fn drop_all(&mut self)
         ensures { self.new ≡ [] }
     {
-        self.first = None;
+        self.is_filled = false;
         self.others.clear();
     }
 }

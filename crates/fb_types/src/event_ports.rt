@@ -40,19 +40,6 @@ pub fn kind_named(name: &[u8]) -> Option<EventKind>
     look_up(&BLOCKS, name)
 }
 
-/// The type of the first variable with the name.
-fn type_named(mut rows: &[VariableRow], name: &[u8]) -> Option<Ty>
-    ensures { result ≡ spec.type_named (map row.variable_of rows.entry.now) name.now }
-{
-    while let [entry, rest @ ..] = rows {
-        if is(name, entry.0) {
-            return Some(entry.1);
-        }
-        rows = rest;
-    }
-    None
-}
-
 /// The type of the data input of an event block at an index.
 pub fn event_block_input(kind: EventKind, index: usize) -> Option<Ty>
     ensures { result ≡ spec.type_at (spec.ports_of_event_block kind).inputs index }
@@ -65,20 +52,6 @@ pub fn event_block_output(kind: EventKind, index: usize) -> Option<Ty>
     ensures { result ≡ spec.type_at (spec.ports_of_event_block kind).outputs index }
 {
     Some(row_of(kind).outputs.get(index)?.1)
-}
-
-/// The type of the data input of an event block with the name, which is in upper case.
-pub fn event_block_input_named(kind: EventKind, name: &[u8]) -> Option<Ty>
-    ensures { result ≡ spec.type_named (spec.ports_of_event_block kind).inputs name.now }
-{
-    type_named(row_of(kind).inputs, name)
-}
-
-/// The type of the data output of an event block with the name, which is in upper case.
-pub fn event_block_output_named(kind: EventKind, name: &[u8]) -> Option<Ty>
-    ensures { result ≡ spec.type_named (spec.ports_of_event_block kind).outputs name.now }
-{
-    type_named(row_of(kind).outputs, name)
 }
 
 fn event(alloc: Global, name: &str, with: &[&str]) -> Result<EventPort, AllocError>

@@ -5,8 +5,8 @@ ghost use Rattle.fb_types.specs.Keys.{key_cmp, local_key, message_key, stimulus_
 
 use std::cmp::Ordering;
 
-/// The time and resource of an event. Events are taken in the order of their keys, which are compared part by part in the
-/// order of the fields. Parts that a class does not use are 0.
+/// The time and resource of an event. Events are taken in the order of their keys, which are compared part by part in
+/// the order of the fields. Parts that a class does not use are 0.
 ///
 /// | class | event | `a` | `b` |
 /// |---|---|---|---|

@@ -16,8 +16,8 @@ pub struct Entry {
     pub latency: u64,
 }
 
-/// A table of latencies by the tick of sending: 1 to 64 entries, the first at tick 0, in strictly rising ticks of at most
-/// 10^12, each with a latency from 1 to 1,000,000 ticks. Contracts see the list of its entries.
+/// A table of latencies by the tick of sending: 1 to 64 entries, the first at tick 0, in strictly rising ticks of at
+/// most 10^12, each with a latency from 1 to 1,000,000 ticks. Contracts see the list of its entries.
 pub struct Latency {
     entries: Items<Entry>,
 }

@@ -52,8 +52,8 @@ pub fn worked_held_copy()
     ensures { HeldCopyTrace }
 {}
 
-/// A chart whose two transitions in a row wait for the same event moves by one state for each event: the event is present
-/// only in the first trial.
+/// A chart whose two transitions in a row wait for the same event moves by one state for each event: the event is
+/// present only in the first trial.
 pub fn worked_stepper()
     ensures { StepperTrace }
 {}
@@ -65,8 +65,8 @@ pub fn worked_looper()
     ensures trace { LooperTrace }
 {}
 
-/// A FOR up to the greatest value of its variable's type ends there, and is no fault. Each turn costs a step in addition
-/// to its statements. With one step less than the tick takes, the simulation stops after the emission.
+/// A FOR up to the greatest value of its variable's type ends there, and is no fault. Each iteration costs a step in
+/// addition to its statements. With one step less than the tick takes, the simulation stops after the emission.
 pub fn worked_counting_loop()
     ensures counts { CountsInFive }
     ensures stops { StopsInFour }

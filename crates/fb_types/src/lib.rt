@@ -4,10 +4,17 @@
 //! definitions say. Contracts see a container as what it contains. A system has at most one simulation, and the worked
 //! examples have the traces that were worked out by hand.
 //!
-//! Read in this order: `library`, `text`, `value`, `value_kind`, `function` and `name`, what is read; `deploy` and `latency`;
-//! `event_kind` and `event_ports`, the event blocks; `limits`; `key`, `run`, `message_values` and `emits`, what a
-//! simulation gives;
-//! `items`, `numbered`, `few`, `short`, `boxed` and `reference`; `laws`. The definitions are in `specs/`.
+//! Read in this order:
+//!
+//! - `library`, `text`, `value`, `value_kind`, `function`, `name` and `name_order`: what is read;
+//! - `deploy` and `latency`;
+//! - `event_kind` and `event_ports`: the event blocks;
+//! - `limits`;
+//! - `key`, `run`, `message_values` and `emits`: what a simulation produces;
+//! - `items`, `numbered`, `few`, `short`, `boxed` and `reference`: containers;
+//! - `laws`.
+//!
+//! The definitions are in `specs/`.
 #![tactic(auto)]
 
 pub mod boxed;
@@ -37,10 +44,7 @@ pub mod value_kind;
 pub use boxed::Boxed;
 pub use deploy::{Deploy, Link, Plan, ResourceEntry, Setting, Stimulus};
 pub use event_kind::EventKind;
-pub use event_ports::{
-    all_ports, event_block_input, event_block_input_named, event_block_output,
-    event_block_output_named, kind_named, ports_of,
-};
+pub use event_ports::{all_ports, event_block_input, event_block_output, kind_named, ports_of};
 pub use few::{Few, Held};
 pub use function::Function;
 pub use items::Items;

@@ -29,7 +29,8 @@ impl Drop for EventPort {
     }
 }
 
-/// A variable of a block type: an input, an output or an internal one. Without an initial value it begins with 0 or FALSE.
+/// A variable of a block type: an input, an output or an internal one. Without an initial value it begins with 0 or
+/// FALSE.
 pub struct Variable {
     /// The name of the variable.
     pub name: Name,

@@ -157,8 +157,8 @@ pub(crate) fn word_of(bytes: &[u8]) -> u64
     if bytes.len() <= 12 { packed(bytes) } else { 0 }
 }
 
-/// The bytes of a short name as one number: digits in base 38, after a leading 1. Different names have different numbers,
-/// except for 0, which is the number of every name with another byte.
+/// The bytes of a short name as one number: digits in base 38, after a leading 1. Different names have different
+/// numbers, except for 0, which is the number of every name with another byte.
 fn packed(bytes: &[u8]) -> u64
     requires { length bytes.now ≤ most }
     ensures { result ≡ number_of bytes.now }

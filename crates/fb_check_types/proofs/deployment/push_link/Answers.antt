@@ -31,4 +31,4 @@ returns-clause-number c =
     let m = c.args.resources.now in
     c.in_ok-push_some.ensures
     ∙ ap (λ (o : Option LinkEnds). c.args.all.now ++ some_of o)
-    (c.linked.ensures ∙ (λ i. joined ((c.index_of_name-from.ensures) i) ((c.index_of_name-to.ensures) i)))
+    (c.link_between.ensures ∙ (λ i. joined ((c.index_of_name-from.ensures) i) ((c.index_of_name-to.ensures) i)))

@@ -33,4 +33,4 @@ returns-clause-listed c =
 pub returns-clause-number : goal.returns-clause-number
 returns-clause-number c =
     c.in_ok-push_some.ensures
-    ∙ ap (λ (o : Option NumberedConnection). c.args.wires.now ++ some_of o) (c.joined.ensures ∙ (λ i. both_ends (c.side_of-from.ensures i) (c.side_of-to.ensures i)))
+    ∙ ap (λ (o : Option NumberedConnection). c.args.wires.now ++ some_of o) (c.connection_between.ensures ∙ (λ i. both_ends (c.side_of-from.ensures i) (c.side_of-to.ensures i)))

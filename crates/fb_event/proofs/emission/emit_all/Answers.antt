@@ -13,7 +13,7 @@ loop-event-preserved c = record {
 
 pub returns-in_err-emit-clause-kept : goal.returns-in_err-emit-clause-kept
 returns-in_err-emit-clause-kept c =
-    (map (emission_at (state_of c.args.kind c.args.memory)) (take c.loop-event.event-index c.args.events.now), c.in_err-emit.ensures.err ∙ c.loop-event.invariant.emitted)
+    (map (emission_at (state_of c.args.kind c.args.memory.now)) (take c.loop-event.event-index c.args.events.now), c.in_err-emit.ensures.err ∙ c.loop-event.invariant.emitted)
 
 pub returns-clause-kept : goal.returns-clause-kept
-returns-clause-kept c = (map (emission_at (state_of c.args.kind c.args.memory)) (take c.loop-event.event-index c.args.events.now), c.loop-event.invariant.emitted)
+returns-clause-kept c = (map (emission_at (state_of c.args.kind c.args.memory.now)) (take c.loop-event.event-index c.args.events.now), c.loop-event.invariant.emitted)

@@ -12,4 +12,4 @@ returns-in-Some c =
     (see-late c.args.within c.args.line c.args.mark c.args.hit c.in-Some.late c.in-Some.ensures.0 c.in-Some.ensures.1)
 
 pub returns-in-None : goal.returns-in-None
-returns-in-None c = λ hs number below knows. c.waiting.ensures c.args.within hs number below c.in-None.ensures knows
+returns-in-None c = λ hs number below knows. c.mark_after.ensures c.args.within hs number below c.in-None.ensures knows

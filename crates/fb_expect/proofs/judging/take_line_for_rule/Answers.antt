@@ -1,7 +1,7 @@
 use Rattle.std.proofs.Common.{refl}
 use Rattle.fb_expect.specs.Events.{event_of}
 use Rattle.fb_expect.proofs.Following.{moves}
-use Rattle.fb_expect.proofs.judging.note_one.Goals as goal
+use Rattle.fb_expect.proofs.judging.take_line_for_rule.Goals as goal
 
 pub returns : goal.returns
 returns c = moves c.args.number (event_of c.args.entry.now) c.args.watcher.now _ c.hit_of-hit.result refl refl c.hit_of-hit.ensures c.step-watcher.ensures c.see_line-watcher.ensures

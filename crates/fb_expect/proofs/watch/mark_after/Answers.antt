@@ -4,7 +4,7 @@ use Rattle.fb_expect.specs.declared.watch.Mark.{Mark}
 use Rattle.fb_expect.specs.Watching.{KnowsSee}
 use Rattle.fb_expect.proofs.Seeing.{answers, none-waits}
 use Rattle.fb_expect.proofs.Stepping.{wait-on}
-use Rattle.fb_expect.proofs.watch.waiting.Goals as goal
+use Rattle.fb_expect.proofs.watch.mark_after.Goals as goal
 
 pub returns-then-hit : goal.returns-then-hit
 returns-then-hit c = λ within hs number below time knows. c.fresh.ensures within hs number (answers within hs c.args.hit c.args.mark c.if-hit.true time knows)

@@ -4,7 +4,7 @@ use Rattle.fb_expect.specs.Events.{event_of}
 use Rattle.fb_expect.specs.declared.judging.Watcher.{Watcher}
 use Rattle.fb_expect.specs.declared.rule.Rule.{Rule}
 use Rattle.fb_expect.proofs.Following.{at-all, at-none, at-one}
-use Rattle.fb_expect.proofs.judging.note.Goals as goal
+use Rattle.fb_expect.proofs.judging.take_line.Goals as goal
 
 pub loop-watcher-init : goal.loop-watcher-init
 loop-watcher-init c =

@@ -3,7 +3,7 @@ use Rattle.std.specs.Prelude.{Option}
 use Rattle.std.proofs.lemmas.Bool.{both_ways}
 use Rattle.fb_expect.specs.Watching.{InTime}
 use Rattle.fb_expect.specs.declared.watch.Mark.{Mark}
-use Rattle.fb_expect.proofs.watch.missed.Goals as goal
+use Rattle.fb_expect.proofs.watch.overdue.Goals as goal
 
 pub returns-else-is_past : goal.returns-else-is_past
 returns-else-is_past c =
