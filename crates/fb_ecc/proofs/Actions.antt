@@ -126,11 +126,6 @@ output_here t k (Some n) o =
           ∙ ap (λ (m : Name). Some (slots_with events t.ports.outputs first m)) names;
     }
 
--- no output event
-pub emitted_none : (t : BasicType) (name : Option Name) (p : Position) → IsOutput t None name → p ≡ emitting t name p
-emitted_none t None p o = refl
-emitted_none t (Some n) p o = absurd (let e = o.is in cc)
-
 -- the slots of the variables WITH an output event, where they are read
 pub shown_here :
     (t : BasicType) (k : ℕ) (name : Option Name) (o : Output t k name) (shown : List (List ℕ)) (read d : List ℕ) (ds : List Declared)
@@ -249,12 +244,6 @@ performed_err t k name n y ds p slots new left less result r at declared err run
     subst (λ (o : Option Name). Performs t o (Halts None) (with_slots p slots left) (Some r) (with_slots p new less)) (sym n.is)
     (Stopped r, m, ran, (refl, refl))
 
--- an action without an algorithm
-pub performed_none :
-    (t : BasicType) (name : Option Name) (p : Position) → IsAlgorithm t None name → Performs t name (Halts None) p None p
-performed_none t None p h = (refl, refl)
-performed_none t (Some n) p h = absurd (let e = h.is in cc)
-
 -- an algorithm that is read
 pub read_here :
     (t : BasicType) (k : ℕ) (read : List Algorithm) (y : Algorithm) → read ≡ t.algorithms → k < length read → slice_get t.algorithms k ≡ Some (get_or read k y)
@@ -327,6 +316,21 @@ pub action_here :
 action_here t acts actions i d are h =
     let x = action_at t acts actions i d are h in
     record { action = x.0; is = x.1; here = x.2 ∙ rw add-one refl }
+
+-- a single action is all that there is
+pub single_action :
+    (t : BasicType) (acts : List Act) (actions : List Action) (d : Act) → AreActions t acts actions → length acts ≡ 1
+    → (a : Action) × (IsAction t (get_or acts 0 d) a × (actions ≡ a ∷ []))
+single_action t [] actions d are one = absurd (omega arith)
+single_action t (x ∷ []) [] d are one = absurd are
+single_action t (x ∷ []) (a ∷ []) d are one = (a, (are.0, refl))
+single_action t (x ∷ []) (a ∷ b ∷ as') d are one = absurd are.1
+single_action t (x ∷ y ∷ xs) actions d are one = absurd (omega arith)
+
+pub no_actions : (t : BasicType) (acts : List Act) (actions : List Action) → AreActions t acts actions → length acts ≤ 0 → actions ≡ []
+no_actions t [] [] are h = refl
+no_actions t [] (a ∷ as') are h = absurd are
+no_actions t (x ∷ xs) actions are h = absurd (omega arith)
 
 -- ---- Results
 

@@ -71,7 +71,7 @@ row_left t k x s old new within is leaves was exits acts waits =
     waits ∙ ap (λ b. b && is_some (exit_of t k x).event) waiting ∙ sym (waiting-push old.exits (exit_of t k x)) ∙ ap are_waiting (sym exits ∙ more) in
     λ i. record { exits = more i; acts = same i; waits = waited i }
 
--- .. and of any other
+-- the row of any other state stays
 row_stays :
     (t : BasicType) (k : ℕ) (x : Transition) (s : State) → k < length t.transitions → x ≡ get_or t.transitions k x
     → same_name x.from s.name ≡ false → row_within t k s ≡ row_within t (k + 1) s
@@ -145,7 +145,7 @@ rows_left t k i x old after now new within is once found was here exits acts wai
     ∙ set_named (row_within t k) (row_within t (k + 1)) (λ (y : State). y.name) x.from t.states i s new once found source.1
     (row_left t k x s now new within is leaves read exits acts waits) (λ y apart. row_stays t k x y within is apart)
 
--- .. and changes nothing where there is none
+-- a transition whose source is no state changes no row
 pub rows_stay :
     (t : BasicType) (k : ℕ) (x : Transition) → k < length t.transitions → x ≡ get_or t.transitions k x → position (same_name x.from) (state_names t) ≡ None
     → map (row_within t k) t.states ≡ map (row_within t (k + 1)) t.states

@@ -160,7 +160,7 @@ picks_found all sofar old new m i indexes index found inserted shown =
     ap (map entry_of) inserted ∙ insert_named old i m ∙ ap (λ (l : List (ℕ × Name)). insert_entry nat_cmp l i m.now) shown
     ∙ picked_at (among sofar) (among (sofar ++ m.now ∷ [])) all m.now 0 i i index.once (among_more sofar m.now) (sym (index.index m.now) ∙ found) (omega arith)
 
--- .. or which is none of all
+-- a name that is none of all is skipped
 pub picks_none :
     (all sofar : List Name) (old : List (ℕ × Bor Name)) (m : Name) (indexes : BTreeMap (Bor Name) ℕ) → IsIndex all indexes
     → index_in indexes m ≡ None → map entry_of old ≡ picked (among sofar) all 0 → map entry_of old ≡ picked (among (sofar ++ m ∷ [])) all 0

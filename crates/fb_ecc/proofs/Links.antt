@@ -237,9 +237,6 @@ none_or_first (s ∷ ss) = inr (omega arith)
 pub first_index : (t : BasicType) → IsStateOf t 0
 first_index t = none_or_first t.states
 
-pub row_within : (t : BasicType) (rows : List ChartState) (i : ℕ) → rows ≡ map (row_of t) t.states → i < length t.states → i < length rows
-row_within t rows i all within = subst (λ (l : List ChartState). i < length l) (sym all) (subst (λ n. i < n) (sym (length-map t.states (row_of t))) within)
-
 pub row_read :
     (t : BasicType) (chart : Chart) (rows : List ChartState) (i : ℕ) (d : ChartState) → IsSound t → chart ≡ chart_of t → rows ≡ chart.rows → i < length t.states → IsRow t i (get_or rows i d)
 row_read t chart rows i d sound is read within = row_is t rows i d sound (read ∙ ap (λ (c : Chart). c.rows) is) within
@@ -258,11 +255,19 @@ linked_early t (halt.Stop r) present moves p m q goes run = goes r run
 linked_early t halt.Memory present moves p m q goes run = run
 
 -- a link ended the reaction
-pub reacted_early :
-    (t : BasicType) (h : Halt) (e : Name) (present : Option Name) (p m q : Position)
-    → ((stop : Option Reason) → Chain t present m stop q → Chain t (Some e) p stop q) → Linked t (Err h) present m q → Ended (Err h) (ChartReacts t e) p q
-reacted_early t (halt.Stop r) e present p m q goes run = goes (Some r) run
-reacted_early t halt.Memory e present p m q goes run = run
+pub chain_early :
+    (t : BasicType) (h : Halt) (first present : Option Name) (p m q : Position)
+    → ((stop : Option Reason) → Chain t present m stop q → Chain t first p stop q) → Linked t (Err h) present m q → Ended (Err h) (Chain t first) p q
+chain_early t (halt.Stop r) first present p m q goes run = goes (Some r) run
+chain_early t halt.Memory first present p m q goes run = run
+
+-- the first link came, and then the rest of the chain
+pub chain_on :
+    (t : BasicType) (result : Result (Unit {0}) Halt) (first : Option Name) (p m q : Position)
+    → ((stop : Option Reason) → Chain t None m stop q → Chain t first p stop q) → Ended result (Chain t None) m q → Ended result (Chain t first) p q
+chain_on t (Ok u) first p m q goes run = goes None run
+chain_on t (Err (halt.Stop r)) first p m q goes run = goes (Some r) run
+chain_on t (Err halt.Memory) first p m q goes run = tt
 
 -- ---- Sampling
 

@@ -37,7 +37,7 @@ first_tried t present vars exits i e r at is =
     ap (λ (l : List Exit). first_true (transitions_at t l) present vars) (rest_at exits i e at)
     ∙ ap (λ (b : Result Bool Reason). first_by b (transition_at t e.transition) (first_true (transitions_at t (drop (i + 1) exits)) present vars)) is
 
--- .. and the exit that has it
+-- one exit is tried, and then the others: the exit that clears
 pub clearing_tried :
     (t : BasicType) (present : Option Name) (vars : Values) (exits : List Exit) (i : ℕ) (e : Exit) (r : Result Bool Reason) → slice_get exits i ≡ Some e
     → is_true (transition_at t e.transition).condition present vars ≡ r

@@ -225,7 +225,7 @@ none_waiting t vars (e ∷ es) left less each waits is =
     ∙ ap (λ (b : Result Bool Reason). by_condition b (transition_at t e.transition).to rest (trial_of (transitions_at t es) None vars rest)) (spent t e vars (each 0 e refl) (and_left (is_some e.event) (are_waiting es) waits))
     ∙ none_waiting t vars es rest less (λ i f at. each (suc i) f at) (and_right (is_some e.event) (are_waiting es) waits) refl
 
--- .. until none is left
+-- with fewer steps than exits, all that wait for an event are tried until no step is left
 pub fails_waiting :
     (t : BasicType) (vars : Values) (exits : List Exit) (left : ℕ) → Each (IsExit t) exits → are_waiting exits ≡ true → left < length exits
     → trial_of (transitions_at t exits) None vars left ≡ Fails Steps 0

@@ -18,7 +18,7 @@ pub record IsAlgorithm (t : BasicType) (k : Option ℕ) (n : Option Name) : Type
   pub known : is_named (algorithm_names t) n ≡ true
   pub is : k ≡ option_map (number_in (λ a. a.name) t.algorithms) n
 
--- .. and that of an event output
+-- The index is that of an event output by its name.
 pub record IsOutput (t : BasicType) (k : Option ℕ) (n : Option Name) : Type 0 where
   pub known : is_named (event_names t.ports.event_outputs) n ≡ true
   pub is : k ≡ option_map (number_in (λ p. p.name) t.ports.event_outputs) n

@@ -16,7 +16,7 @@ slots_among passes (n ∷ ns) slot = if passes n then slot ∷ slots_among passe
 abbrev pub slots_with : List EventPort → List Variable → (first : ℕ) → Name → List ℕ
 slots_with events variables first e = slots_among (λ v. list_any (goes_with e v) events) (variable_names variables) first
 
--- .. WITH each event
+-- the slots of the variables WITH each event
 abbrev pub slots_with_each : List EventPort → List Variable → (first : ℕ) → List (List ℕ)
 slots_with_each events variables first = map (λ e. slots_with events variables first e.name) events
 

@@ -19,7 +19,7 @@ abbrev pub AreBodies : List Declared → List Algorithm → List (Option (List C
 AreBodies ds algorithms bodies =
     (i : ℕ) (a : Algorithm) (codes : List CompiledStmt) → slice_get algorithms i ≡ Some a → slice_get bodies i ≡ Some (Some codes) → SaysAll ds (map stmt_of a.body.statements) codes
 
--- .. and the guard of the transition at its index
+-- Each compiled guard is that of the transition at its index.
 abbrev pub AreGuards : List Declared → List Transition → List (Option TruthExpr) → Type 0
 AreGuards ds transitions guards =
     (i : ℕ) (x : Transition) (e : Expr) (c : TruthExpr) → slice_get transitions i ≡ Some x → x.condition.guard ≡ Some e → slice_get guards i ≡ Some (Some c) → SaysTruth ds (expr_of e) c

@@ -27,7 +27,7 @@ trial_by t (Ok None) left = NoneClears left
 trial_by t (Ok (Some k)) left = Clears (transition_at t k).to left
 trial_by t (Err r) left = Fails r left
 
--- .. and by the exit that cleared
+-- the trial of a state's transitions, by the exit that cleared
 abbrev pub trial_at_exit : BasicType → Result (Option Exit) Reason → (left : ℕ) → Trial
 trial_at_exit t (Ok None) left = NoneClears left
 trial_at_exit t (Ok (Some e)) left = Clears (transition_at t e.transition).to left

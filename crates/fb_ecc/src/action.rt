@@ -1,19 +1,24 @@
 //! The actions of a state.
 
-ghost use Rattle.std.specs.Prelude.{◌≡◌, ◌≤◌, ◌++◌, ◌∷◌, [], All, IfOk, OnErr, OnOk, length, map, ℕ, List, Option, None};
+ghost use Rattle.std.specs.Prelude.{◌≡◌, ◌≤◌, ◌++◌, ◌∷◌, [], All, IfOk, OnErr, OnOk, length, map, slice_get, ℕ, List, Option, None, Some};
 ghost use Rattle.fb_types.specs.Names.{Name};
 ghost use Rattle.fb_types.specs.Charts.{Acts, Halts, Performs, Position, emitting};
+ghost use Rattle.fb_types.specs.Bodies.{RunsAll};
+ghost use Rattle.fb_types.specs.Syntax.{body_of};
 ghost use Rattle.fb_types.specs.declared.library.Action.{Action};
-ghost use Rattle.fb_st.specs.Frames.{declared_in, values_of};
+ghost use Rattle.fb_types.specs.declared.library.Algorithm.{Algorithm};
+ghost use Rattle.fb_st.specs.Flows.{end_of, point};
+ghost use Rattle.fb_st.specs.Frames.{declared_in, types_in, values_of};
 ghost use Rattle.fb_ecc.specs.Actions.{AreActions, IsAction, IsAlgorithm, IsOutput, Stopped, with_slots};
 ghost use Rattle.fb_ecc.specs.Located.{AreAt, slots_with_each};
 ghost use Rattle.fb_ecc.specs.Indexes.{Ended, IsWellFormed, index};
-ghost use Rattle.fb_ecc.specs.Programs.{IsProgramOf};
+ghost use Rattle.fb_ecc.specs.Programs.{IsProgramOf, IsSharedOf};
 ghost use Rattle.fb_ecc.specs.Sound.{Each, IsSound, declared_by};
 
 use crate::chart::Act;
 use crate::program::Program;
-use fb_st::{Frame, Meter, exec_compiled};
+use crate::shared::SharedChart;
+use fb_st::{Flow, Frame, Meter, exec, exec_compiled};
 use fb_types::{BasicType, Emission, Emits, Halt, Items, Reason, Values};
 use std::alloc::{AllocError, Global};
 
@@ -29,8 +34,8 @@ fn shown_values(alloc: Global, slots: &[usize], frame: &Frame) -> Result<Values,
     Ok(values)
 }
 
-/// Emits the output event at an index with what the variables of slots hold. Mostly there is one variable, and then there is
-/// no list of values.
+/// Emits the output event at an index with what the variables of slots hold. Mostly there is one variable, and then
+/// there is no list of values.
 #[inline(always)]
 fn emit_with(
     event: u32,
@@ -88,6 +93,31 @@ fn emit(
     }
 }
 
+/// Runs the algorithm at an index, mostly in its compiled form.
+#[inline(always)]
+fn exec_at(
+    block: &BasicType,
+    program: &Program,
+    algorithm: usize,
+    frame: &mut Frame,
+    meter: &mut Meter,
+) -> Result<Flow, Reason>
+    requires sound { IsSound block.now }
+    requires program { IsProgramOf block.now program.now }
+    requires declared { declared_in frame.old ≡ declared_by block.now }
+    requires algorithm { (a : Algorithm) × (slice_get block.now.algorithms algorithm ≡ Some a) }
+    ensures run { (a : Algorithm) → slice_get block.now.algorithms algorithm ≡ Some a →
+        RunsAll (types_in (declared_in frame.old)) (body_of a.body) (point frame.old meter.old) (end_of result) (point frame.new meter.new) }
+    ensures declared { declared_in frame.new ≡ declared_in frame.old }
+    ensures fewer { meter.new.left ≤ meter.old.left }
+{
+    let codes = program.body(algorithm);
+    match exec_compiled(codes, &program.layout, frame, meter) {
+        Some(result) => result,
+        None => exec(&block.algorithms.as_slice()[algorithm].body, frame, meter),
+    }
+}
+
 /// Runs the algorithm of an action, if it has one.
 #[inline(always)]
 fn run(
@@ -107,13 +137,7 @@ fn run(
     ensures fewer { meter.new.left ≤ meter.old.left }
 {
     if let Some(algorithm) = algorithm {
-        exec_compiled(
-            &block.algorithms.as_slice()[algorithm].body,
-            program.body(algorithm),
-            &program.layout,
-            frame,
-            meter,
-        )?;
+        exec_at(block, program, algorithm, frame, meter)?;
     }
     Ok(())
 }
@@ -146,21 +170,19 @@ pub(crate) fn perform(
     Ok(())
 }
 
-/// The actions of a state, in their order. Each costs a step.
+/// The actions of a state, in their order. Each costs a step. Mostly there is one at most, and then there is no loop.
 #[inline(always)]
 pub(crate) fn perform_all(
     block: &BasicType,
-    program: &Program,
+    chart: &SharedChart,
     acts: &[Act],
-    shown: &[Items<usize>],
     frame: &mut Frame,
     meter: &mut Meter,
     emits: &mut Emits,
 ) -> Result<(), Halt>
     requires sound { IsSound block.now }
-    requires program { IsProgramOf block.now program.now }
+    requires chart { IsSharedOf block.now chart.now }
     requires declared { declared_in frame.old ≡ declared_by block.now }
-    requires shown { shown.now ≡ slots_with_each block.now.ports.event_outputs block.now.ports.outputs (length block.now.ports.inputs) }
     requires acts { (actions : List Action) × AreActions block.now acts.now actions }
     ensures performed { (actions : List Action) (state : ℕ) → AreActions block.now acts.now actions →
         Ended result (Acts block.now actions meter.old.left) (index block.now state frame.old meter.old.left emits.old) (index block.now state frame.new meter.new.left emits.new) }
@@ -168,6 +190,39 @@ pub(crate) fn perform_all(
     ensures fewer { meter.new.left ≤ meter.old.left }
     ensures well_formed { let IsFit = IsWellFormed block.now in All IsFit emits.old → All IsFit emits.new }
 {
+    match acts {
+        [] => Ok(()),
+        [act] => {
+            let program = chart.program();
+            let shown = chart.shown();
+            perform(block, program, *act, shown, frame, meter, emits)
+        }
+        _ => perform_each(block, chart, acts, frame, meter, emits),
+    }
+}
+
+/// The same as `perform_all`, for any number of actions.
+#[inline(never)]
+fn perform_each(
+    block: &BasicType,
+    chart: &SharedChart,
+    acts: &[Act],
+    frame: &mut Frame,
+    meter: &mut Meter,
+    emits: &mut Emits,
+) -> Result<(), Halt>
+    requires sound { IsSound block.now }
+    requires chart { IsSharedOf block.now chart.now }
+    requires declared { declared_in frame.old ≡ declared_by block.now }
+    requires acts { (actions : List Action) × AreActions block.now acts.now actions }
+    ensures performed { (actions : List Action) (state : ℕ) → AreActions block.now acts.now actions →
+        Ended result (Acts block.now actions meter.old.left) (index block.now state frame.old meter.old.left emits.old) (index block.now state frame.new meter.new.left emits.new) }
+    ensures declared { declared_in frame.new ≡ declared_in frame.old }
+    ensures fewer { meter.new.left ≤ meter.old.left }
+    ensures well_formed { let IsFit = IsWellFormed block.now in All IsFit emits.old → All IsFit emits.new }
+{
+    let program = chart.program();
+    let shown = chart.shown();
     for act in acts {
         perform(block, program, *act, shown, frame, meter, emits)?;
     }

@@ -185,14 +185,6 @@ picked_abs false false false true e h = absurd cc
 picked_abs false false false false true h = absurd cc
 picked_abs false false false false false h = absurd cc
 
-picked_limit : (a b c d e : Bool) → pick a b c d e ≡ Some function.Limit → d ≡ true
-picked_limit true b c d e h = absurd cc
-picked_limit false true c d e h = absurd cc
-picked_limit false false true d e h = absurd cc
-picked_limit false false false true e h = refl
-picked_limit false false false false true h = absurd cc
-picked_limit false false false false false h = absurd cc
-
 picked_sel : (a b c d e : Bool) → pick a b c d e ≡ Some function.Sel → e ≡ true
 picked_sel true b c d e h = absurd cc
 picked_sel false true c d e h = absurd cc

@@ -1,10 +1,10 @@
 -- What the variables hold, by the index of a name, and after a write there.
-use Rattle.std.proofs.Common.{◌≡◌, ℕ, zero, suc, ◌<◌, ◌≤◌, length, get_or, ◌||◌, Bool, true, false, cond, List, [], ◌∷◌, set, map, Option, Some, None, refl, sym, ◌∙◌, ap, subst, arith}
+use Rattle.std.proofs.Common.{◌≡◌, ℕ, zero, suc, ◌<◌, ◌≤◌, length, ◌||◌, Bool, true, false, cond, List, [], ◌∷◌, set, map, Option, Some, None, refl, sym, ◌∙◌, ap, subst, arith}
 use Rattle.std.proofs.Math.Path.{fun_ext}
 use Rattle.std.specs.Prelude.{slice_get, option_map, option_and_then, MatchOption}
 use Rattle.std.proofs.lemmas.Bool.{true≢false}
 use Rattle.std.proofs.lemmas.List.Quantifiers.{position-Some}
-use Rattle.std.proofs.lemmas.Option.{slice_get-map, slice_get_past, slice_get_read}
+use Rattle.std.proofs.lemmas.Option.{slice_get-map, slice_get_past}
 use Rattle.fb_types.specs.Names.{Name, same_name, with_value}
 use Rattle.fb_types.specs.Blocks.{named}
 use Rattle.fb_types.specs.Repeated.{Twice}
@@ -22,13 +22,6 @@ abbrev held : Option Slot → Value
 held o = elim o [ None ↦ zero_value | Some s ↦ s.value ]
 
 -- ---- Reading
-
--- an element with a name that was read at an index is there, and the name first is there
-pub stands : (slots : List Slot) (i : ℕ) (s : Slot) (n : Name) → ¬ (Twice (names_of slots)) → i < length slots → s ≡ get_or slots i s → same_name n s.name ≡ true
-    → (slice_get slots i ≡ Some s) × (index_of n slots ≡ Some i)
-stands slots i s n once within is same =
-    let there = slice_get_read slots (length slots) i s refl within is in
-    (there, index_of_once (λ (t : Slot). t.name) n slots i s once there same)
 
 -- the variable at the index of a name is the one with the name
 pub named_here : (slots : List Slot) (n : Name) (i : ℕ) (s : Slot) → index_of n slots ≡ Some i → slice_get slots i ≡ Some s → named (λ t. t.name) n slots ≡ Some s

@@ -1,68 +1,46 @@
-//! Runs algorithms and guards in their compiled form, or as they were read.
+//! Runs algorithms and guards in their compiled form.
 
-ghost use Rattle.std.specs.Prelude.{◌≡◌, ◌≤◌, map, IfSome};
+ghost use Rattle.std.specs.Prelude.{◌≡◌, ◌≤◌, List, None, IfSome};
 ghost use Rattle.fb_types.specs.Bodies.{RunsAll};
-ghost use Rattle.fb_types.specs.Syntax.{body_of, expr_of, stmt_of};
+ghost use Rattle.fb_types.specs.Syntax.{Stmt, expr_of, stmts};
 ghost use Rattle.fb_types.specs.Values.{truth_of};
 ghost use Rattle.fb_st.specs.Flows.{end_of, point};
 ghost use Rattle.fb_st.specs.Frames.{declared_in, types_in, values_of};
-ghost use Rattle.fb_st.specs.Known.{AllKnown};
 ghost use Rattle.fb_st.specs.Made.{SaysAll, SaysTruth};
 
 use crate::compiled::{CompiledStmt, TruthExpr};
 use crate::evaluation::holds;
-use crate::execution::exec;
 use crate::frame::Frame;
 use crate::layout::Layout;
 use crate::meter::{Flow, Meter};
-use fb_types::{Body, Expr, Reason};
+use fb_types::{Expr, Reason};
 
-/// Runs the statements of an algorithm as `exec` does. It runs the compiled form if there is one and each variable holds a
-/// value of its type.
+/// Runs the compiled form of an algorithm as `exec` runs its text. `None` if there is no compiled form, or a variable
+/// holds a value that its type does not hold: then nothing is run, and `exec` runs the text. So callers look up the text
+/// only where it is needed.
 #[inline(always)]
 pub fn exec_compiled(
-    body: &Body,
     codes: Option<&[CompiledStmt]>,
     layout: &Layout,
     frame: &mut Frame,
     meter: &mut Meter,
-) -> Result<Flow, Reason>
-    requires known { AllKnown (declared_in frame.old) (body_of body.now) }
+) -> Option<Result<Flow, Reason>>
     requires layout { layout.now ≡ declared_in frame.old }
-    requires says { IfSome codes (λ c. SaysAll layout.now (map stmt_of body.now.statements) c.now) }
-    ensures run { RunsAll (types_in (declared_in frame.old)) (body_of body.now) (point frame.old meter.old) (end_of result) (point frame.new meter.new) }
+    requires says { (text : List Stmt) × IfSome codes (λ c. SaysAll layout.now text c.now) }
+    ensures run { (text : List Stmt) → IfSome codes.entry (λ c. SaysAll layout.now text c.now) →
+        IfSome result (λ r. RunsAll (types_in (declared_in frame.old)) (stmts text) (point frame.old meter.old) (end_of r) (point frame.new meter.new)) }
+    ensures none { result ≡ None → (frame.new ≡ frame.old) × (meter.new ≡ meter.old) }
     ensures declared { declared_in frame.new ≡ declared_in frame.old }
     ensures fewer { meter.new.left ≤ meter.old.left }
 {
     match codes {
-        Some(codes) => exec_codes(body, codes, layout, frame, meter),
-        None => exec(body, frame, meter),
+        Some(codes) => frame.run(codes, layout, meter),
+        None => None,
     }
 }
 
-/// The same as `exec_compiled`, with a compiled form.
-#[inline(always)]
-fn exec_codes(
-    body: &Body,
-    codes: &[CompiledStmt],
-    layout: &Layout,
-    frame: &mut Frame,
-    meter: &mut Meter,
-) -> Result<Flow, Reason>
-    requires known { AllKnown (declared_in frame.old) (body_of body.now) }
-    requires layout { layout.now ≡ declared_in frame.old }
-    requires says { SaysAll layout.now (map stmt_of body.now.statements) codes.now }
-    ensures run { RunsAll (types_in (declared_in frame.old)) (body_of body.now) (point frame.old meter.old) (end_of result) (point frame.new meter.new) }
-    ensures declared { declared_in frame.new ≡ declared_in frame.old }
-    ensures fewer { meter.new.left ≤ meter.old.left }
-{
-    match frame.run(codes, layout, meter) {
-        Some(result) => result,
-        None => exec(body, frame, meter),
-    }
-}
-
-/// Whether a guard is true, as `holds` says. It chooses the form as `exec_compiled` does.
+/// Whether a guard is true, as `holds` says. It evaluates the compiled form if there is one and each variable holds a
+/// value of its type.
 #[inline(always)]
 pub fn holds_compiled(
     guard: &Expr,

@@ -1,8 +1,8 @@
-//! Algorithms and guards in the form in which they run: a variable is the number of its slot, and an expression is of one
-//! kind. The form is made once for each type, so that no name is looked up while a block reacts.
+//! Algorithms and guards in the form in which they run: a variable is the number of its slot, and an expression is of
+//! one kind. The form is made once for each type, so that no name is looked up while a block reacts.
 //!
-//! A slot is a word of 64 bits. Most operands are a variable or a number of 64 bits, so an operator at such operands is one
-//! node: it is evaluated with one jump and no call.
+//! A slot is a word of 64 bits. Most operands are a variable or a number of 64 bits, so an operator at such operands is
+//! one node: it is evaluated with one jump and no call.
 
 use fb_types::{BinaryOperator, Boxed, Items, Label};
 
@@ -201,8 +201,8 @@ pub enum CompiledStmt {
     Return,
     /// An assignment to the variable of a slot whose type holds each number of 64 bits.
     AssignLong(usize, NumberExpr),
-    /// An assignment to the variable of a slot whose type holds the numbers from the least to the most, and of 64 bits no
-    /// others.
+    /// An assignment to the variable of a slot whose type holds the numbers from the least to the most, and of 64 bits
+    /// no others.
     AssignWithin(usize, i64, i64, NumberExpr),
     /// An assignment of a truth value.
     AssignTruth(usize, TruthExpr),

@@ -1,5 +1,5 @@
-//! Evaluates compiled expressions with numbers of 128 bits, or to the first reason. All operands are evaluated, from left to
-//! right.
+//! Evaluates compiled expressions with numbers of 128 bits, or to the first reason. All operands are evaluated, from
+//! left to right.
 
 ghost use Rattle.std.specs.Prelude.{◌≡◌, ◌<◌, ◌&&◌, nat_lt, true, not, length, Ok, neg_ℤ};
 ghost use Rattle.std.specs.Int.{int_min, int_max};
@@ -42,7 +42,8 @@ fn of_slot(operator: BinaryOperator, words: &[i64], i: usize, y: i128) -> Result
     number_of_two(operator, i128::from(word(words, i)), y)
 }
 
-// What follows takes results and not values, so that `number` and `truth`, which have many ways, need no way for each reason.
+// What follows takes results and not values, so that `number` and `truth`, which have many ways, need no way for each
+// reason.
 
 /// An operator between the word of a slot and a result, or the reason of that.
 #[inline(always)]
@@ -75,7 +76,7 @@ fn of_two(
 
 /// Unary minus of a result.
 #[inline(always)]
-fn opposite(inner: Result<i128, Reason>) -> Result<i128, Reason>
+fn negate(inner: Result<i128, Reason>) -> Result<i128, Reason>
     ensures { result ≡ and_then inner (λ x. wholes (judged (neg_ℤ x))) }
 {
     let x = inner?;
@@ -120,7 +121,7 @@ fn greater(left: Result<i128, Reason>, right: Result<i128, Reason>) -> Result<i1
 
 /// A result between the least and the most, or the first reason.
 #[inline(always)]
-fn limited(
+fn limit_number(
     least: Result<i128, Reason>,
     inner: Result<i128, Reason>,
     most: Result<i128, Reason>,
@@ -135,7 +136,7 @@ fn limited(
 
 /// The left result at FALSE and the right one at TRUE, or the first reason of the three.
 #[inline(always)]
-fn either(
+fn pick_number(
     condition: Result<bool, Reason>,
     left: Result<i128, Reason>,
     right: Result<i128, Reason>,
@@ -224,7 +225,7 @@ pub(crate) fn number(expr: &NumberExpr, words: &[i64]) -> Result<i128, Reason>
             number(left.get(), words),
             number(right.get(), words),
         ),
-        NumberExpr::Negated(inner) => opposite(number(inner.get(), words)),
+        NumberExpr::Negated(inner) => negate(number(inner.get(), words)),
         NumberExpr::Magnitude(inner) => magnitude_of(number(inner.get(), words)),
         NumberExpr::Lesser(left, right) => {
             lesser(number(left.get(), words), number(right.get(), words))
@@ -232,12 +233,12 @@ pub(crate) fn number(expr: &NumberExpr, words: &[i64]) -> Result<i128, Reason>
         NumberExpr::Greater(left, right) => {
             greater(number(left.get(), words), number(right.get(), words))
         }
-        NumberExpr::Limited(least, inner, most) => limited(
+        NumberExpr::Limited(least, inner, most) => limit_number(
             number(least.get(), words),
             number(inner.get(), words),
             number(most.get(), words),
         ),
-        NumberExpr::Chosen(condition, left, right) => either(
+        NumberExpr::Chosen(condition, left, right) => pick_number(
             truth(condition.get(), words),
             number(left.get(), words),
             number(right.get(), words),
@@ -246,7 +247,7 @@ pub(crate) fn number(expr: &NumberExpr, words: &[i64]) -> Result<i128, Reason>
 }
 
 /// Whether a comparison of two numbers is true.
-fn compared(operator: BinaryOperator, x: i128, y: i128) -> bool
+fn compare_numbers(operator: BinaryOperator, x: i128, y: i128) -> bool
     ensures { result ≡ compared_by operator x y }
 {
     match operator {
@@ -284,12 +285,12 @@ fn results_compared(
 {
     let x = left?;
     let y = right?;
-    Ok(compared(operator, x, y))
+    Ok(compare_numbers(operator, x, y))
 }
 
 /// Two truth values, joined, or the first reason.
 #[inline(always)]
-fn joined(
+fn combine_truths(
     operator: BinaryOperator,
     left: Result<bool, Reason>,
     right: Result<bool, Reason>,
@@ -303,7 +304,7 @@ fn joined(
 
 /// The other truth value.
 #[inline(always)]
-fn inverted(inner: Result<bool, Reason>) -> Result<bool, Reason>
+fn invert(inner: Result<bool, Reason>) -> Result<bool, Reason>
     ensures { result ≡ and_then inner (λ b. Ok (not b)) }
 {
     let is_true = inner?;
@@ -312,7 +313,7 @@ fn inverted(inner: Result<bool, Reason>) -> Result<bool, Reason>
 
 /// The left truth value at FALSE and the right one at TRUE, or the first reason of the three.
 #[inline(always)]
-fn picked(
+fn pick_truth(
     condition: Result<bool, Reason>,
     left: Result<bool, Reason>,
     right: Result<bool, Reason>,
@@ -368,12 +369,12 @@ pub(crate) fn truth(expr: &TruthExpr, words: &[i64]) -> Result<bool, Reason>
         TruthExpr::GreaterOrEqualConstant(i, number) => {
             slot_compared(BinaryOperator::GreaterOrEqual, words, *i, *number)
         }
-        TruthExpr::Both(left, right) => joined(
+        TruthExpr::Both(left, right) => combine_truths(
             BinaryOperator::And,
             truth(left.get(), words),
             truth(right.get(), words),
         ),
-        TruthExpr::Joined(operator, left, right) => joined(
+        TruthExpr::Joined(operator, left, right) => combine_truths(
             *operator,
             truth(left.get(), words),
             truth(right.get(), words),
@@ -383,8 +384,8 @@ pub(crate) fn truth(expr: &TruthExpr, words: &[i64]) -> Result<bool, Reason>
             number(left.get(), words),
             number(right.get(), words),
         ),
-        TruthExpr::Not(inner) => inverted(truth(inner.get(), words)),
-        TruthExpr::Picked(condition, left, right) => picked(
+        TruthExpr::Not(inner) => invert(truth(inner.get(), words)),
+        TruthExpr::Picked(condition, left, right) => pick_truth(
             truth(condition.get(), words),
             truth(left.get(), words),
             truth(right.get(), words),
@@ -404,7 +405,7 @@ fn slots_compared(
 {
     let x = i128::from(word(words, i));
     let y = i128::from(word(words, j));
-    Ok(compared(operator, x, y))
+    Ok(compare_numbers(operator, x, y))
 }
 
 /// A comparison of the word of a slot and a number.
@@ -418,5 +419,5 @@ fn slot_compared(
     ensures { result ≡ Ok (compared_by operator (word_at words.now i) number) }
 {
     let x = i128::from(word(words, i));
-    Ok(compared(operator, x, i128::from(number)))
+    Ok(compare_numbers(operator, x, i128::from(number)))
 }

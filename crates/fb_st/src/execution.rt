@@ -121,7 +121,7 @@ fn run_branch(
     run_all(others, frame, meter)
 }
 
-/// A turn of WHILE or REPEAT, which costs a step before its body.
+/// An iteration of WHILE or REPEAT, which costs a step before its body.
 #[cycle(exec)]
 #[inline(always)]
 fn turn(body: &[Stmt], frame: &mut Frame, meter: &mut Meter) -> Result<Flow, Reason>
@@ -135,7 +135,7 @@ fn turn(body: &[Stmt], frame: &mut Frame, meter: &mut Meter) -> Result<Flow, Rea
     run_all(body, frame, meter)
 }
 
-/// Turns while the condition is true.
+/// Iterates while the condition is true.
 #[cycle(exec)]
 fn run_while(
     body: &[Stmt],
@@ -158,7 +158,7 @@ fn run_while(
     Ok(Flow::Went)
 }
 
-/// Turns until the condition is true, one at least.
+/// Iterates until the condition is true, at least once.
 #[cycle(exec)]
 fn run_repeat(
     body: &[Stmt],
@@ -213,7 +213,8 @@ fn run_for(
     run_counts(body, variable, count, frame, meter)
 }
 
-/// A turn of FOR, which ends by the next value of the variable. Where it went on, that value has not passed the end.
+/// An iteration of FOR, which ends with the next value of the variable. If the loop goes on, that value has not passed
+/// the end.
 #[cycle(exec)]
 fn turn_of_for(
     body: &[Stmt],
@@ -238,7 +239,7 @@ fn turn_of_for(
     }
 }
 
-/// The turns of FOR, once the variable has its first value.
+/// The iterations of FOR, once the variable has its first value.
 #[cycle(exec)]
 fn run_counts(
     body: &[Stmt],

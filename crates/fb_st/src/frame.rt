@@ -146,8 +146,8 @@ impl Frame {
         }
     }
 
-    /// Gives the variable of a slot a value and does not check its type, as when a value is sampled. A slot without a variable
-    /// is skipped.
+    /// Gives the variable of a slot a value and does not check its type, as when a value is sampled. A slot without a
+    /// variable is skipped.
     #[inline(always)]
     pub fn put_at(&mut self, slot: usize, value: &Value)
         ensures value { MatchOption (slice_get (declared_in self.old) slot) (self.new ≡ self.old) (λ d. values_of self.new ≡ with_value d.0 value.now (values_of self.old)) }

@@ -1,8 +1,8 @@
 //! Structured Text (IEC 61131-3, 7.3): values of expressions and runs of statements.
 //!
 //! Guarantees to callers: `evaluation::eval` gives the value of an expression, or the reason for which it has none.
-//! `execution::exec` runs an algorithm as the definitions say, steps counted. `algorithm::exec_compiled` does the same with
-//! the form that `compile_body` makes once for each type. A `frame::Frame` keeps variables within their types.
+//! `execution::exec` runs an algorithm as the definitions say, steps counted. `algorithm::exec_compiled` does the same
+//! with the form that `compile_body` makes once for each type. A `frame::Frame` keeps variables within their types.
 //!
 //! Read in this order: `frame` and `slot_list`, the variables; `evaluation` with `operator` and `function`;
 //! `meter`, the steps; `execution` with `assign`; `known`. Then `layout` and `compiled`; `scope`, `compile_expr` and

@@ -81,7 +81,7 @@ fn remainder_at_once(x: i128, y: i128) -> Option<i128>
 
 /// `/`, which cuts toward zero.
 #[inline(always)]
-fn divided(x: i128, y: i128) -> Result<i128, Reason>
+fn divide(x: i128, y: i128) -> Result<i128, Reason>
     ensures { result ≡ wholes (quotient x y) }
 {
     if y == 0 {
@@ -145,7 +145,7 @@ pub fn number_of_two(operator: BinaryOperator, x: i128, y: i128) -> Result<i128,
         BinaryOperator::Add => sum(x, y),
         BinaryOperator::Subtract => difference(x, y),
         BinaryOperator::Multiply => product(x, y),
-        BinaryOperator::Divide => divided(x, y),
+        BinaryOperator::Divide => divide(x, y),
         BinaryOperator::Modulo => remainder(x, y),
         _ => Ok(0),
     }

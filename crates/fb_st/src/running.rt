@@ -157,7 +157,7 @@ fn run_all(
     run_each(statements, layout, words, meter)
 }
 
-/// The same as `run_all`, inlined into the loops, so that a turn has no call.
+/// The same as `run_all`, inlined into the loops, so that an iteration has no call.
 #[cycle(running)]
 #[inline(always)]
 fn run_each(
@@ -255,8 +255,8 @@ fn run_body(
     run_all(statements, layout, words, meter)
 }
 
-/// Runs the statements of a label. It looks only for a single assignment to a variable of 64 bits, since CASE gets slower
-/// with both.
+/// Runs the statements of a label. It looks only for a single assignment to a variable of 64 bits, since CASE gets
+/// slower with both.
 #[cycle(running)]
 #[inline(always)]
 fn run_labelled(
@@ -429,7 +429,7 @@ fn run_branch(
     run_labelled(others, layout, words, meter)
 }
 
-/// A turn of WHILE or REPEAT, which costs a step before its body.
+/// An iteration of WHILE or REPEAT, which costs a step before its body.
 #[cycle(running)]
 #[inline(always)]
 fn turn(
@@ -450,7 +450,7 @@ fn turn(
     run_each(body, layout, words, meter)
 }
 
-/// Turns while the condition is true.
+/// Iterates while the condition is true.
 // Not written into `run`: else the other statements keep registers for it.
 #[cycle(running)]
 #[inline(never)]
@@ -479,7 +479,7 @@ fn run_while(
     Ok(Flow::Went)
 }
 
-/// Turns until the condition is true, one at least.
+/// Iterates until the condition is true, at least once.
 #[cycle(running)]
 #[inline(never)]
 fn run_repeat(
@@ -588,8 +588,8 @@ fn short_sum(word: i64, step: i64, end: i64, least: i64, most: i64) -> Option<i6
     Some(next)
 }
 
-/// The next value of the variable of FOR, if the numbers fit 64 bits, the variable's type holds it, and it has not passed the
-/// end. `None` says nothing about it.
+/// The next value of the variable of FOR, if the numbers fit 64 bits, the variable's type holds it, and it has not
+/// passed the end. `None` says nothing about it.
 #[inline(always)]
 fn short_next(count: &CountExpr, span: &Span, words: &[i64]) -> Option<i64>
     requires { count.now.slot < length words.now }
@@ -605,7 +605,8 @@ fn short_next(count: &CountExpr, span: &Span, words: &[i64]) -> Option<i64>
     short_sum(word, step, end, count.least, count.most)
 }
 
-/// Gives the variable of FOR its next value, or ends the loop and keeps the value. The next value has not passed the end.
+/// Gives the variable of FOR its next value, or ends the loop and keeps the value. The next value has not passed the
+/// end.
 #[tactic(auto, using(crate::proofs::Assigning::within_slot_there))]
 #[inline(always)]
 fn advance(
@@ -666,7 +667,7 @@ fn advance_exact(
     Ok(Flow::Went)
 }
 
-/// A turn of FOR. It ends with the next value of the variable, which has not passed the end if the loop goes on.
+/// An iteration of FOR. It ends with the next value of the variable, which has not passed the end if the loop goes on.
 #[cycle(running)]
 #[inline(always)]
 fn turn_of_for(
@@ -695,7 +696,7 @@ fn turn_of_for(
     }
 }
 
-/// The turns of FOR, once the variable has its first value, which has not passed the end.
+/// The iterations of FOR, once the variable has its first value, which has not passed the end.
 #[cycle(running)]
 #[inline(always)]
 fn run_counts(

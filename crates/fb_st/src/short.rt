@@ -1,6 +1,6 @@
-//! Evaluates compiled expressions whose numbers all fit 64 bits, as most do, in registers. If a number does not fit or there
-//! is a reason, the result is `None`, and `exact` evaluates the expression again. Expressions have no effects, so that is
-//! allowed.
+//! Evaluates compiled expressions whose numbers all fit 64 bits, as most do, in registers. If a number does not fit or
+//! there is a reason, the result is `None`, and `exact` evaluates the expression again. Expressions have no effects, so
+//! that is allowed.
 
 ghost use Rattle.std.specs.Prelude.{◌≡◌, ◌<◌, true, length, Ok, IfSome};
 ghost use Rattle.fb_st.specs.Compiled.{number_said, truth_said, number_at, truth_at, fits_number, fits_truth, two_numbers, compared_by, word_at, unsigned_of, truth_of_word};
@@ -124,7 +124,8 @@ pub(crate) fn number(expr: &NumberExpr, words: &[i64]) -> Option<i64>
 {
     match leaf(expr, words) {
         Some(number) => Some(number),
-        None => any_number(expr, words),
+        // As in `truth_operand`.
+        None => Some(any_number(expr, words)?),
     }
 }
 

@@ -267,8 +267,8 @@ impl SlotList {
         self.is_plain = are_both(self.is_plain, is_plain);
     }
 
-    /// Runs compiled statements on the words. `None` if a variable holds a value that its type does not hold: then nothing is
-    /// run.
+    /// Runs compiled statements on the words. `None` if a variable holds a value that its type does not hold: then
+    /// nothing is run.
     #[inline(always)]
     pub(crate) fn run(
         &mut self,

@@ -2,14 +2,9 @@ use Rattle.std.proofs.Common.{List, sym, subst}
 use Rattle.fb_types.specs.Charts.{actions_of}
 use Rattle.fb_ecc.specs.Actions.{AreActions}
 use Rattle.fb_ecc.specs.Indexes.{state_at}
-use Rattle.fb_ecc.specs.Programs.{IsProgramOf}
 use Rattle.fb_ecc.specs.declared.chart.Act.{Act}
-use Rattle.fb_ecc.specs.declared.program.Program.{Program}
 use Rattle.fb_ecc.proofs.Links.{row_read}
 use Rattle.fb_ecc.proofs.reaction.enter.Goals as goal
-
-pub perform_all-requires-clause-program : goal.perform_all-requires-clause-program
-perform_all-requires-clause-program c = subst (λ (p : Program). IsProgramOf c.args.block.now p) (sym c.program-program.ensures) c.requires.block.chart.program
 
 pub perform_all-requires-clause-acts : goal.perform_all-requires-clause-acts
 perform_all-requires-clause-acts c =

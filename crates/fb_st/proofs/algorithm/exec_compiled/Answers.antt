@@ -1,12 +1,28 @@
-use Rattle.std.proofs.Common.{List, Option, map, subst}
+use Rattle.std.proofs.Common.{List, Option, ap, subst}
 use Rattle.std.specs.Prelude.{IfSome}
 use Rattle.std.specs.Borrow.{Bor}
-use Rattle.fb_types.specs.Syntax.{stmt_of}
+use Rattle.fb_types.specs.Syntax.{Stmt, Stmts, stmts}
+use Rattle.fb_types.specs.Bodies.{Point, RunsAll}
+use Rattle.fb_st.specs.Flows.{end_of, point}
+use Rattle.fb_st.specs.Frames.{Declared, declared_in, types_in}
+use Rattle.fb_st.specs.Fitting.{codes_said}
 use Rattle.fb_st.specs.Made.{SaysAll}
 use Rattle.fb_st.specs.declared.compiled.CompiledStmt.{CompiledStmt}
 use Rattle.fb_st.proofs.algorithm.exec_compiled.Goals as goal
 
-pub exec_codes-requires-clause-says : goal.exec_codes-requires-clause-says
-exec_codes-requires-clause-says c =
-    let Says : Option (Bor (List CompiledStmt)) → Type 0 = λ o. IfSome o (λ codes. SaysAll c.args.layout.now (map stmt_of c.args.body.now.statements) codes.now) in
-    subst Says c.in-Some.is c.requires.says
+pub run-requires : goal.run-requires
+run-requires c =
+    let Says : Option (Bor (List CompiledStmt)) → Type 0 = λ o. IfSome o (λ codes. SaysAll c.args.layout.now c.requires.says.0 codes.now) in
+    let says = subst Says c.in-Some.is c.requires.says.1 in
+    record { layout = c.requires.layout; right = says.right }
+
+pub returns-in-Some-clause-run : goal.returns-in-Some-clause-run
+returns-in-Some-clause-run c = λ text given.
+    let ds : List Declared = c.args.layout.now in
+    let p : Point = point c.args.frame.now c.args.meter.now in
+    let q : Point = point c.run.new.self c.run.new.meter in
+    let Says : Option (Bor (List CompiledStmt)) → Type 0 = λ o. IfSome o (λ codes. SaysAll ds text codes.now) in
+    let Said : Stmts → Type 0 = λ b. IfSome c.run.result (λ r. RunsAll (types_in (declared_in c.args.frame.now)) b p (end_of r) q) in
+    let Laid : List Declared → Type 0 = λ l. IfSome c.run.result (λ r. RunsAll (types_in l) (codes_said ds c.in-Some.codes.now) p (end_of r) q) in
+    let says = subst Says c.in-Some.is given in
+    subst Said (ap stmts says.says) (subst Laid c.requires.layout c.run.ensures.run)
