@@ -10,7 +10,8 @@ use Rattle.fb_types.specs.Flat.{latency_at}
 use Rattle.fb_link.specs.Arrivals.{arrival_at, IsEarliest}
 use Rattle.fb_link.proofs.LatencyTables.{NoEarlier, latency_within, latency_index, arrival_least}
 
--- the least arrival of the message that is sent at a tick, and of those that are sent as one of these entries begins later
+-- the least arrival of the message that is sent at a tick, and of those that are sent as one of these entries begins
+-- later
 pub record IsEarliestOf (es table : List Entry) (from tick : ℕ) : Type 0 where
   pub first : tick ≤ arrival_at table from
   pub entries : All (NoEarlier from tick) es

@@ -14,19 +14,6 @@ use Rattle.fb_types.proofs.KeyLaws.{key_cmp_total}
 use Rattle.fb_types.proofs.Lookups.{or_else_none, same_cases}
 use Rattle.fb_link.specs.Exchanges.{KeysRise}
 
--- what is found where each element is passed through a function
-pub found_map : {X A B : Type 0} (key : X → Key) (f : X → A) (g : A → B) (k : Key) (xs : List X)
-    → found k (map (λ x. (key x, g (f x))) xs) ≡ elim (found k (map (λ x. (key x, f x)) xs)) [ None ↦ None | Some a ↦ Some (g a) ]
-found_map key f g k [] = refl
-found_map {X} {A} {B} key f g k (x ∷ xs) =
-    ap (λ o. or_else o (if same_key (key x) k then Some (g (f x)) else None)) (found_map key f g k xs) ∙ step (found k (map (λ x. (key x, f x)) xs)) (same_key (key x) k)
-  where
-    step : (o : Option A) (b : Bool)
-        → or_else (elim o [ None ↦ None | Some a ↦ Some (g a) ]) (if b then Some (g (f x)) else None) ≡ elim (or_else o (if b then Some (f x) else None)) [ None ↦ None | Some a ↦ Some (g a) ]
-    step (Some a) b = refl
-    step None true = refl
-    step None false = refl
-
 module _ {X : Type 0} (key : X → Key) where
   abbrev pairs : List X → List (Key × X)
   pairs xs = map (λ x. (key x, x)) xs

@@ -125,8 +125,9 @@ latency_index table i d is h = latency-is table (get_or table i d).from ∙ afte
 abbrev pub NoEarlier : ℕ → ℕ → Entry → Type 0
 NoEarlier from tick e = from < e.from → tick ≤ e.from + e.latency
 
--- What arrives no earlier than what is sent at a tick, and what is sent as each later entry begins, arrives before nothing that is
--- sent at that tick or later. Either one latency holds at both ticks so far, or an entry between them bounds what is sent at the second.
+-- What arrives no earlier than what is sent at a tick, and what is sent as each later entry begins, arrives before
+-- nothing that is sent at that tick or later. Either one latency holds at both ticks so far, or an entry between them
+-- bounds what is sent at the second.
 after_least :
     (held now : ℕ) (es : List Entry) (from sent tick : ℕ) → from ≤ sent → All (NoEarlier from tick) es → tick ≤ from + after held es from
     → (held ≡ now) ⊎ (tick ≤ sent + now) → tick ≤ sent + after now es sent

@@ -1,4 +1,4 @@
--- Lists by the indices of their elements.
+-- Lists by the indexes of their elements.
 use Rattle.std.proofs.Common.{◌≡◌, ◌≢◌, ℕ, ◌<◌, All, List, [], ◌∷◌, ◌++◌, ◌-◌, length, replicate, sym, ap, subst, ◌∙◌, Some, ⊎_elim, get_or, get_or-set_same, get_or-set_other, arith}
 use Rattle.std.specs.Prelude.{slice_get, slice_range, slice_set}
 use Rattle.std.proofs.lemmas.Bool.{cases_eq}

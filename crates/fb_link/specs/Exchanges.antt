@@ -27,8 +27,8 @@ KeysRise key (x ∷ xs) = Each (λ y. Precedes (key y) (key x) → ⊥) xs × Ke
 abbrev pub all_of : List (Vec Message Global) → List Message
 all_of boxes = flat_map (λ box. box.items) boxes
 
--- Of all messages, those for a resource, each as often as it occurs, sorted by key. Of several with the same key the last
--- counts in both lists.
+-- Of all messages, those for a resource, each as often as it occurs, sorted by key. Of several with the same key the
+-- last counts in both lists.
 pub record AreFor (sys : System) (r : ℕ) (all ms : List Message) : Type 0 where
   pub those : IsPermutation (filter (goes_to sys r) all) ms
   pub order : KeysRise (key_of sys) ms

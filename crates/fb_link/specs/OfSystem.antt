@@ -1,4 +1,5 @@
--- What contracts say of the messages of a system: its value is the accepted inputs, and each of these is of the flat system.
+-- What contracts say of the messages of a system: its value is the accepted inputs, and each of these is of the flat
+-- system.
 use Rattle.std.specs.Prelude.{ℕ, List, Vec}
 use Rattle.std.specs.declared.alloc.Global.{Global}
 use Rattle.fb_types.specs.Headline.{Inputs, system_of}

@@ -21,7 +21,7 @@ use Rattle.fb_system.specs.Networks.{AreTables, IsEndOf, IsThere, path_around, s
 use Rattle.fb_system.proofs.Leading.{MayBeWired, input_source, input_targets, output_source, output_targets}
 use Rattle.fb_system.proofs.Wired.{around_wired, last_of_route, parent_around, parent_within, stands_there}
 
--- ---- Names at their indices
+-- ---- Names at their indexes
 
 abbrev name_at : List Name → ℕ → Name
 name_at ns k = unwrap_or (slice_get ns k) []

@@ -23,7 +23,7 @@ use Rattle.fb_types.proofs.Options.{and_then_parts, map_parts}
 use Rattle.fb_system.specs.Networks.{IsThere, IsEndOf, side, composite_of}
 use Rattle.fb_system.proofs.Differing.{Differ}
 
--- ---- Names and indices
+-- ---- Names and indexes
 
 map-itself : {A : Type 0} (xs : List A) → map (λ x. x) xs ≡ xs
 map-itself [] = refl
@@ -35,7 +35,7 @@ name_there ns n k h =
     let at = position_is (λ (m : Name). m) n ns k (ap (position (same_name n)) (map-itself ns) ∙ h) in
     at.1 ∙ ap (λ (m : Name). Some m) at.2
 
--- two indices have the same name exactly if they are the same
+-- two indexes have the same name exactly if they are the same
 same_at :
     {A : Type 0} (f : A → Name) (xs : List A) (i j : ℕ) (x y : A) → ¬ (Twice (map f xs)) → slice_get xs i ≡ Some x → slice_get xs j ≡ Some y
     → f x ≡ f y → i ≡ j

@@ -1,5 +1,5 @@
--- The indices of the variables WITH an event of an event block, one more variable at a time, and the entries of all event
--- blocks.
+-- The indexes of the variables WITH an event of an event block, one more variable at a time, and the entries of all
+-- event blocks.
 use Rattle.std.proofs.Common.{◌≡◌, ℕ, ◌<◌, ◌+◌, Bool, true, false, cond, ◌&&◌, List, [], ◌∷◌, ◌++◌, length, take, get_or, Option, Some, refl, sym, ◌∙◌, ap, subst, length-append, append-nil}
 use Rattle.std.specs.Prelude.{slice_get, unwrap_or, option_map}
 use Rattle.std.specs.List.{filter, list_any}

@@ -72,7 +72,8 @@ rows_push {A} P rows r first count long has own index within =
 rows_kept : {A : Type 0} (P : ℕ → A → Type 0) (old new : List A) (first end : ℕ) → HasRows P old first end → Keeps old new → HasRows P new first end
 rows_kept P old new first end has kept = λ index within. let x = has index within in (x.0, kept (first + index) x.0 x.1, x.2)
 
--- a bound of a range is the number of rows before it, or the most if that is fewer: in both cases no row is promised that is not there
+-- a bound of a range is the number of rows before it, or the most if that is fewer: in both cases no row is promised
+-- that is not there
 rows_capped :
     {A : Type 0} (P : ℕ → A → Type 0) (rows : List A) (first end most f g : ℕ) → HasRows P rows first end → f ≡ min first most → g ≡ min end most → HasRows P rows f g
 rows_capped P rows first end most f g has begins ends = λ index within.
@@ -86,16 +87,16 @@ capped bound many rows most is counted = is ∙ ap (λ (n : ℕ). min n most) co
 -- the rows of one side, and then those of the other
 sides_at :
     {A : Type 0} (P : Bool → ℕ → A → Type 0) (half rows : List A) (start most : ℕ) (p : RowRanges) → HasRows (P false) half start (length half) → Keeps half rows
-    → HasRows (P true) rows (length half) (length rows) → p.first ≡ min start most → p.second ≡ min (length half) most → p.end ≡ min (length rows) most → AreAt P rows p
+    → HasRows (P true) rows (length half) (length rows) → get_or p.bounds 0 0 ≡ min start most → get_or p.bounds 1 0 ≡ min (length half) most → get_or p.bounds 2 0 ≡ min (length rows) most → AreAt P rows p
 sides_at P half rows start most p one kept other first second end false =
-    rows_capped (P false) rows start (length half) most p.first p.second (rows_kept (P false) half rows start (length half) one kept) first second
-sides_at P half rows start most p one kept other first second end true = rows_capped (P true) rows (length half) (length rows) most p.second p.end other second end
+    rows_capped (P false) rows start (length half) most (get_or p.bounds 0 0) (get_or p.bounds 1 0) (rows_kept (P false) half rows start (length half) one kept) first second
+sides_at P half rows start most p one kept other first second end true = rows_capped (P true) rows (length half) (length rows) most (get_or p.bounds 1 0) (get_or p.bounds 2 0) other second end
 
 -- the rows of one instance more
 pub instance_in_ranges :
     {A : Type 0} (P : ℕ → Bool → ℕ → A → Type 0) (old half rows : List A) (ranges : List RowRanges) (i most : ℕ) (p : RowRanges) → AreInRanges P old ranges
     → length ranges ≡ i → Keeps old half → HasRows (P i false) half (length old) (length half) → Keeps half rows → HasRows (P i true) rows (length half) (length rows)
-    → p.first ≡ min (length old) most → p.second ≡ min (length half) most → p.end ≡ min (length rows) most → AreInRanges P rows (ranges ++ p ∷ [])
+    → get_or p.bounds 0 0 ≡ min (length old) most → get_or p.bounds 1 0 ≡ min (length half) most → get_or p.bounds 2 0 ≡ min (length rows) most → AreInRanges P rows (ranges ++ p ∷ [])
 instance_in_ranges {A} P old half rows ranges i most p all last kept one kept_on other first second end =
     slice_get-push (λ n (q : RowRanges). AreAt (P n) rows q) ranges p
     (λ n q at side. rows_kept (P n side) old rows (first_of q side) (end_of q side) (all n q at side) (λ k r there. kept_on k r (kept k r there)))

@@ -15,7 +15,7 @@ pub row_read :
     (i : Inputs) (at : Target) (o : Option (Bor PortRow)) (r : Bor PortRow) → o ≡ Some r → IfSome o (λ (r : Bor PortRow). IsPortRow i at r.now) → IsPortRow i at r.now
 row_read i at o r is all = subst (λ (o : Option (Bor PortRow)). IfSome o (λ (r : Bor PortRow). IsPortRow i at r.now)) is all
 
--- .. and where the first connection leads, by its index
+-- where the first connection leads, by its index
 pub first_read : (i : Inputs) (from : Target) (index : ℕ) (r : PortRow) → IsPortRow i from r → index ≡ 0 → LeadsTo (system_of i) from index r.first
 first_read i from index r is none = subst (λ (n : ℕ). LeadsTo (system_of i) from n r.first) (sym none) is.first
 

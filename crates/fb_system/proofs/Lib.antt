@@ -35,3 +35,5 @@ pub mod KeptHeads
 pub mod KeptEnds
 pub mod KeptRows
 pub mod PortTables
+mod Together
+pub mod Bounds

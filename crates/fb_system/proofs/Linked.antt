@@ -71,7 +71,7 @@ from_nat_eq m n h = grind (arith, nat_tests)
 nat_eq_from : (m n : ℕ) → m ≡ n → nat_eq m n ≡ true
 nat_eq_from m n h = grind (arith, nat_tests)
 
--- a name is that of a resource exactly if the indices are equal
+-- a name is that of a resource exactly if the indexes are equal
 named_index :
     (plan : Plan) (n : Name) (k r : ℕ) → ¬ (Twice (resource_names_of plan)) → r < length plan.resources → index_of (resource_names_of plan) n ≡ Some k
     → nat_eq k r ≡ same_name n (name_of_resource plan r)

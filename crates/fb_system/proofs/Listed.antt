@@ -1,4 +1,4 @@
--- The indices of the variables that a WITH list names, and those of the variables WITH an event.
+-- The indexes of the variables that a WITH list names, and those of the variables WITH an event.
 use Rattle.std.proofs.Common.{◌≡◌, ℕ, zero, suc, ◌<◌, ◌+◌, Bool, true, false, ◌&&◌, ◌||◌, List, [], ◌∷◌, length, map, get_or, Option, Some, None, Contains, Bor, refl, sym, ◌∙◌, ap, subst, inl, inr, arith}
 use Rattle.std.specs.Prelude.{IsPermutation, slice_get, unwrap_or, option_map, position, IsSorted}
 use Rattle.std.specs.Bool.{Decides}
@@ -91,7 +91,7 @@ name_there vs n c =
 
 -- ---- A list of names
 
--- indices of names that differ differ
+-- indexes of names that differ differ
 own_once : (vs : List Variable) (ns : List Name) → ¬ (Twice ns) → ((n : Name) → Contains ns n → Contains (variable_names vs) n) → AreOnce (map (own_index vs) ns)
 own_once vs [] once known = once_nil
 own_once vs (n ∷ ns) once known =
@@ -103,7 +103,7 @@ own_once vs (n ∷ ns) once known =
     once (inl (subst (λ (k : Name). Contains ns k) same m.1)))
     (own_once vs ns (λ t. once (inr t)) (λ m c. known m (Contains-there n ns m c)))
 
--- sorted, the indices of the names of a list are those of the variables that it names
+-- sorted, the indexes of the names of a list are those of the variables that it names
 pub list_indexes :
     (vs : List Variable) (indexes : BTreeMap (Bor Name) ℕ) (first : ℕ) (list : List Name) (found ks : List ℕ) → AreIndexedFrom first vs indexes → IsList vs list
     → found ≡ map (own_index vs) list → IsPermutation found ks → IsSorted nat_cmp ks → AreIndexes vs (filter (among list) (variable_names vs)) ks

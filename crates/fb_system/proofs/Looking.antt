@@ -61,7 +61,7 @@ kind_narrow lib p k narrow h =
       | Some i ↦ λ g. type_narrow lib i.block_type k narrow g
     ] h
 
--- ---- Targets and indices of variables
+-- ---- Targets and indexes of variables
 
 here : (lib : Library) (m : ℕ) (a : Path) (k : Kind) → path_of lib m ≡ a → kind_at lib a ≡ Some k → ports_here lib m ≡ ports_of k
 here lib m a k at kind =

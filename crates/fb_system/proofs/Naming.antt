@@ -152,7 +152,7 @@ instance_placed lib (n ∷ p) i h =
 
 -- ---- Parameters
 
--- the numbers of an instance's parameters are the indices that `input_values` takes
+-- the numbers of an instance's parameters are the indexes that `input_values` takes
 pub parameters_placed :
     (lib : Library) (i : Instance) (k : Kind) (ks : List ℕ) → kind_of_instance lib i ≡ Some k → parameter_numbers lib i ≡ Some ks
     → each_or_none (λ x. index_of (data_ins (ports_of k)) x.name) i.parameters ≡ Some ks

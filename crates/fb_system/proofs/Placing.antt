@@ -1,8 +1,8 @@
--- Parameters that are put at the indices of the inputs that they set, one after another.
-use Rattle.std.proofs.Common.{◌≡◌, ℕ, zero, suc, ◌<◌, ◌≤◌, ◌+◌, List, [], ◌∷◌, ◌++◌, length, take, map, get_or, Option, Some, None, Contains, refl, sym, ◌∙◌, ap, subst, inl, inr, arith}
+-- Parameters that are put at the indexes of the inputs that they set, one after another.
+use Rattle.std.proofs.Common.{◌≡◌, ℕ, zero, suc, ◌<◌, ◌+◌, List, [], ◌∷◌, ◌++◌, length, take, map, get_or, Option, Some, None, Contains, refl, sym, ◌∙◌, ap, subst, inl, inr, arith}
 use Rattle.std.specs.Prelude.{slice_get}
 use Rattle.std.proofs.Math.ListN.{set}
-use Rattle.std.proofs.lemmas.List.{take_more, take_all, length-map}
+use Rattle.std.proofs.lemmas.List.{take_more, length-map}
 use Rattle.std.proofs.lemmas.Option.{slice_get-get_or, slice_get_read, slice_get_within}
 use Rattle.fb_types.specs.Names.{Name}
 use Rattle.fb_types.specs.Blocks.{initial_of, named, variable_names}
@@ -63,7 +63,7 @@ put_at (w ∷ ws) ps x (suc k) v once new at same =
     let tail = put_at ws ps x k v (λ t. once (inr t)) new at same in
     λ i. sym head i ∷ tail i
 
--- Where the parameters have their indices.
+-- Where the parameters have their indexes.
 abbrev pub ArePlaced : Ports → List Parameter → List ℕ → Type 0
 ArePlaced its ps ks = each_or_none (λ (x : Parameter). index_of (data_ins its) x.name) ps ≡ Some ks
 
@@ -100,10 +100,3 @@ values_more its ps ks vs ws i k x are inputs once h e g so_far made =
     once (twice_of_part called ps i x x.name h e refl (Twice-push (parameter_names (take i ps)) x.name c)) in
     made ∙ ap (λ (l : List Value). set l k x.value) so_far ∙ put_at its.inputs (take i ps) x k at.0 inputs new at.1 at.2
     ∙ ap (λ (qs : List Parameter). map (begin_value qs) its.inputs) (sym (take_more ps i x h ∙ ap (λ (y : Parameter). take i ps ++ y ∷ []) (sym e)))
-
-pub values_none : (its : Ports) (vs : List Value) → vs ≡ map initial_of its.inputs → vs ≡ map (begin_value []) its.inputs
-values_none its vs e = e
-
-pub values_all :
-    (its : Ports) (ps : List Parameter) (vs : List Value) (i : ℕ) → length ps ≤ i → vs ≡ map (begin_value (take i ps)) its.inputs → vs ≡ map (begin_value ps) its.inputs
-values_all its ps vs i h e = e ∙ ap (λ (qs : List Parameter). map (begin_value qs) its.inputs) (take_all i ps h)

@@ -1,4 +1,4 @@
--- Rising indices are those of a filter: indices in ascending order, each once, keep the names that a test passes, in the
+-- Rising indexes are those of a filter: indexes in ascending order, each once, keep the names that a test passes, in the
 -- order of the list.
 use Rattle.std.proofs.Common.{◌≡◌, ◌⊎◌, ℕ, suc, ◌<◌, ◌≤◌, ◌+◌, Bool, true, false, cond, List, [], ◌∷◌, length, map, Some, Contains, refl, sym, ◌∙◌, ap, subst, inl, inr, arith}
 use Rattle.std.specs.Prelude.{IsPermutation, sum_by, slice_get}
@@ -89,7 +89,7 @@ once_head k ks once c =
 once_tail : (k : ℕ) (ks : List ℕ) → AreOnce (k ∷ ks) → AreOnce ks
 once_tail k ks once = record { at_most = λ n. let one : times n (k ∷ ks) ≡ hit n k + times n ks = sum_by-cons (hit n) k ks in omega (arith, one, once.at_most n) }
 
--- ---- Rising indices
+-- ---- Rising indexes
 
 -- each is at least the bound before it, and below the last
 abbrev pub Rising : (low high : ℕ) → List ℕ → Type 0
@@ -128,7 +128,7 @@ rising_more low high (k ∷ ks) up new =
     let le : low + 1 ≤ k = elim (cases_lt low k) [ inl l ↦ omega (arith, l) | inr g ↦ absurd (apart (omega (arith, g, up.0))) ] in
     (le, up.1, up.2)
 
--- the first of rising indices, where the bound is one of them
+-- the first of rising indexes, where the bound is one of them
 rising_first : (low high : ℕ) (ks : List ℕ) → Rising low high ks → Contains ks low → (rest : List ℕ) × (ks ≡ low ∷ rest) × Rising (low + 1) high rest
 rising_first low high [] up c = absurd (Contains-nil low c)
 rising_first low high (k ∷ ks) up c =
@@ -183,7 +183,7 @@ rising_filter name_at test (n ∷ ns) low high ks e up are =
           (kept_rest name_at test low n ns ks ks are (λ i lt c. c) (λ i c. c))
     ] refl
 
--- what sorting leaves of indices that differ
+-- what sorting leaves of indexes that differ
 pub sorted_filter :
     (name_at : ℕ → Name) (test : Name → Bool) (ns : List Name) (ks : List ℕ) → IsNonDecreasing ks → AreOnce ks
     → ((k : ℕ) → Contains ks k → k < length ns) → AreKept name_at test 0 ns ks → map name_at ks ≡ filter test ns

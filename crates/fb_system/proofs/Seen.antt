@@ -22,7 +22,7 @@ use Rattle.fb_check_names.specs.Numbers.{kind_of_number}
 use Rattle.fb_check_names.specs.declared.numbers.TypeNumber.{TypeNumber}
 use Rattle.fb_system.specs.Layouts.{AreComponents, AreNumbers, IsParent, path_of, route_to}
 use Rattle.fb_system.specs.Netlists as netlist
-use Rattle.fb_system.specs.declared.next_target.NextTarget.{NextTarget}
+use Rattle.fb_system.specs.declared.netlist_target.NetlistTarget.{NetlistTarget}
 use Rattle.fb_types.specs.declared.run.InstanceVariable.{InstanceVariable}
 use Rattle.fb_system.specs.Tables.{AreInterfaces}
 use Rattle.fb_system.specs.declared.interfaces.Interfaces.{Interfaces}
@@ -120,30 +120,30 @@ pub port_there : (v w : Whole) (i : Inputs) (t : Target) → v ≡ w → inputs_
 port_there v w i t e s h =
     subst (λ (lib : Library). netlist.IsPort lib t) (sym (library_seen v w i e s)) (record { instance = h.instance; event = h.event })
 
-reached_up : (i : Inputs) (o : Option NextTarget) → IfSome o (λ (r : NextTarget). netlist.IsTarget i.library r.target) → IfSome o (λ (r : NextTarget). IsTarget (system_of i) r.target)
+reached_up : (i : Inputs) (o : Option NetlistTarget) → IfSome o (λ (r : NetlistTarget). netlist.IsTarget i.library r.target) → IfSome o (λ (r : NetlistTarget). IsTarget (system_of i) r.target)
 reached_up i None h = h
 reached_up i (Some r) h = record { port = record { instance = h.port.instance; event = h.port.event }; composite = h.composite }
 
 pub reached_within :
-    (v w : Whole) (i : Inputs) (o : Option NextTarget) → v ≡ w → inputs_of w ≡ i → IfSome o (λ (r : NextTarget). netlist.IsTarget v.netlist r.target)
-    → IfSome o (λ (r : NextTarget). IsTarget (system_of i) r.target)
+    (v w : Whole) (i : Inputs) (o : Option NetlistTarget) → v ≡ w → inputs_of w ≡ i → IfSome o (λ (r : NetlistTarget). netlist.IsTarget v.netlist r.target)
+    → IfSome o (λ (r : NetlistTarget). IsTarget (system_of i) r.target)
 reached_within v w i o e s h =
-    reached_up i o (subst (λ (lib : Library). IfSome o (λ (r : NextTarget). netlist.IsTarget lib r.target)) (library_seen v w i e s) h)
+    reached_up i o (subst (λ (lib : Library). IfSome o (λ (r : NetlistTarget). netlist.IsTarget lib r.target)) (library_seen v w i e s) h)
 
 pub reached_leads :
-    (v w : Whole) (i : Inputs) (from : Target) (index : ℕ) (o : Option NextTarget) → v ≡ w → inputs_of w ≡ i
-    → option_map (λ (r : NextTarget). netlist.port_of v.netlist r.target) o ≡ slice_get (targets_of v.netlist (netlist.port_of v.netlist from)) index
-    → option_map (λ (r : NextTarget). port_of (system_of i) r.target) o ≡ slice_get ((system_of i).targets (port_of (system_of i) from)) index
+    (v w : Whole) (i : Inputs) (from : Target) (index : ℕ) (o : Option NetlistTarget) → v ≡ w → inputs_of w ≡ i
+    → option_map (λ (r : NetlistTarget). netlist.port_of v.netlist r.target) o ≡ slice_get (targets_of v.netlist (netlist.port_of v.netlist from)) index
+    → option_map (λ (r : NetlistTarget). port_of (system_of i) r.target) o ≡ slice_get ((system_of i).targets (port_of (system_of i) from)) index
 reached_leads v w i from index o e s h =
-    subst (λ (lib : Library). option_map (λ (r : NextTarget). netlist.port_of lib r.target) o ≡ slice_get (targets_of lib (netlist.port_of lib from)) index)
+    subst (λ (lib : Library). option_map (λ (r : NetlistTarget). netlist.port_of lib r.target) o ≡ slice_get (targets_of lib (netlist.port_of lib from)) index)
     (library_seen v w i e s) h
 
 pub reached_more :
-    (v w : Whole) (i : Inputs) (from : Target) (index : ℕ) (o : Option NextTarget) → v ≡ w → inputs_of w ≡ i
-    → IfSome o (λ (r : NextTarget). IsTrue r.more ↔ (index + 1 < length (targets_of v.netlist (netlist.port_of v.netlist from))))
-    → IfSome o (λ (r : NextTarget). IsTrue r.more ↔ (index + 1 < length ((system_of i).targets (port_of (system_of i) from))))
+    (v w : Whole) (i : Inputs) (from : Target) (index : ℕ) (o : Option NetlistTarget) → v ≡ w → inputs_of w ≡ i
+    → IfSome o (λ (r : NetlistTarget). IsTrue r.more ↔ (index + 1 < length (targets_of v.netlist (netlist.port_of v.netlist from))))
+    → IfSome o (λ (r : NetlistTarget). IsTrue r.more ↔ (index + 1 < length ((system_of i).targets (port_of (system_of i) from))))
 reached_more v w i from index o e s h =
-    subst (λ (lib : Library). IfSome o (λ (r : NextTarget). IsTrue r.more ↔ (index + 1 < length (targets_of lib (netlist.port_of lib from)))))
+    subst (λ (lib : Library). IfSome o (λ (r : NetlistTarget). IsTrue r.more ↔ (index + 1 < length (targets_of lib (netlist.port_of lib from)))))
     (library_seen v w i e s) h
 
 -- ---- Variables

@@ -1,5 +1,5 @@
 -- Instances as they are declared, and their parameters by number.
-use Rattle.std.proofs.Common.{◌≡◌, ℕ, ◌<◌, List, length, Bor, Option, Some, None, MatchOption, sym, ◌∙◌, ap, subst}
+use Rattle.std.proofs.Common.{◌≡◌, ℕ, ◌<◌, List, length, Bor, Option, Some, None, sym, ◌∙◌, ap}
 use Rattle.std.specs.Prelude.{slice_get, option_and_then}
 use Rattle.std.specs.Option.{option_copied}
 use Rattle.std.proofs.lemmas.Option.{same_Some}
@@ -33,10 +33,6 @@ network_inside lib i r around o is e h =
 
 pub around_there : (lib : Library) (i : ℕ) (r : InstanceRow) → (is : IsRow lib i r) → network_at lib (path_around lib r.parent) ≡ Some is.placed.network
 around_there lib i r is = ap (network_at lib) (parent_around lib i r.parent is.parent_is) ∙ is.placed.is_network
-
-pub none_around : (lib : Library) (i : ℕ) (r : InstanceRow) (o : Option (Bor Network)) → IsRow lib i r → option_copied o ≡ network_at lib (path_around lib r.parent) → o ≡ None → ⊥
-none_around lib i r o is h e =
-    let g : None ≡ Some is.placed.network = sym (ap option_copied e) ∙ h ∙ around_there lib i r is in cc
 
 pub none_last : (lib : Library) (i : ℕ) (r : InstanceRow) (o : Option ℕ) (route : List ℕ) → IsRow lib i r → o ≡ last_of route → route ≡ r.route → o ≡ None → ⊥
 none_last lib i r o route is h same e =
@@ -84,12 +80,6 @@ declared_is lib layout app blocks i r are within is =
     ∙ named_of_once (λ (x : Instance). x.name) wired.1.network.instances s.index s.instance wired.1.once there
 
 -- ---- Parameters
-
-pub none_wired : (lib : Library) (i : ℕ) (r : InstanceRow) (o : Option (Bor NetworkNumbers)) → IsRow lib i r → MatchOption o (network_at lib (path_around lib r.parent) ≡ None) (λ w. IsWired lib (path_around lib r.parent) w.now) → o ≡ None → ⊥
-none_wired lib i r o is h e =
-    let none : network_at lib (path_around lib r.parent) ≡ None =
-    subst (λ (o : Option (Bor NetworkNumbers)). MatchOption o (network_at lib (path_around lib r.parent) ≡ None) (λ w. IsWired lib (path_around lib r.parent) w.now)) e h in
-    let g : None ≡ Some is.placed.network = sym none ∙ around_there lib i r is in cc
 
 -- the parameters by number of the instance at its index
 pub parameters_there :

@@ -2,7 +2,7 @@
 use Rattle.std.proofs.Common.{◌≡◌, ℕ, zero, suc, ◌+◌, ◌≤◌, ◌<◌, List, [], ◌∷◌, ◌++◌, length, get_or, drop, Option, Some, None, refl, sym, ◌∙◌, ap, subst, arith, append_assoc}
 use Rattle.std.specs.Prelude.{slice_get}
 use Rattle.std.proofs.lemmas.Option.{slice_get_read}
-use Rattle.std.proofs.lemmas.List.{length-append, append-nil, drop_all}
+use Rattle.std.proofs.lemmas.List.{length-append, append-nil}
 use Rattle.fb_types.specs.declared.library.Library.{Library}
 use Rattle.fb_types.specs.declared.library.Instance.{Instance}
 use Rattle.fb_types.specs.declared.library.Network.{Network}
@@ -148,15 +148,6 @@ at_end rest all index rows numbers none so_far = (
   sym (append-nil rows) ∙ ap (λ (l : Layer). rows ++ l.rows) (sym none) ∙ so_far.rows_are,
   sym (append-nil numbers) ∙ ap (λ (l : Layer). numbers ++ l.numbers) (sym none) ∙ so_far.numbers_are,
 )
-
--- where no instance is left
-pub all_laid :
-    (b : ℕ) (lib : Library) (r : Resolved) (o : Around) (number index : ℕ) (is : List Instance) (ts : List TypeNumber) (all : Layer) (rows : List InstanceRow) (numbers : List ℕ)
-    → length is ≤ index → AreLaid all (left b lib r o number index is ts) index rows numbers → (rows ≡ all.rows) × (numbers ≡ all.numbers)
-all_laid b lib r o number index is ts all rows numbers h so_far =
-    let none : left b lib r o number index is ts ≡ no_layer =
-    ap (λ (is : List Instance). layer_among (layer b lib r) lib r o number index is (drop index ts)) (drop_all index is h) in
-    at_end (left b lib r o number index is ts) all index rows numbers none so_far
 
 -- where no type is left
 pub all_typed :

@@ -9,7 +9,7 @@ use Rattle.fb_system.specs.declared.layout.InstanceRow.{InstanceRow}
 use Rattle.fb_types.specs.declared.run.Target.{Target}
 use Rattle.fb_types.specs.declared.run.InstanceVariable.{InstanceVariable}
 use Rattle.fb_system.specs.Netlists.{IsPort, IsVariable, port_of, variable_of}
-use Rattle.fb_system.specs.declared.next_target.NextTarget.{NextTarget}
+use Rattle.fb_system.specs.declared.netlist_target.NetlistTarget.{NetlistTarget}
 use Rattle.fb_types.specs.Names.{Port}
 use Rattle.fb_check_names.specs.declared.numbers.ConnectionEnd.{ConnectionEnd}
 use Rattle.std.specs.Prelude.{IfSome, IsTrue, ◌↔◌, option_map, slice_get}
@@ -56,20 +56,20 @@ port_of_tables t lib x e h = subst (λ (lib : Library). IsPort lib x) (sym e) h
 pub variable_of_tables : (t : Tables) (lib : Library) (x : InstanceVariable) → t.library ≡ lib → IsVariable lib x → IsVariable t.library x
 variable_of_tables t lib x e h = subst (λ (lib : Library). IsVariable lib x) (sym e) h
 
-abbrev Leads : Library → Target → ℕ → Option NextTarget → Type 0
+abbrev Leads : Library → Target → ℕ → Option NetlistTarget → Type 0
 Leads lib from index result = option_map (λ r. port_of lib r.target) result ≡ slice_get (targets_of lib (port_of lib from)) index
 
 pub leads_seen :
-    (t : Tables) (lib : Library) (from : Target) (index : ℕ) (qs : List Port) (result : Option NextTarget) → t.library ≡ lib
-    → option_map (λ (r : NextTarget). port_of t.library r.target) result ≡ slice_get qs index → qs ≡ targets_of t.library (port_of t.library from) → Leads lib from index result
+    (t : Tables) (lib : Library) (from : Target) (index : ℕ) (qs : List Port) (result : Option NetlistTarget) → t.library ≡ lib
+    → option_map (λ (r : NetlistTarget). port_of t.library r.target) result ≡ slice_get qs index → qs ≡ targets_of t.library (port_of t.library from) → Leads lib from index result
 leads_seen t lib from index qs result e h all =
     subst (λ (lib : Library). Leads lib from index result) e (h ∙ ap (λ (qs : List Port). slice_get qs index) all)
 
-abbrev FollowsIn : List Port → ℕ → NextTarget → Type 0
+abbrev FollowsIn : List Port → ℕ → NetlistTarget → Type 0
 FollowsIn qs index r = IsTrue r.more ↔ (index + 1 < length qs)
 
 pub more_seen :
-    (t : Tables) (lib : Library) (from : Target) (index : ℕ) (e : ConnectionEnd) (qs : Port → List Port) (IsEnd : ConnectionEnd → Port → Type 0) (result : Option NextTarget) → t.library ≡ lib
+    (t : Tables) (lib : Library) (from : Target) (index : ℕ) (e : ConnectionEnd) (qs : Port → List Port) (IsEnd : ConnectionEnd → Port → Type 0) (result : Option NetlistTarget) → t.library ≡ lib
     → IfSome result (λ r. (q : Port) → IsEnd e q → FollowsIn (qs q) index r) → IsEnd e (port_of t.library from)
     → qs (port_of t.library from) ≡ targets_of t.library (port_of t.library from) → IfSome result (FollowsIn (targets_of lib (port_of lib from)) index)
 more_seen t lib from index e qs IsEnd None same h end all = tt

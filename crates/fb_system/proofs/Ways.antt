@@ -1,7 +1,7 @@
 -- The first link from one resource to another, one link at a time.
-use Rattle.std.proofs.Common.{◌≡◌, ℕ, ◌<◌, ◌≤◌, ◌+◌, Bool, cond, List, [], ◌∷◌, ◌++◌, length, take, get_or, Option, Some, None, refl, sym, ◌∙◌, ap, subst, arith}
+use Rattle.std.proofs.Common.{◌≡◌, ℕ, ◌<◌, ◌+◌, Bool, cond, List, [], ◌∷◌, ◌++◌, length, take, get_or, Option, Some, None, refl, sym, ◌∙◌, ap, arith}
 use Rattle.std.specs.Prelude.{position, is_some}
-use Rattle.std.proofs.lemmas.List.{take_more, take_all, length-take}
+use Rattle.std.proofs.lemmas.List.{take_more, length-take}
 use Rattle.fb_types.specs.Keys.{or_else}
 use Rattle.fb_types.proofs.Positions.{position-append_old, position-push_new, is_some-position}
 use Rattle.fb_check_names.specs.declared.numbers.LinkEnds.{LinkEnds}
@@ -28,9 +28,6 @@ between_more ends i d e from to h g =
 
 -- ---- The steps of the loop
 
-pub ways_none : AreWays [] []
-ways_none = record { each = λ from to. refl }
-
 pub ways_more :
     (ends : List LinkEnds) (i : ℕ) (d e : LinkEnds) (m new : List (List (Option ℕ))) → i < length ends → e ≡ get_or ends i d → AreWays (take i ends) m
     → ((from to : ℕ) → way_between new from to ≡ or_else (way_between m from to) (cond (joins from to e) (Some i) None)) → AreWays (take (i + 1) ends) new
@@ -38,6 +35,3 @@ ways_more ends i d e m new h g ways noted = record {
   each = λ from to.
       noted from to ∙ ap (λ o. or_else o (cond (joins from to e) (Some i) None)) (ways.each from to) ∙ sym (between_more ends i d e from to h g);
 }
-
-pub ways_all : (ends : List LinkEnds) (i : ℕ) (m : List (List (Option ℕ))) → length ends ≤ i → AreWays (take i ends) m → AreWays ends m
-ways_all ends i m h ways = subst (λ (es : List LinkEnds). AreWays es m) (take_all i ends h) ways

@@ -27,7 +27,7 @@ use Rattle.fb_system.specs.Networks.{AreTables, IsAround, IsThere, IsWired, comp
 use Rattle.fb_types.proofs.ByIndex.{element_at, all_at}
 use Rattle.fb_system.proofs.Differing.{instances_once}
 
--- ---- Elements at indices
+-- ---- Elements at indexes
 
 pub last_pushed : (xs : List ℕ) (x : ℕ) → last_of (xs ++ x ∷ []) ≡ Some x
 last_pushed [] x = refl

@@ -1,5 +1,5 @@
 -- The heads of lines, by number (this project's profile).
-use Rattle.std.specs.Prelude.{◌≡◌, ◌<◌, ◌≤◌, ℕ, Bool, List, [], ◌∷◌, ◌++◌, length, take, if◌then◌else◌, codes, slice_get, unwrap_or}
+use Rattle.std.specs.Prelude.{◌≡◌, ◌^◌, ◌<◌, ◌≤◌, ℕ, Bool, List, [], ◌∷◌, ◌++◌, length, take, if◌then◌else◌, codes, slice_get, unwrap_or}
 use Rattle.fb_types.specs.Names.{Name}
 use Rattle.fb_types.specs.Blocks.{inputs_with, outputs_with}
 use Rattle.fb_types.specs.Numbers.{event_at, path_at, ports_at}
@@ -50,16 +50,10 @@ pub record IsHead (sys : System) (x : HeadOf) (h : Head) : Type 0 where
   pub within : h.width ≤ 48
   pub text : take h.width h.text ≡ head_text sys x
 
--- A row that has the text of its own head, or no text if it is empty.
-abbrev pub IsRowOfHead : System → Head → Type 0
-IsRowOfHead sys h = 0 < h.width → IsHead sys h.of h
-
--- The row of an event that an instance takes, or emits.
-pub record IsRowAt (sys : System) (i : ℕ) (side : Bool) (e : ℕ) (h : Head) : Type 0 where
-  pub instance : h.of.instance ≡ i
-  pub taken : h.of.taken ≡ side
-  pub event : h.of.event ≡ e
-  pub row : IsRowOfHead sys h
+-- The row of an event that an instance takes, or emits: it has the text of the head with the resource that it names, or
+-- it names none.
+abbrev pub IsRowAt : System → (instance : ℕ) → (taken : Bool) → (event : ℕ) → Head → Type 0
+IsRowAt sys i side e h = h.resource < 2 ^ 32 → IsHead sys (record { resource = h.resource; instance = i; event = e; taken = side }) h
 
 abbrev pub AreHeads : System → Heads → Type 0
 AreHeads sys heads = AreInRanges (IsRowAt sys) heads.rows heads.ranges

@@ -1,4 +1,5 @@
--- The instances of an application by their numbers (IEC 61499-1, 5.3; the order of the numbers is this project's profile).
+-- The instances of an application by their numbers (IEC 61499-1, 5.3; the order of the numbers is this project's
+-- profile).
 use Rattle.std.specs.Prelude.{◌≡◌, ◌<◌, ℕ, List, [], ◌∷◌, ◌++◌, map, length, All, Option, Some, None, unwrap_or, position, slice_get}
 use Rattle.fb_types.specs.Names.{Name, same_name, Path}
 use Rattle.fb_types.specs.Blocks.{Kind}
@@ -20,7 +21,7 @@ path_of lib k = unwrap_or (slice_get (paths_of lib) k) []
 abbrev pub index_at : Library → Path → Name → ℕ
 index_at lib p n = elim (network_at lib p) [ None ↦ 0 | Some net ↦ unwrap_or (position (same_name n) (instance_names net)) 0 ]
 
--- the indices of the components on the path to an instance, from the outermost
+-- the indexes of the components on the path to an instance, from the outermost
 abbrev pub route_to : Library → Path → List ℕ
 route_to lib [] = []
 route_to lib (n ∷ p) = route_to lib p ++ index_at lib p n ∷ []

@@ -1,4 +1,4 @@
--- Resources and links by their indices (IEC 61499-1, 7; links are this project's profile).
+-- Resources and links by their indexes (IEC 61499-1, 7; links are this project's profile).
 use Rattle.std.specs.Prelude.{◌≡◌, ℕ, ◌<◌, Bool, ◌&&◌, nat_eq, List, [], length, map, Option, Some, None, position, slice_get, slice_index_or, unwrap_or}
 use Rattle.fb_types.specs.Flat.{holder, link_between, end_of, paths_of, resource_of}
 use Rattle.fb_types.specs.declared.library.Library.{Library}

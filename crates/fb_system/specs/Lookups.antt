@@ -1,4 +1,4 @@
--- Variables whose names have indices among all names of their type, and WITH lists that name them (IEC 61499-1, 5.1; the
+-- Variables whose names have indexes among all names of their type, and WITH lists that name them (IEC 61499-1, 5.1; the
 -- order of the names is this project's profile).
 use Rattle.std.specs.Prelude.{◌≡◌, ◌+◌, ℕ, List, Some, Contains, slice_get}
 use Rattle.std.specs.Borrow.{Bor}
@@ -27,7 +27,7 @@ pub record AreEvents (vs : List Variable) (events : List EventPort) : Type 0 whe
   pub lists : (e : ℕ) (p : EventPort) → slice_get events e ≡ Some p → IsList vs p.with
 
 -- An interface in which no name is given twice and each WITH list names variables, and a map from its names to their
--- indices.
+-- indexes.
 pub record IsIndexed (its : Ports) (indexes : BTreeMap (Bor Name) ℕ) : Type 0 where
   pub first_input : ℕ
   pub inputs : AreIndexedFrom first_input its.inputs indexes

@@ -24,7 +24,7 @@ use Rattle.fb_system.specs.declared.tables.Tables.{Tables}
 
 -- ---- What the tables are
 
--- the indices of the ports of all types fit in 32 bits
+-- the indexes of the ports of all types fit in 32 bits
 abbrev pub AreNarrow : List BlockType → Type 0
 AreNarrow ts = All (λ t. IsNarrow (ports_of (kind_of t))) ts
 

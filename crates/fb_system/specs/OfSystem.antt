@@ -1,4 +1,5 @@
--- What contracts say of the numbers of a system: its value is the accepted inputs, and each of these is of the flat system.
+-- What contracts say of the numbers of a system: its value is the accepted inputs, and each of these is of the flat
+-- system.
 use Rattle.std.specs.Prelude.{ℕ, Bool, List, Option}
 use Rattle.fb_types.specs.Names.{Name, Path, Port}
 use Rattle.fb_types.specs.Headline.{Inputs, system_of}
@@ -21,6 +22,7 @@ use Rattle.fb_system.specs.declared.heads.HeadOf.{HeadOf}
 use Rattle.fb_system.specs.declared.heads.Heads.{Heads}
 use Rattle.fb_system.specs.declared.next_target.NextTarget.{NextTarget}
 use Rattle.fb_system.specs.declared.port_row.With.{With}
+use Rattle.fb_system.specs.declared.source.Source.{Source}
 
 -- ---- Instances
 
@@ -44,6 +46,9 @@ IsCarried i = ports.IsCarried (system_of i)
 
 abbrev pub IsCompositeAt : Inputs → (instance : ℕ) → Type 0
 IsCompositeAt i = ports.IsCompositeAt (system_of i)
+
+abbrev pub AreTogether : Inputs → (a b : ℕ) → Type 0
+AreTogether i = ports.AreTogether (system_of i)
 
 abbrev pub variable_of : Inputs → InstanceVariable → Port
 variable_of i = ports.variable_of (system_of i)
@@ -83,6 +88,9 @@ LeadsTo i = ends.LeadsTo (system_of i)
 abbrev pub ComesFrom : Inputs → (to : InstanceVariable) → Option InstanceVariable → Type 0
 ComesFrom i = ends.ComesFrom (system_of i)
 
+abbrev pub IsSourceOf : Inputs → (to : InstanceVariable) → Option Source → Type 0
+IsSourceOf i = ends.IsSourceOf (system_of i)
+
 abbrev pub IsSourceRowAt : Inputs → (instance : ℕ) → (is_output : Bool) → (variable : ℕ) → SourceRow → Type 0
 IsSourceRowAt i = ends.IsSourceRowAt (system_of i)
 
@@ -100,6 +108,10 @@ sender_of i = (system_of i).sender
 
 abbrev pub receiver_of : Inputs → (link : ℕ) → ℕ
 receiver_of i = (system_of i).receiver
+
+-- the link from the resource of an instance to that of another
+abbrev pub link_of : Inputs → (from to : ℕ) → ℕ
+link_of i = ports.link_of (system_of i)
 
 -- when a message arrives that is sent over a link at a tick
 abbrev pub arrival_over : Inputs → (link sent_tick : ℕ) → ℕ
@@ -130,6 +142,3 @@ AreHeads i = heads.AreHeads (system_of i)
 
 abbrev pub head_event : Inputs → HeadOf → Name
 head_event i = heads.head_event (system_of i)
-
-abbrev pub IsRowOfHead : Inputs → Head → Type 0
-IsRowOfHead i = heads.IsRowOfHead (system_of i)

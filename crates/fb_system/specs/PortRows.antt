@@ -7,21 +7,21 @@ use Rattle.fb_types.specs.Numbers.{event_at, path_at, ports_at}
 use Rattle.fb_types.specs.Systems.{System}
 use Rattle.fb_types.specs.declared.library.Ports.{Ports}
 use Rattle.fb_types.specs.declared.library.Variable.{Variable}
-use Rattle.fb_types.specs.declared.run.InstanceVariable.{InstanceVariable}
 use Rattle.fb_types.specs.declared.run.Target.{Target}
-use Rattle.fb_system.specs.Ends.{ComesFrom, LeadsTo}
+use Rattle.fb_system.specs.Ends.{IsSourceOf, LeadsTo}
 use Rattle.fb_system.specs.IndexLists.{AreIndexes}
 use Rattle.fb_system.specs.RowRanges.{AreInRanges}
 use Rattle.fb_system.specs.declared.ends.Ends.{Ends}
 use Rattle.fb_system.specs.declared.port_row.PortRow.{PortRow}
 use Rattle.fb_system.specs.declared.port_row.With.{With}
 use Rattle.fb_system.specs.declared.port_row.With.TheVariants.{Nothing, One, Several}
+use Rattle.fb_system.specs.declared.source.Source.{Source}
 
 -- the variables among which those WITH the events of a port are, of an interface
 abbrev pub variables_of : Ports → (is_output : Bool) → List Variable
 variables_of its is_output = if is_output then its.outputs else its.inputs
 
--- .. and the names of those WITH an event
+-- the names of the variables WITH an event
 abbrev pub names_of : Ports → (is_output : Bool) → (event : ℕ) → List Name
 names_of its is_output e =
     if is_output then types.outputs_with its (event_at its.event_outputs e) else types.inputs_with its (event_at its.event_inputs e)
@@ -33,9 +33,9 @@ abbrev pub port_names : System → Target → List Name
 port_names sys at = names_of (ports_at sys (path_at sys at.instance)) at.is_output at.event
 
 -- one variable WITH the event of a port, and what it is connected to
-pub record IsOneWith (sys : System) (at : Target) (variable : ℕ) (source : Option InstanceVariable) : Type 0 where
+pub record IsOneWith (sys : System) (at : Target) (variable : ℕ) (source : Option Source) : Type 0 where
   pub indexes : AreIndexes (port_variables sys at) (port_names sys at) (variable ∷ [])
-  pub comes : ComesFrom sys (record { instance = at.instance; variable = variable; is_output = at.is_output }) source
+  pub comes : IsSourceOf sys (record { instance = at.instance; variable = variable; is_output = at.is_output }) source
 
 -- the variables WITH the event of a port
 abbrev pub IsWith : System → Target → With → Type 0

@@ -46,6 +46,16 @@ pub record IsVariable (sys : System) (x : InstanceVariable) : Type 0 where
   pub instance : x.instance < length sys.paths
   pub variable : x.variable < length (variables_at sys x)
 
+-- ---- Resources
+
+-- both instances are in the same resource
+abbrev pub AreTogether : System → (a b : ℕ) → Type 0
+AreTogether sys a b = sys.resource (path_at sys a) ≡ sys.resource (path_at sys b)
+
+-- the link from the resource of one instance to that of another
+abbrev pub link_of : System → (from to : ℕ) → ℕ
+link_of sys from to = sys.link (sys.resource (path_at sys from)) (sys.resource (path_at sys to))
+
 -- ---- What connections lead to and come from
 
 -- the instance is a composite

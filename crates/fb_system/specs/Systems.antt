@@ -33,7 +33,7 @@ pub record AreTables (w : Whole) : Type 0 where
   pub rows : AreRows w.netlist w.stimuli w.rows
   pub homes : AreHomes w.netlist w.deploy w.homes
 
--- .. and the rows that are kept among them: heads of lines, event ports, and sources of variables
+-- The rows that are kept are among them: heads of lines, event ports, and sources of variables.
 pub record HaveRows (w : Whole) : Type 0 where
   pub tables : AreTables w
   pub heads : AreHeads (system_of (inputs_of w)) w.kept.heads

@@ -1,5 +1,5 @@
--- The types of a declaration and the event blocks, each with the indices of the variables WITH its events (this project's
--- profile).
+-- The types of a declaration and the event blocks, each with the indexes of the variables WITH its events (this
+-- project's profile).
 use Rattle.std.specs.Prelude.{◌≡◌, ℕ, List, length, Some, slice_get}
 use Rattle.fb_types.specs.Blocks.{ports_of, ports_of_event_block}
 use Rattle.fb_types.specs.EventPorts.{kind_index}
@@ -25,7 +25,7 @@ pub record AreOfBlocksUpTo (n : ℕ) (ts : List BlockType) (xs : List WithIndexe
 abbrev pub AreOfBlocks : List BlockType → List WithIndexes → Type 0
 AreOfBlocks ts xs = AreOfBlocksUpTo (length ts) ts xs
 
--- Block types, and the indices of the names of each.
+-- Block types, and the indexes of the names of each.
 pub record AreBlocks (ts : List BlockType) (xs : List BlockIndexes) : Type 0 where
   pub counted : length xs ≡ length ts
   pub each : (k : ℕ) (t : BlockType) (x : BlockIndexes) → slice_get ts k ≡ Some t → slice_get xs k ≡ Some x → IsIndexed (ports_of (kind_of t)) x.ports

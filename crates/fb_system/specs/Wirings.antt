@@ -1,4 +1,4 @@
--- Where the connections of a network lead, by the indices of components and ports (IEC 61499-1, 5.3).
+-- Where the connections of a network lead, by the indexes of components and ports (IEC 61499-1, 5.3).
 use Rattle.std.specs.Prelude.{ℕ, List, map, Bool, true, false, ◌&&◌, nat_eq, Option, Some, None}
 use Rattle.std.specs.List.{filter}
 use Rattle.fb_types.specs.Flat.{first_of}

@@ -56,7 +56,7 @@ pub(crate) fn declared_at(tables: &Tables, instance: u32) -> &Instance
     declared
 }
 
-/// The indices of the data inputs that the parameters of an instance set.
+/// The indexes of the data inputs that the parameters of an instance set.
 pub(crate) fn parameters_at(tables: &Tables, instance: u32) -> &[usize]
     requires netlist { IsNetlist tables.now }
     requires within { instance < length (paths_of tables.now.library) }

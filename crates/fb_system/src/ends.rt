@@ -1,4 +1,4 @@
-//! Event ports and the sources of variables, in rows that are found by the indices of ports.
+//! Event ports and the sources of variables, in rows that are found by the indexes of ports.
 
 ghost use Rattle.std.specs.Prelude.{◌≡◌, [], IfSome};
 ghost use Rattle.fb_types.specs.Systems.{System};

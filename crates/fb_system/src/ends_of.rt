@@ -121,7 +121,9 @@ fn add_ports_of(
     let second = row_after(rows.len());
     add_ports(rows, system, instance, true)?;
     let end = row_after(rows.len());
-    ranges.push(RowRanges { first, second, end })
+    ranges.push(RowRanges {
+        bounds: [first, second, end],
+    })
 }
 
 /// Adds the rows of the data inputs and outputs of an instance, if all instances before it have their ranges.
@@ -143,7 +145,9 @@ fn add_sources_of(
     let second = row_after(rows.len());
     add_sources(rows, system, instance, true)?;
     let end = row_after(rows.len());
-    ranges.push(RowRanges { first, second, end })
+    ranges.push(RowRanges {
+        bounds: [first, second, end],
+    })
 }
 
 /// Adds the rows of an instance.

@@ -1,4 +1,4 @@
-//! The indices of the variables WITH each event of the event blocks.
+//! The indexes of the variables WITH each event of the event blocks.
 
 ghost use Rattle.std.specs.Prelude.{◌≡◌, ◌<◌, ◌^◌, IfOk, length, ◌&&◌};
 ghost use Rattle.std.specs.List.{list_any};
@@ -35,7 +35,7 @@ fn is_with(events: &[EventPort], event: &Name, variable: &Name) -> bool
     false
 }
 
-/// The indices of the variables WITH an event. It compares all of them, which is fast for the few of an event block.
+/// The indexes of the variables WITH an event. It compares all of them, which is fast for the few of an event block.
 fn indexes_with(
     alloc: Global,
     events: &[EventPort],
@@ -54,7 +54,7 @@ fn indexes_with(
     Ok(indexes)
 }
 
-/// The indices of the variables WITH each event.
+/// The indexes of the variables WITH each event.
 fn indexes_with_each(
     alloc: Global,
     events: &[EventPort],
@@ -70,7 +70,7 @@ fn indexes_with_each(
     Ok(all)
 }
 
-/// The indices of the variables WITH each event of the interface of an event block.
+/// The indexes of the variables WITH each event of the interface of an event block.
 fn of_ports(alloc: Global, ports: &Ports) -> Result<WithIndexes, AllocError>
     requires { (kind : EventKind) × (ports.now ≡ ports_of_event_block kind) }
     ensures { IfOk result (AreWithIndexes ports.now) }
@@ -95,7 +95,7 @@ fn of_kind(alloc: Global, kind: EventKind) -> Result<WithIndexes, AllocError>
     of_ports(alloc, &ports)
 }
 
-/// The indices of the variables WITH each event of each event block.
+/// The indexes of the variables WITH each event of each event block.
 pub(crate) fn of_event_blocks(alloc: Global) -> Result<Items<WithIndexes>, AllocError>
     ensures { IfOk result AreOfEventBlocks }
 {

@@ -1,6 +1,6 @@
 //! The heads of lines: what follows the tick. They are made once, so that writing a line copies a whole row.
 
-ghost use Rattle.std.specs.Prelude.{◌≡◌, ◌<◌, ◌≤◌, [], take, IfSome};
+ghost use Rattle.std.specs.Prelude.{◌≡◌, ◌^◌, ◌<◌, ◌≤◌, [], take, IfSome};
 ghost use Rattle.fb_types.specs.Systems.{System};
 ghost use Rattle.fb_system.specs.Heads.{AreHeads, IsHead};
 
@@ -13,6 +13,9 @@ pub const ROW: usize = 48;
 
 /// The most rows that are kept. They take 4 MB.
 pub(crate) const MOST_ROWS: usize = 65536;
+
+/// What a row names that has no text. The number of a resource is a `u32`, so it is never this one.
+const NO_RESOURCE: u64 = u64::MAX;
 
 /// What a head belongs to: an event that an instance takes or emits, with the resource that the line names.
 #[derive(Clone, Copy)]
@@ -27,12 +30,13 @@ pub struct HeadOf {
     pub taken: bool,
 }
 
-/// The text of a head in a row of fixed size.
+/// The text of a head in a row of fixed size. Rows are found by instance and event, so a row does not name these.
 #[derive(Clone, Copy)]
 pub struct Head {
-    /// What the head belongs to.
-    pub of: HeadOf,
-    /// The number of bytes that the text takes in the row, or 0 if it does not fit.
+    /// The number of the resource that the text names. It is no `u32` if the text does not fit, so that one comparison
+    /// finds out whether the row has the text of a line.
+    pub resource: u64,
+    /// The number of bytes that the text takes in the row.
     pub width: u8,
     /// The bytes of the row, of which the first `width` are the text.
     pub text: [u8; ROW],
@@ -43,36 +47,37 @@ pub struct Head {
 pub(crate) struct Heads {
     /// The heads of all instances, one after another.
     pub rows: Items<Head>,
-    /// For each instance that has rows, where they are: those of the events that it emits, and then of those that it takes.
+    /// For each instance that has rows, where they are: those of the events that it emits, and then of those that it
+    /// takes.
     pub ranges: Items<RowRanges>,
 }
 
 impl Head {
     /// The row of a head that is not kept.
-    pub(crate) fn none(of: HeadOf) -> Head
-        ensures same { result.of ≡ of }
+    pub(crate) fn none() -> Head
+        ensures unnamed { 2 ^ 32 ≤ result.resource }
         ensures empty { result.width ≡ 0 }
     {
         Head {
-            of,
+            resource: NO_RESOURCE,
             width: 0,
             text: [0; ROW],
         }
     }
 
-    /// The row with the text of a head, or an empty row if the text is too long.
-    pub(crate) fn with_text(of: HeadOf, text: &[u8]) -> Head
-        ensures same { result.of ≡ of }
+    /// The row with the text of a head that names a resource, or an empty row if the text is too long.
+    pub(crate) fn with_text(resource: u32, text: &[u8]) -> Head
+        ensures named { result.resource < 2 ^ 32 → result.resource ≡ resource }
         ensures within { result.width ≤ ROW }
-        ensures text { 0 < result.width → take result.width result.text ≡ text.now }
+        ensures text { result.resource < 2 ^ 32 → take result.width result.text ≡ text.now }
     {
         if text.len() > ROW {
-            return Head::none(of);
+            return Head::none();
         }
         let mut row = [0; ROW];
         row[..text.len()].copy_from_slice(text);
         Head {
-            of,
+            resource: resource as u64,
             width: text.len() as u8,
             text: row,
         }
@@ -100,8 +105,8 @@ impl Heads {
         let row = ranges.row(of.taken, of.event)?;
         let rows = self.rows.as_slice();
         let head = &rows[row];
-        // By its index the row is that of the event. Only the resource can be another.
-        if head.width > 0 && head.of.resource == of.resource {
+        // By its index the row is that of the event. Only the resource can be another, or none.
+        if head.resource == of.resource as u64 {
             Some(head)
         } else {
             None

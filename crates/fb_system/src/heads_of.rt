@@ -6,7 +6,7 @@ ghost use Rattle.fb_types.specs.OfSystem.{IsInstance, IsResource};
 ghost use Rattle.fb_system.specs.IndexLists.{AreIndexes};
 ghost use Rattle.fb_system.specs.Heads.{first_text};
 ghost use Rattle.fb_system.specs.RowRanges.{HasRows, Keeps};
-ghost use Rattle.fb_system.specs.OfSystem.{AreHeads, IsOfHead, IsRowAt, IsRowOfHead, head_event, head_variables};
+ghost use Rattle.fb_system.specs.OfSystem.{AreHeads, IsOfHead, IsRowAt, head_event, head_variables};
 
 use crate::heads::{Head, HeadOf, Heads, MOST_ROWS, ROW};
 use crate::row_ranges::RowRanges;
@@ -28,7 +28,7 @@ fn event_name(system: &System, of: HeadOf) -> &[u8]
     }
 }
 
-/// The name of the variable at the first of these indices, if there is one.
+/// The name of the variable at the first of these indexes, if there is one.
 fn name_at_first<'a>(variables: &'a [Variable], indexes: &[u32]) -> Option<&'a [u8]>
     requires { (names : List Name) × AreIndexes variables.now names indexes.now }
     ensures none { (names : List Name) → AreIndexes variables.now names indexes.now → IfNone result (first_text names ≡ []) }
@@ -115,8 +115,7 @@ fn add_first(text: &mut Vec<u8>, first: Option<&[u8]>) -> Result<(), AllocError>
 /// The row of a head. The text is joined in the buffer.
 fn row_of(system: &System, text: &mut Vec<u8>, of: HeadOf) -> Result<Head, AllocError>
     requires { IsOfHead system.now of }
-    ensures row { IfOk result (IsRowOfHead system.now) }
-    ensures of { IfOk result (λ head. head.of ≡ of) }
+    ensures { IfOk result (IsRowAt system.now of.instance of.taken of.event) }
 {
     let parts = Parts {
         resource: system.resource_name(of.resource as usize),
@@ -126,11 +125,11 @@ fn row_of(system: &System, text: &mut Vec<u8>, of: HeadOf) -> Result<Head, Alloc
         first: first_name(system, of),
     };
     if !are_short(parts) {
-        return Ok(Head::none(of));
+        return Ok(Head::none());
     }
     join(text, parts)?;
     add_first(text, parts.first)?;
-    Ok(Head::with_text(of, text.as_slice()))
+    Ok(Head::with_text(of.resource, text.as_slice()))
 }
 
 /// The number of events that instances of a type take, or emit.
@@ -202,7 +201,9 @@ fn add_instance(
     let second = row_after(heads.rows.len());
     add_rows(&mut heads.rows, system, text, resource, instance, true)?;
     let end = row_after(heads.rows.len());
-    heads.ranges.push(RowRanges { first, second, end })
+    heads.ranges.push(RowRanges {
+        bounds: [first, second, end],
+    })
 }
 
 /// The heads of the lines of a system, as many as there is room for.

@@ -22,7 +22,7 @@ fn first_values(alloc: Global, variables: &[Variable]) -> Result<Vec<Value>, All
 }
 
 /// The initial values of the data inputs of an instance: the instance's parameter, else the declared initial value, else
-/// 0 or FALSE. `indexes` has the indices of the inputs that the parameters set.
+/// 0 or FALSE. `indexes` has the indexes of the inputs that the parameters set.
 ///
 /// # Errors
 ///

@@ -1,4 +1,4 @@
-//! The types of a declaration and the event blocks, with the indices of the variables WITH each event.
+//! The types of a declaration and the event blocks, with the indexes of the variables WITH each event.
 
 ghost use Rattle.std.specs.Prelude.{◌≡◌, ◌<◌, ℕ, IfOk, Some, length, slice_get};
 ghost use Rattle.fb_types.specs.Blocks.{ports_of, ports_of_event_block};
@@ -17,7 +17,7 @@ use fb_check_names::{BlockIndexes, Catalog};
 use fb_types::{BlockType, EventKind, Items, Library};
 use std::alloc::{AllocError, Global};
 
-/// The types of a declaration and the event blocks: for each event the indices of the variables WITH it.
+/// The types of a declaration and the event blocks: for each event the indexes of the variables WITH it.
 pub struct Interfaces {
     blocks: Items<WithIndexes>,
     event_blocks: Items<WithIndexes>,
@@ -66,7 +66,7 @@ fn of_blocks(
     Ok(all)
 }
 
-/// The indices of the variables WITH each event of each type of a declaration, and of each event block, in near linear
+/// The indexes of the variables WITH each event of each type of a declaration, and of each event block, in near linear
 /// time. In the declaration no name is given twice, and each is known.
 ///
 /// # Errors

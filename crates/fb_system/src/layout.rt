@@ -25,7 +25,7 @@ pub struct InstanceRow {
     pub kind: TypeNumber,
     /// The number of the composite that contains it, or none for an instance of the application.
     pub parent: Option<u32>,
-    /// The indices of the components on the path to it, from the outermost.
+    /// The indexes of the components on the path to it, from the outermost.
     pub route: Items<u32>,
     /// The numbers of its components, in the order of the text.
     pub components: Items<u32>,
@@ -127,7 +127,7 @@ fn path_under(
     }
 }
 
-/// The indices of the components on the path to an instance.
+/// The indexes of the components on the path to an instance.
 fn route_under(
     alloc: Global,
     outside: Option<Outside>,
@@ -202,8 +202,8 @@ fn lay_out(
     Ok(layer)
 }
 
-/// The instances of an application, at most 4,096, by number. A row is moved once for each composite around its instance,
-/// and its route has that length, so the time is linear in the paths and routes together.
+/// The instances of an application, at most 4,096, by number. A row is moved once for each composite around its
+/// instance, and its route has that length, so the time is linear in the paths and routes together.
 pub(crate) fn layout_of(
     alloc: Global,
     library: &Library,

@@ -127,7 +127,7 @@ impl Links {
         self.holders.get(instance).copied().unwrap_or(0)
     }
 
-    /// The link from one resource to another, by their indices, or `None` if there is none.
+    /// The link from one resource to another, by their indexes, or `None` if there is none.
     pub fn between(&self, from: usize, to: usize) -> Option<usize>
         ensures { result ≡ link_at self.now from to }
     {

@@ -16,7 +16,7 @@ use fb_check_names::{NetworkNumbers, Resolved};
 use fb_types::{BlockType, Items, Library, Ports};
 use std::alloc::{AllocError, Global};
 
-/// Says to proofs that the indices of the ports of a type fit in 32 bits.
+/// Says to proofs that the indexes of the ports of a type fit in 32 bits.
 fn bound_ports(ports: &Ports)
     ensures { IsNarrow ports.now }
 {
@@ -26,7 +26,7 @@ fn bound_ports(ports: &Ports)
     ports.outputs.count();
 }
 
-/// Says to proofs that the indices of the ports of all types fit in 32 bits.
+/// Says to proofs that the indexes of the ports of all types fit in 32 bits.
 fn bound_all(blocks: &[BlockType])
     ensures { AreNarrow blocks.now }
 {
@@ -35,7 +35,7 @@ fn bound_all(blocks: &[BlockType])
     }
 }
 
-/// The layout of a declaration. The indices of its ports fit in 32 bits.
+/// The layout of a declaration. The indexes of its ports fit in 32 bits.
 pub(crate) fn narrow_layout(
     alloc: Global,
     library: &Library,

@@ -14,7 +14,7 @@ ghost use Rattle.fb_system.specs.Netlists.{IsPort, IsSource, IsTarget, IsVariabl
 
 use crate::declared::{declared_at, parameters_at};
 use crate::making::{narrow_layout, wirings_of};
-use crate::next_target::NextTarget;
+use crate::netlist_target::NetlistTarget;
 use crate::tables::{EndIn, Tables, entering, leaving, row_at, source_in, target_in};
 use crate::wiring::Wiring;
 use crate::with_all::with_all;
@@ -54,8 +54,8 @@ impl Model for Netlist {
 }
 
 impl Netlist {
-    /// The netlist of a declaration, made from its numbers. The time is proportional to the instances and the connections
-    /// of the declaration.
+    /// The netlist of a declaration, made from its numbers. The time is proportional to the instances and the
+    /// connections of the declaration.
     ///
     /// # Errors
     ///
@@ -153,7 +153,7 @@ impl Netlist {
         row_at(&self.tables, instance).parent
     }
 
-    /// The indices of the instances on the path to an instance, each in its network, from the outermost.
+    /// The indexes of the instances on the path to an instance, each in its network, from the outermost.
     pub fn route(&self, instance: u32) -> &[u32]
         requires { instance < length (paths_of self.now) }
         ensures { result.now ≡ route_to self.now (path_of self.now instance) }
@@ -176,10 +176,10 @@ impl Netlist {
         self.tables.layout.top.as_slice()
     }
 
-    /// Where the event connection leads that has this index among those from an event, in the order of the text. An event
-    /// output connects to what is around the instance, an event input of a composite to what is inside. The answer also
-    /// says whether another connection follows, so that no caller searches for one after the last.
-    pub fn reached(&self, from: Target, index: usize) -> Option<NextTarget>
+    /// Where the event connection leads that has this index among those from an event, in the order of the text. An
+    /// event output connects to what is around the instance, an event input of a composite to what is inside. The
+    /// answer also says whether another connection follows, so that no caller searches for one after the last.
+    pub fn reached(&self, from: Target, index: usize) -> Option<NetlistTarget>
         requires { IsPort self.now from }
         ensures leads { option_map (λ r. port_of self.now r.target) result ≡ slice_get (targets_of self.now (port_of self.now from)) index }
         ensures within { IfSome result (λ r. IsTarget self.now r.target) }

@@ -1,7 +1,7 @@
 //! What is kept of an event port.
 
 use crate::next_target::NextTarget;
-use fb_types::InstanceVariable;
+use crate::source::Source;
 
 /// The variables WITH an event.
 #[derive(Clone, Copy)]
@@ -9,7 +9,7 @@ pub enum With {
     /// No variable.
     Nothing,
     /// One variable, by its index, and what it is connected to, if anything.
-    One(u32, Option<InstanceVariable>),
+    One(u32, Option<Source>),
     /// More than one variable.
     Several,
 }

@@ -21,7 +21,7 @@ impl System {
         }
     }
 
-    /// The indices of the variables WITH the event of a port.
+    /// The indexes of the variables WITH the event of a port.
     fn indexes_with(&self, at: Target) -> &[u32]
         requires { IsPort self.now at }
         ensures { AreIndexes (port_variables self.now at) (port_names self.now at) result.now }
@@ -46,7 +46,7 @@ impl System {
                     variable: *variable,
                     is_output: at.is_output,
                 };
-                With::One(*variable, self.source(to))
+                With::One(*variable, self.placed_source(to))
             }
             _ => With::Several,
         }

@@ -20,6 +20,6 @@ pub struct StimulusRow {
     pub instance: u32,
     /// The index among the event inputs of the instance's type.
     pub event: u32,
-    /// The slots that it sets, in the order of the stimulus. The indices are among the data inputs of the type.
+    /// The slots that it sets, in the order of the stimulus. The indexes are among the data inputs of the type.
     pub sets: Items<SlotValue>,
 }

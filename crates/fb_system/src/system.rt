@@ -16,7 +16,7 @@ ghost use Rattle.fb_check_names.specs.Numbers.{kind_of_number};
 ghost use Rattle.fb_system.specs.Linking.{AreHomes, IsLinked};
 ghost use Rattle.fb_system.specs.PortRows.{IsPortRow};
 ghost use Rattle.fb_system.specs.Systems.{inputs_of, IsBare, IsGiven, IsKept, AreTables};
-ghost use Rattle.fb_system.specs.OfSystem.{ComesFrom, IsHead, IsPort, IsSource, IsTarget, IsVariable, LeadsTo, arrival_over, initial_inputs, initial_outputs, link_between, number_at, receiver_of, sender_of, source_at, variable_of};
+ghost use Rattle.fb_system.specs.OfSystem.{AreTogether, ComesFrom, IsHead, IsPort, IsSource, IsSourceOf, IsTarget, IsVariable, LeadsTo, arrival_over, initial_inputs, initial_outputs, link_between, link_of, number_at, receiver_of, sender_of, source_at, variable_of};
 
 use crate::given::Given;
 use crate::heads::{Head, HeadOf};
@@ -27,6 +27,7 @@ use crate::links::Links;
 use crate::netlist::Netlist;
 use crate::next_target::NextTarget;
 use crate::port_row::PortRow;
+use crate::source::Source;
 use crate::stimulus::StimulusAt;
 use crate::types::{ports_of_type, with_indexes_of_type};
 use crate::whole::{Whole, row_at};
@@ -228,7 +229,7 @@ impl System {
         self.whole.netlist.parent(instance)
     }
 
-    /// The indices of the instances on the path to an instance, each in its network, from the outermost.
+    /// The indexes of the instances on the path to an instance, each in its network, from the outermost.
     pub fn route(&self, instance: u32) -> &[u32]
         requires { IsInstance self.now instance }
         ensures { result.now ≡ route_to self.now.library (path_at self.now instance) }
@@ -260,6 +261,8 @@ impl System {
         ensures leads { option_map (λ r. port_of self.now r.target) result ≡ slice_get (targets_at self.now (port_of self.now from)) index }
         ensures within { IfSome result (λ r. IsTarget self.now r.target) }
         ensures more { IfSome result (λ r. IsTrue r.more ↔ (index + 1 < length (targets_at self.now (port_of self.now from)))) }
+        ensures here { IfSome result (λ r. IsTrue r.here ↔ AreTogether self.now r.target.instance from.instance) }
+        ensures link { IfSome result (λ r. r.link ≡ link_of self.now from.instance r.target.instance) }
     {
         // Usually a port has one connection, and its row is kept.
         if index == 0 {
@@ -270,8 +273,8 @@ impl System {
         self.reached_by_tables(from, index)
     }
 
-    /// What is looked up of an event port in one step: the variables WITH its event, and where its first connection leads.
-    /// It is kept of the first 16,384 ports. `port_by_tables` gives the same of every port.
+    /// What is looked up of an event port in one step: the variables WITH its event, and where its first connection
+    /// leads. It is kept of the first 16,384 ports. `port_by_tables` gives the same of every port.
     #[inline(always)]
     pub fn kept_port(&self, at: Target) -> Option<&PortRow>
         ensures { IfSome result (λ r. IsPortRow self.now at r.now) }
@@ -285,7 +288,34 @@ impl System {
         requires { IsPort self.now from }
         ensures { LeadsTo self.now from index result }
     {
-        self.whole.netlist.reached(from, index)
+        let next = self.whole.netlist.reached(from, index)?;
+        Some(NextTarget {
+            target: next.target,
+            more: next.more,
+            here: self.are_together(next.target.instance, from.instance),
+            link: self.link_to(from.instance, next.target.instance),
+        })
+    }
+
+    /// The link from the resource of one instance to that of another, or 0 if there is none.
+    fn link_to(&self, from: u32, to: u32) -> u16
+        requires from { IsInstance self.now from }
+        requires to { IsInstance self.now to }
+        ensures { result ≡ link_of self.now from to }
+    {
+        // There are at most 1,024 links, so that the number of one fits.
+        self.facts();
+        self.link(self.resource(from), self.resource(to)) as u16
+    }
+
+    /// Whether two instances are in the same resource.
+    #[inline(always)]
+    fn are_together(&self, one: u32, other: u32) -> bool
+        requires one { IsInstance self.now one }
+        requires other { IsInstance self.now other }
+        ensures { IsTrue result ↔ AreTogether self.now one other }
+    {
+        self.resource(one) == self.resource(other)
     }
 
     /// What a variable is connected to: a data input to what is around the instance, a data output of a composite to
@@ -300,6 +330,17 @@ impl System {
             Some(row) => row.source,
             None => self.source_by_tables(to),
         }
+    }
+
+    /// What a variable is connected to, as `source` says, and whether both are in the same resource.
+    #[inline(always)]
+    pub fn placed_source(&self, to: InstanceVariable) -> Option<Source>
+        requires { IsVariable self.now to }
+        ensures { IsSourceOf self.now to result }
+    {
+        let variable = self.source(to)?;
+        let here = self.are_together(variable.instance, to.instance);
+        Some(Source { variable, here })
     }
 
     /// What a variable is connected to, by the network of its connection.
@@ -385,7 +426,7 @@ impl System {
         ports_of_type(whole, whole.netlist.kind(instance))
     }
 
-    /// For each event of an instance's type, the indices of the variables WITH it.
+    /// For each event of an instance's type, the indexes of the variables WITH it.
     #[inline(always)]
     fn with_indexes(&self, instance: u32) -> &WithIndexes
         requires { IsInstance self.now instance }
@@ -403,7 +444,7 @@ impl System {
         self.whole.kept.heads.find(of)
     }
 
-    /// The indices of the data inputs WITH an event input of an instance, in the order in which the inputs are declared.
+    /// The indexes of the data inputs WITH an event input of an instance, in the order in which the inputs are declared.
     pub fn inputs_with(&self, instance: u32, event: u32) -> &[u32]
         requires instance { IsInstance self.now instance }
         requires event { event < length (ports_at self.now (path_at self.now instance)).event_inputs }
@@ -412,7 +453,7 @@ impl System {
         self.with_indexes(instance).inputs.as_slice()[event as usize].as_slice()
     }
 
-    /// The indices of the data outputs WITH an event output of an instance, in the order in which the outputs are
+    /// The indexes of the data outputs WITH an event output of an instance, in the order in which the outputs are
     /// declared.
     pub fn outputs_with(&self, instance: u32, event: u32) -> &[u32]
         requires instance { IsInstance self.now instance }

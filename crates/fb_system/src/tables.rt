@@ -10,7 +10,7 @@ ghost use Rattle.fb_system.specs.Netlists.{IsPort, IsSource, IsTarget, IsVariabl
 ghost use Rattle.fb_system.specs.Networks.{DataEnters, DataLeaves, EventEnters, EventLeaves, IsAround, IsNetlist, IsThere, IsWired, path_around, source_along, targets_along};
 
 use crate::layout::{InstanceRow, Layout};
-use crate::next_target::NextTarget;
+use crate::netlist_target::NetlistTarget;
 use crate::wiring::Wiring;
 use fb_check_names::{ConnectionEnd, TypeNumber};
 use fb_types::{InstanceVariable, Items, Library, Target};
@@ -129,7 +129,7 @@ pub(crate) fn target_in(
     around: Option<u32>,
     end: ConnectionEnd,
     index: usize,
-) -> Option<NextTarget>
+) -> Option<NetlistTarget>
     requires netlist { IsNetlist tables.now }
     requires within { IsAround tables.now.library around }
     requires end { (q : Port) × EventLeaves tables.now.library around end q }
@@ -140,7 +140,7 @@ pub(crate) fn target_in(
     let wiring = wiring_in(tables, around)?;
     let ends = wiring.targets(end);
     let to = ends.get(index)?;
-    Some(NextTarget {
+    Some(NetlistTarget {
         target: target_at(tables, around, *to),
         more: ends.len() - index > 1,
     })

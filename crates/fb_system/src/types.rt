@@ -23,7 +23,7 @@ pub(crate) fn ports_of_type(tables: &Whole, kind: TypeNumber) -> &Ports
     }
 }
 
-/// For each event of a type, the indices of the variables WITH it.
+/// For each event of a type, the indexes of the variables WITH it.
 pub(crate) fn with_indexes_of_type(tables: &Whole, kind: TypeNumber) -> &WithIndexes
     requires tables { AreTables tables.now }
     requires known { (k : Kind) × (kind_of_number tables.now.netlist kind ≡ Some k) }

@@ -1,4 +1,4 @@
-//! The indices of the variables WITH each event of a type of the declaration.
+//! The indexes of the variables WITH each event of a type of the declaration.
 
 ghost use Rattle.std.specs.Prelude.{◌≡◌, ◌<◌, ◌^◌, ℕ, IfOk, length};
 ghost use Rattle.std.specs.List.{filter};
@@ -10,13 +10,13 @@ use fb_check_names::{Indexes, index_of};
 use fb_types::{EventPort, Items, Name, Ports, Variable};
 use std::alloc::{AllocError, Global};
 
-/// For each event of a type the indices of the variables WITH it, from 0, in the order in which the variables are
+/// For each event of a type the indexes of the variables WITH it, from 0, in the order in which the variables are
 /// declared.
 #[derive(Drop)]
 pub struct WithIndexes {
-    /// For each event input, indices among the inputs.
+    /// For each event input, indexes among the inputs.
     pub inputs: Items<Items<u32>>,
-    /// For each event output, indices among the outputs.
+    /// For each event output, indexes among the outputs.
     pub outputs: Items<Items<u32>>,
 }
 
@@ -30,7 +30,7 @@ fn first_index(variables: &[Variable], indexes: &Indexes) -> usize
     }
 }
 
-/// The indices of the variables that a WITH list names, in any order.
+/// The indexes of the variables that a WITH list names, in any order.
 fn indexes_of_list(
     alloc: Global,
     variables: &[Variable],
@@ -54,7 +54,7 @@ fn indexes_of_list(
     Ok(Items::from_vec(numbers))
 }
 
-/// For each event, the indices of the variables WITH it.
+/// For each event, the indexes of the variables WITH it.
 fn indexes_of_lists(
     alloc: Global,
     events: &[EventPort],
@@ -73,7 +73,7 @@ fn indexes_of_lists(
     Ok(all)
 }
 
-/// The indices of the variables WITH each event of an interface, from the indices of all names of the type.
+/// The indexes of the variables WITH each event of an interface, from the indexes of all names of the type.
 pub(crate) fn with_indexes(
     alloc: Global,
     ports: &Ports,

@@ -9,7 +9,7 @@ use Rattle.fb_system.proofs.ends_of.add_ports_of.Goals as goal
 pub returns : goal.returns
 returns c =
     let sys = c.args.system.now in
-    let p : RowRanges = record { first = c.row_after-first.result; second = c.row_after-second.result; end = c.row_after-end.result } in
+    let p : RowRanges = record { bounds = c.row_after-first.result ∷ c.row_after-second.result ∷ c.row_after-end.result ∷ [] } in
     let old = c.args.ranges.now in
     let half = c.add_ports.new.rows in
     let rows = c.add_ports-2.new.rows in

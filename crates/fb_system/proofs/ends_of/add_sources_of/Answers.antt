@@ -10,7 +10,7 @@ use Rattle.fb_system.proofs.ends_of.add_sources_of.Goals as goal
 pub returns : goal.returns
 returns c =
     let sys = system_of c.args.system.now in
-    let p : RowRanges = record { first = c.row_after-first.result; second = c.row_after-second.result; end = c.row_after-end.result } in
+    let p : RowRanges = record { bounds = c.row_after-first.result ∷ c.row_after-second.result ∷ c.row_after-end.result ∷ [] } in
     let old = c.args.ranges.now in
     let half = c.add_sources.new.rows in
     let rows = c.add_sources-2.new.rows in

@@ -18,7 +18,7 @@ overflow_cast-resource c =
 pub returns : goal.returns
 returns c =
     let sys = system_of c.args.system.now in
-    let p : RowRanges = record { first = c.row_after-first.result; second = c.row_after-second.result; end = c.row_after-end.result } in
+    let p : RowRanges = record { bounds = c.row_after-first.result ∷ c.row_after-second.result ∷ c.row_after-end.result ∷ [] } in
     let old = c.args.heads.now in
     let half = c.add_rows.new.rows in
     let rows = c.add_rows-2.new.rows in

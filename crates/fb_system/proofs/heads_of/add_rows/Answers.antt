@@ -3,7 +3,6 @@ use Rattle.fb_types.specs.Headline.{system_of}
 use Rattle.fb_system.specs.Heads.{IsRowAt}
 use Rattle.fb_system.specs.RowRanges.{HasRows, Keeps}
 use Rattle.fb_system.specs.declared.heads.Head.{Head}
-use Rattle.fb_system.specs.declared.heads.HeadOf.{HeadOf}
 use Rattle.fb_system.proofs.InRanges.{keeps_push, rows_push}
 use Rattle.fb_system.proofs.heads_of.add_rows.Goals as goal
 
@@ -15,14 +14,7 @@ loop-event-preserved c =
     let row : Head = c.in_ok-row_of.field-0 in
     let first : ℕ = length c.args.rows.now in
     let grown = sym c.in_ok-push.ensures.ok in
-    let of = c.in_ok-row_of.ensures.of in
-    let own : IsRowAt sys c.args.instance c.args.taken c.loop-event.event row =
-    record {
-      instance = ap (λ (o : HeadOf). o.instance) of;
-      taken = ap (λ (o : HeadOf). o.taken) of;
-      event = ap (λ (o : HeadOf). o.event) of;
-      row = c.in_ok-row_of.ensures.row;
-    } in
+    let own : IsRowAt sys c.args.instance c.args.taken c.loop-event.event row = c.in_ok-row_of.ensures in
     record {
       kept = subst (λ (l : List Head). Keeps c.args.rows.now l) grown (keeps_push c.args.rows.now rows row was.kept);
       count = (let long : length (rows ++ row ∷ []) ≡ length rows + 1 = length-append rows (row ∷ []) in omega (arith, ap length c.in_ok-push.ensures.ok, long, was.count));

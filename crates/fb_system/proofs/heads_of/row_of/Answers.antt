@@ -5,11 +5,12 @@ use Rattle.fb_system.specs.Heads.{first_text, head_text, head_variables}
 use Rattle.fb_system.proofs.KeptHeads.{first_added}
 use Rattle.fb_system.proofs.heads_of.row_of.Goals as goal
 
-pub returns-clause-row : goal.returns-clause-row
-returns-clause-row c = λ some.
+pub returns : goal.returns
+returns c = λ kept.
     let sys = system_of c.args.system.now in
-    let vars = head_variables sys c.args.of in
-    let name = c.resource_name.ensures ∙ sym (unwrap_or-slice_get sys.resource_names c.args.of.resource []) in
+    let x = c.args.of in
+    let vars = head_variables sys x in
+    let name = c.resource_name.ensures ∙ sym (unwrap_or-slice_get sys.resource_names x.resource []) in
     let joined = rw (name, c.path.ensures, c.event_name.ensures) at c.in_ok-join.ensures in
     let whole =
     first_added c.first_name.result c.join.new.text.items c.add_first.new.text.items (first_text vars) c.first_name.ensures.none c.first_name.ensures.some
@@ -17,6 +18,6 @@ returns-clause-row c = λ some.
     record {
       within = c.with_text.ensures.within;
       text =
-          c.with_text.ensures.text some ∙ c.as_slice.ensures.value ∙ whole ∙ ap (λ (t : List ℕ). t ++ first_text vars) joined
-          ∙ ap (head_text sys) (sym c.with_text.ensures.same);
+          c.with_text.ensures.text kept ∙ c.as_slice.ensures.value ∙ whole ∙ ap (λ (t : List ℕ). t ++ first_text vars) joined
+          ∙ ap (λ (r : ℕ). head_text sys (record { resource = r; instance = x.instance; event = x.event; taken = x.taken })) (sym (c.with_text.ensures.named kept));
     }

@@ -3,13 +3,13 @@ use Rattle.std.specs.Prelude.{option_map}
 use Rattle.fb_types.specs.Names.{Port}
 use Rattle.fb_check_names.specs.declared.numbers.ConnectionEnd.{ConnectionEnd}
 use Rattle.fb_system.specs.Netlists.{port_of}
-use Rattle.fb_system.specs.declared.next_target.NextTarget.{NextTarget}
+use Rattle.fb_system.specs.declared.netlist_target.NetlistTarget.{NetlistTarget}
 use Rattle.fb_system.proofs.Looking.{target_end, target_past, read_at, past_all, more_follow, targets_counted}
 use Rattle.fb_system.proofs.tables.target_in.Goals as goal
 
 pub returns-in_err-to-clause-leads : goal.returns-in_err-to-clause-leads
 returns-in_err-to-clause-leads c = λ q key.
-    ap (option_map (λ (r : NextTarget). port_of c.args.tables.now.library r.target)) c.from_residual-in_err-to.ensures
+    ap (option_map (λ (r : NetlistTarget). port_of c.args.tables.now.library r.target)) c.from_residual-in_err-to.ensures
     ∙ sym (target_past _ c.requires.netlist.plan _ _ _ q _ c.requires.netlist.once c.in_ok-wiring.ensures key (past_all _ _ _ c.targets-ends.ensures c.in_err-to.ensures.lookup.3))
 
 pub target_at-requires-clause-end : goal.target_at-requires-clause-end

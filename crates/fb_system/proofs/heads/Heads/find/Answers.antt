@@ -1,4 +1,4 @@
-use Rattle.std.proofs.Common.{◌<◌, length, arith, sym}
+use Rattle.std.proofs.Common.{◌<◌, ◌^◌, length, arith, sym}
 use Rattle.fb_system.specs.Heads.{IsRowAt}
 use Rattle.fb_system.proofs.KeptHeads.{row_found}
 use Rattle.fb_system.proofs.InRanges.{found, found_within}
@@ -25,7 +25,8 @@ pub returns-then-head-of : goal.returns-then-head-of
 returns-then-head-of c = λ sys all.
     let heads = c.args.self.now in
     let x = c.args.of in
+    let number : x.resource < 2 ^ 32 = omega arith in
     row_found sys x _
     (found (IsRowAt sys) heads.rows _ heads.ranges x.instance x.taken x.event _ _ _ c.as_slice-rows.ensures all (sym c.in_ok-ranges.ensures.value)
     c.in_ok-row.ensures.at c.in_ok-row.ensures.within)
-    c.if-head-gt0.true c.if-head-of.true
+    number c.if-head-of.true

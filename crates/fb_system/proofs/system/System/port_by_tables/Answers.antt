@@ -4,5 +4,5 @@ pub returns : goal.returns
 returns c =
     record {
       with = c.port_with.ensures;
-      first = record { leads = c.reached.ensures.leads; within = c.reached.ensures.within; more = c.reached.ensures.more };
+      first = record { leads = c.reached.ensures.leads; within = c.reached.ensures.within; more = c.reached.ensures.more; here = c.reached.ensures.here; link = c.reached.ensures.link };
     }
