@@ -21,9 +21,6 @@ after_values = (10 ∷ []) ∷ []
 abbrev pub after_event : Line → List (List ℕ)
 after_event l = values_text l.values ∷ after_values
 
-abbrev pub after_key : System → Line → List (List ℕ)
-after_key sys l = tick_and_resource_text sys l.key.tick l.key.resource ∷ sign_text l ∷ path_text l.at ∷ codes "." ∷ l.event ∷ after_event l
-
 -- a head after what is before it
 pub following : (k index sign path dot event : List ℕ) → k ++ (index ++ sign ++ path ++ dot ++ event) ≡ k ++ index ++ sign ++ path ++ dot ++ event
 following k index sign path dot event =

@@ -77,7 +77,7 @@ module _ {X : Type 0} (n : X → ℕ) where
   later_of x [] h = tt
   later_of x (y ∷ ys) h = (h 0 (omega arith), later_of x ys (λ k b. h (suc k) (omega arith)))
 
-  -- from the form by indices
+  -- from the form by indexes
   pub rises_of : (xs : List X) → IsNonDecreasingBy n xs → Rises n xs
   rises_of [] h = tt
   rises_of (x ∷ xs) h =

@@ -48,7 +48,7 @@ pub others_counted :
 others_counted xs ys same =
     ap length (all_after xs) ∙ length-drop 1 xs ∙ ap (λ (n : ℕ). n - 1) same ∙ sym (length-drop 1 ys) ∙ sym (ap length (all_after ys))
 
--- .. as they are sliced
+-- the values after the first, as they are sliced
 pub others_sliced :
     (sys : System) (l : run.Line) (vs : List Variable) (ks : List ℕ) → AreIndexes vs (line_variables sys l) ks
     → values_text (pair_up (map (variable_at vs) (take (length ks - 1) (drop 1 ks))) (take (length l.values - 1) (drop 1 l.values)))
@@ -98,7 +98,7 @@ by_head sys l belongs =
     ∙ sym (inward until (first_text ns) (first_value l.values) others)
     ∙ ap (λ (t : List ℕ). until ++ t) (sym (values_parts ns l.values belongs.values)))
 
--- .. and one that has no value after the first
+-- a line that has no value after the first
 pub by_head_alone :
     (sys : System) (l : run.Line) → BelongsTo sys l → length l.values ≤ 1
     → decimal l.key.tick ++ codes " " ++ head_text sys (head_of_line l) ++ first_value l.values ++ 10 ∷ [] ≡ line_text One sys (line_of sys l)

@@ -61,7 +61,7 @@ Puts-none a p = record { sent = []; got = Appends-nil a; parts = append-nil _; c
 pub Puts-appended : (a : Option (List ℕ)) {p q : Page} {x : List ℕ} → q ≡ record p { waiting = p.waiting ++ x } → Puts a a p q x
 Puts-appended a e = rw e (record { sent = []; got = Appends-nil a; parts = refl; counted = omega arith })
 
--- .. and one more after it
+-- one more text after it
 pub appended-more : (p q r : Page) (x y : List ℕ) → q ≡ record p { waiting = p.waiting ++ x } → r ≡ record q { waiting = q.waiting ++ y } → r ≡ record p { waiting = p.waiting ++ (x ++ y) }
 appended-more p q r x y e f = rw (f, e, append_assoc p.waiting x y) refl
 

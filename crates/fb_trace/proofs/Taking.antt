@@ -71,22 +71,11 @@ module _ (t : ℕ) where
       (l, each_map (λ y. tick_of x ≤ tick_of y) (λ y. t < tick_of y) xs (λ y (b : tick_of x ≤ tick_of y). let w : t < tick_of y = omega arith in w) h.0))
       (λ e. k)
 
-  late_from : (xs : List Line) → BeginsFrom (suc t) (late t xs)
-  late_from [] = tt
-  late_from (x ∷ xs) =
-      let k = late_from xs in
-      cond_both (nat_lt t (tick_of x)) (x ∷ xs) (late t xs) (BeginsFrom (suc t)) (λ e. ltb-true t (tick_of x) e) (λ e. k)
-
   late_rises : (xs : List Line) → Rises tick_of xs → Rises tick_of (late t xs)
   late_rises [] h = tt
   late_rises (x ∷ xs) h =
       let k = late_rises xs h.1 in
       cond_both (nat_lt t (tick_of x)) (x ∷ xs) (late t xs) (Rises tick_of) (λ e. h) (λ e. k)
-
-  -- no list begins with a tick that was taken
-  pub all_late_from : (xss : List (List Line)) → Each (BeginsFrom (suc t)) (all_late t xss)
-  all_late_from [] = tt
-  all_late_from (xs ∷ rest) = each_before (BeginsFrom (suc t)) (late t xs) (all_late t rest) (late_from xs) (all_late_from rest)
 
   all_late_rise : (xss : List (List Line)) → AllRise xss → AllRise (all_late t xss)
   all_late_rise [] h = tt
@@ -241,9 +230,6 @@ from_empty t (x ∷ xs) h = absurd h
 from_lower : (s t : ℕ) → s ≤ t → (xs : List Line) → BeginsFrom t xs → BeginsFrom s xs
 from_lower s t b [] h = tt
 from_lower s t b (x ∷ xs) h = let l : t ≤ tick_of x = h in omega arith
-
-pub least_none : IsLeast [] None
-least_none = record { low = tt; greatest = λ m h. tt; none = tt }
 
 pub least_more : (xss : List (List Line)) (xs : List Line) (least : Option ℕ) → IsLeast xss least → IsLeast (xss ++ xs ∷ []) (lesser least (tick_at xs))
 least_more xss [] None it = record {

@@ -1,6 +1,7 @@
 //! The digits of small numbers.
 
 ghost use Rattle.std.specs.Prelude.{◌≡◌, ◌<◌, ◌≤◌, decimal, take};
+ghost use Rattle.fb_trace.specs.DigitRows.{IsMade};
 
 use std::marker::Model;
 
@@ -23,6 +24,7 @@ impl DigitRow {
     /// The row of a number.
     fn of(number: usize) -> DigitRow
         requires { number < MOST }
+        ensures some { 0 < result.width }
         ensures width { result.width ≤ ROW }
         ensures text { take result.width result.text ≡ decimal number }
     {
@@ -77,29 +79,37 @@ impl DigitRows {
         DigitRows { rows: [none; MOST] }
     }
 
-    /// The row of a number.
+    /// Makes the row of a number, unless it is made.
     #[inline(always)]
-    pub(crate) fn row(&mut self, number: usize) -> DigitRow
+    pub(crate) fn prepare(&mut self, number: usize)
         requires { number < MOST }
-        ensures width { result.width ≤ ROW }
-        ensures text { take result.width result.text ≡ decimal number }
+        ensures { IsMade self.new number }
     {
         let row = self.rows[number];
         if row.width > 0 {
-            return row;
+            return;
         }
-        self.make(number)
+        self.make(number);
     }
 
     /// Makes the row of a number.
     #[inline(never)]
-    fn make(&mut self, number: usize) -> DigitRow
+    fn make(&mut self, number: usize)
         requires { number < MOST }
-        ensures width { result.width ≤ ROW }
-        ensures text { take result.width result.text ≡ decimal number }
+        ensures { IsMade self.new number }
     {
         let row = DigitRow::of(number);
         self.rows[number] = row;
-        row
+    }
+
+    /// The row of a number, which is made.
+    #[inline(always)]
+    pub(crate) fn row(&self, number: usize) -> DigitRow
+        requires number { number < MOST }
+        requires made { IsMade self.now number }
+        ensures width { result.width ≤ ROW }
+        ensures text { take result.width result.text ≡ decimal number }
+    {
+        self.rows[number]
     }
 }

@@ -1,6 +1,6 @@
 //! The lines of a trace.
 
-ghost use Rattle.std.specs.Prelude.{◌≡◌, ◌+◌, ◌≤◌, ◌++◌, drop, false, map, length, All, IfErr, IfOk, IsTrue, OnOk};
+ghost use Rattle.std.specs.Prelude.{◌≡◌, ◌+◌, ◌≤◌, [], ◌++◌, drop, false, map, length, All, IfErr, IfOk, IsTrue, OnOk};
 ghost use Rattle.std.specs.Io.KnownBytes.{Appends};
 ghost use Rattle.fb_types.specs.Text.{values_text};
 ghost use Rattle.fb_types.specs.declared.run.Form.TheVariants.{One};
@@ -15,7 +15,7 @@ use crate::names::{event_name, head_of, shown_by};
 use crate::number::LastNumber;
 use crate::page::{Page, SIZE};
 use crate::pieces::{put_head, put_key, put_values};
-use crate::start::{START, append_bare, append_start};
+use crate::start::{START, append_bare, append_start, append_with_one};
 use fb_system::{Head, System};
 use fb_types::{Form, Line, Ports};
 use std::io::Write;
@@ -123,8 +123,8 @@ fn put_by_names<W: Write>(
     Ok(())
 }
 
-/// Puts a line of form one whose head is kept. The tick is kept as digits. The page has room for all but the values after
-/// the first, so no other piece checks for room.
+/// Puts a line of form one whose head is kept. The tick is kept as digits. The page has room for all but the values
+/// after the first, so no other piece checks for room.
 #[inline(always)]
 fn put_by_head<W: Write>(
     page: &mut Page,
@@ -169,6 +169,26 @@ fn put_any<W: Write>(
     }
 }
 
+/// Puts a line of form one without values in one step, if its head is kept. Otherwise it returns that it has put
+/// nothing.
+#[inline(always)]
+fn append_without_values(page: &mut Page, system: &System, tick: &LastNumber, line: &Line) -> bool
+    requires belongs { BelongsTo system.now line.now }
+    requires tick { tick.now ≡ line.now.key.tick }
+    requires values { line.now.values ≡ [] }
+    requires room { length page.old.waiting + START ≤ SIZE }
+    ensures put { IsTrue result → page.new ≡ record page.old {
+      waiting = page.old.waiting ++ (line_text One system.now (line_of system.now line.now));
+    } }
+    ensures kept { result ≡ false → page.new ≡ page.old }
+{
+    let Some(head) = system.head(head_of(line)) else {
+        return false;
+    };
+    append_bare(page, tick, head);
+    true
+}
+
 /// Puts a line in one step if it can: a line of form one, whose head is kept, with at most one value, if the page has
 /// room for any such line. Otherwise it returns that it has put nothing.
 #[inline(always)]
@@ -183,19 +203,20 @@ fn append_line(page: &mut Page, system: &System, form: Form, tick: &LastNumber, 
     let Form::One = form else {
         return false;
     };
-    let values = line.values.as_slice();
-    if values.len() > 1 || !page.has_room(START + 1) {
+    if !page.has_room(START + 1) {
         return false;
     }
+    // Such a line needs no slice of its values.
+    if line.values.is_empty() {
+        return append_without_values(page, system, tick, line);
+    }
+    let [value] = line.values.as_slice() else {
+        return false;
+    };
     let Some(head) = system.head(head_of(line)) else {
         return false;
     };
-    if values.is_empty() {
-        append_bare(page, tick, head);
-        return true;
-    }
-    append_start(page, tick, head, values);
-    page.append_byte(b'\n');
+    append_with_one(page, tick, head, value);
     true
 }
 

@@ -37,7 +37,7 @@ pub(crate) fn event_name<'a>(ports: &'a Ports, line: &Line) -> &'a [u8]
     }
 }
 
-/// The indices of the variables WITH a line's event, and whether they are inputs or outputs.
+/// The indexes of the variables WITH a line's event, and whether they are inputs or outputs.
 #[derive(Clone, Copy)]
 pub(crate) struct Shown<'a> {
     pub(crate) variables: &'a [Variable],

@@ -15,7 +15,8 @@ use std::marker::Model;
 /// The most bytes that wait.
 pub(crate) const SIZE: usize = 8192;
 
-/// A text of at most this many bytes is short: an empty page has room for three short texts and all that is between them.
+/// A text of at most this many bytes is short: an empty page has room for three short texts and all that is between
+/// them.
 pub(crate) const SHORT: usize = 2048;
 
 /// Text that waits to be written, and the number of bytes that were written before it.
@@ -55,14 +56,14 @@ fn write_all<W: Write>(out: &mut W, bytes: &[u8], written: u128) -> Result<u128,
     Ok(written)
 }
 
-/// The number of bytes that are free after the first ones, which are used.
+/// The number of bytes before the last ones, of which there are `count`.
 #[inline(always)]
-fn free_in(bytes: &[u8; SIZE], used: usize) -> usize
-    requires { used ≤ SIZE }
-    ensures rest { result ≡ SIZE - used }
+fn before_last(bytes: &[u8; SIZE], count: usize) -> usize
+    requires { count ≤ SIZE }
+    ensures rest { result ≡ SIZE - count }
     ensures long { length bytes.now ≡ SIZE }
 {
-    bytes.len() - used
+    bytes.len() - count
 }
 
 impl Page {
@@ -145,7 +146,8 @@ impl Page {
         requires { count ≤ SIZE }
         ensures { IsTrue result ↔ (length self.now.waiting + count ≤ SIZE) }
     {
-        count <= free_in(&self.bytes, self.used)
+        // Callers pass constants, so what is compared with is one.
+        self.used <= before_last(&self.bytes, count)
     }
 
     /// Appends the first bytes of a row. The whole row fits, and is copied: a copy of constant length is faster than one
@@ -263,12 +265,14 @@ impl Page {
 
     /// The row of a small number.
     #[inline(always)]
-    fn digits_of(&mut self, number: usize) -> DigitRow
+    pub(crate) fn digits_of(&mut self, number: usize) -> DigitRow
         requires { number < MOST }
         ensures width { result.width ≤ ROW }
         ensures digits { take result.width result.text ≡ decimal number }
         ensures kept { self.new ≡ self.old }
     {
+        // The call that makes a row returns nothing, and the row is read here: so it stays in registers.
+        self.digits.prepare(number);
         self.digits.row(number)
     }
 

@@ -132,8 +132,8 @@ fn put_long_head<W: Write>(
     page.put(out, event)
 }
 
-/// Puts the head of a line: its tick, the name of a resource, a sign, a path, and the name of an event. If all are short,
-/// the page has room for the whole, and no piece checks for room.
+/// Puts the head of a line: its tick, the name of a resource, a sign, a path, and the name of an event. If all are
+/// short, the page has room for the whole, and no piece checks for room.
 #[inline(always)]
 pub(crate) fn put_head<W: Write>(
     page: &mut Page,
