@@ -4,17 +4,15 @@ use Rattle.std.specs.Prelude.{if◌then◌else◌, option_map, slice_get, unwrap
 use Rattle.std.proofs.lemmas.Option.{slice_get-map, same_Some}
 use Rattle.fb_types.specs.Names.{Name, Path}
 use Rattle.fb_types.specs.Values.{Values}
-use Rattle.fb_types.specs.Blocks.{Kind, Basic, Event, Composite, among, ports, ports_of, variable_names, variables_of}
+use Rattle.fb_types.specs.Blocks.{Kind, Basic, among, ports, ports_of, variable_names, variables_of}
 use Rattle.fb_types.specs.Flat.{kind_of}
 use Rattle.fb_types.specs.Headline.{AreAccepted, Inputs, system_of}
 use Rattle.fb_types.specs.Numbers.{path_at, ports_at}
 use Rattle.fb_types.specs.Simulation.{first_state, opening_block, opening_memory}
 use Rattle.fb_types.specs.States as model
 use Rattle.fb_types.specs.Systems.{System}
-use Rattle.fb_types.specs.declared.event_kind.EventKind.{EventKind}
 use Rattle.fb_types.specs.declared.library.BasicType.{BasicType}
 use Rattle.fb_types.specs.declared.library.BlockType.{BlockType}
-use Rattle.fb_types.specs.declared.library.CompositeType.{CompositeType}
 use Rattle.fb_types.specs.declared.library.Ports.{Ports}
 use Rattle.fb_types.specs.declared.library.State.{State}
 use Rattle.fb_types.specs.declared.library.Variable.{Variable}
@@ -25,15 +23,9 @@ use Rattle.fb_ecc.specs.Opened.{IsOfDeclaration, IsOpened, slot_of}
 use Rattle.fb_ecc.specs.Indexes.{state_at}
 use Rattle.fb_ecc.specs.declared.state.BasicState.{BasicState}
 use Rattle.fb_system.specs.Stimuli.{initial_inputs, initial_outputs}
-use Rattle.fb_net.specs.Worlds.{BasicRepresents, NodeRepresents, ShellRepresents, Represents, ValuesRepresent, begins}
-use Rattle.fb_net.specs.Blocks.{composite_with, own_of}
-use Rattle.fb_net.specs.declared.block.Block.{Block}
-use Rattle.fb_net.specs.declared.block.Block.TheOpen.{Block-F}
-use Rattle.fb_net.specs.declared.block.Block.TheViews.{out-Block, roll-Block}
+use Rattle.fb_net.specs.Worlds.{BasicRepresents, ShellRepresents, ValuesRepresent, begins}
 use Rattle.fb_net.specs.declared.shell.Shell.{Shell}
-use Rattle.fb_event.specs.State as memories
 use Rattle.fb_net.specs.Opening.{AreDeclared, begun_all}
-use Rattle.fb_net.proofs.Components.{out_roll}
 use Rattle.fb_types.proofs.ByIndex.{slice_get-append_left}
 use Rattle.fb_types.proofs.Options.{map_parts}
 use Rattle.fb_types.proofs.Positions.{slice_get-Contains}
@@ -64,37 +56,6 @@ shell_begins sys p s slots published inputs = record {
   published = values_begin sys p (variable_names (ports_at sys p).outputs) s.published published;
   inputs = λ no_basic. values_begin sys p (variable_names (ports_at sys p).inputs) s.inputs (inputs no_basic);
 }
-
--- ---- Blocks by kind
-
-stands_rolled : (sys : System) (p : Path) (x : Block-F Block) (m : model.Block) → NodeRepresents (sys.kind p) x m.memory m.variables → Represents sys p (roll-Block x) m
-stands_rolled sys p x m represents = subst (λ (y : Block-F Block). NodeRepresents (sys.kind p) y m.memory m.variables) (sym (out_roll x)) represents
-
--- what a block without its components is
-own_stands : (sys : System) (p : Path) (b : Block) (x : Block-F Block) (m : model.Block) → out-Block b ≡ x → NodeRepresents (sys.kind p) (composite_with [] x) m.memory m.variables → Represents sys p (own_of b) m
-own_stands sys p b x m is represents =
-    stands_rolled sys p (composite_with [] (out-Block b)) m (subst (λ (y : Block-F Block). NodeRepresents (sys.kind p) (composite_with [] y) m.memory m.variables) (sym is) represents)
-
-pub basic_begins :
-    (sys : System) (p : Path) (t : BasicType) (b : Block) (s : BasicState) → sys.kind p ≡ Some (Basic t) → out-Block b ≡ Block-F.Basic s
-    → BasicRepresents t s (opening_block sys p).memory (opening_block sys p).variables → Represents sys p (own_of b) (opening_block sys p)
-basic_begins sys p t b s kind is represents =
-    let m = opening_block sys p in
-    own_stands sys p b (Block-F.Basic s) m is (subst (λ (k : Option Kind). NodeRepresents k (Block-F.Basic s) m.memory m.variables) (sym kind) represents)
-
-pub event_begins :
-    (sys : System) (p : Path) (k : EventKind) (b : Block) (s : memories.State) → sys.kind p ≡ Some (Event k) → out-Block b ≡ Block-F.Event s
-    → s.kind ≡ k → model.Remembers s.memory ≡ opening_memory (Some (Event k)) → Represents sys p (own_of b) (opening_block sys p)
-event_begins sys p k b s kind is of_kind memory =
-    let m = opening_block sys p in
-    own_stands sys p b (Block-F.Event s) m is (subst (λ (k : Option Kind). NodeRepresents k (Block-F.Event s) m.memory m.variables) (sym kind)
-    (record { is_kind = of_kind; memory = ap opening_memory kind ∙ sym memory }))
-
-pub composite_begins :
-    (sys : System) (p : Path) (t : CompositeType) (b : Block) (bs : List Block) → sys.kind p ≡ Some (Composite t) → out-Block b ≡ Block-F.Composite bs → Represents sys p (own_of b) (opening_block sys p)
-composite_begins sys p t b bs kind is =
-    let m = opening_block sys p in
-    own_stands sys p b (Block-F.Composite bs) m is (subst (λ (k : Option Kind). NodeRepresents k (Block-F.Composite []) m.memory m.variables) (sym kind) (ap opening_memory kind))
 
 -- ---- Basic blocks
 

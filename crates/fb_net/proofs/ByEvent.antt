@@ -1,5 +1,5 @@
 -- Taking an event is what the model makes of it, by what the event is.
-use Rattle.std.proofs.Common.{◌≡◌, ℕ, Bool, true, false, cond, List, map, refl, sym, ap, subst, ◌∙◌}
+use Rattle.std.proofs.Common.{◌≡◌, ℕ, List, map, refl, sym, ap, subst, ◌∙◌}
 use Rattle.std.specs.Prelude.{None, Option, Some, Result, Ok, Err, IfErr, OnOk}
 use Rattle.std.specs.Option.{option_map}
 use Rattle.std.proofs.lemmas.List.{append-nil}
@@ -8,7 +8,7 @@ use Rattle.fb_types.specs.EventBlocks as blocks
 use Rattle.fb_types.specs.Flat.{kind_of}
 use Rattle.fb_types.specs.Headline.{Inputs, system_of}
 use Rattle.fb_types.specs.Names.{Path, Port}
-use Rattle.fb_types.specs.Numbers.{carried_of, emission_of, event_input, event_output, line_of, path_at, port_of, ports_at}
+use Rattle.fb_types.specs.Numbers.{carried_of, emission_of, line_of, path_at, port_of, ports_at}
 use Rattle.fb_types.specs.Reactions.{Outcome, Reacts, ReactsAt, World, emissions, emitted_all, expires, hold_all, remembered, silent, with_slots}
 use Rattle.fb_types.specs.States.{Stimulated, path_of}
 use Rattle.fb_types.specs.States as model
@@ -43,16 +43,8 @@ use Rattle.fb_net.specs.Arrivals.{Arrives, ComesTo, HasReacted, ReactedIn, AreTy
 use Rattle.fb_net.specs.Events.{Came, HasTaken, event_of, stimulated}
 use Rattle.fb_net.specs.Steps.{AreKept}
 use Rattle.fb_net.proofs.Crossing.{answered-left, answered-stop}
+use Rattle.fb_net.proofs.PortRows.{path-of_port}
 use Rattle.fb_net.proofs.Sampling.{ports-of_kind}
-
--- ---- The instance of a port
-
-path-of_port : (sys : System) (at : Target) → (port_of sys at).at ≡ path_at sys at.instance
-path-of_port sys at = go at.is_output
-  where
-    go : (b : Bool) → (cond b (event_output sys at.instance at.event) (event_input sys at.instance at.event)).at ≡ path_at sys at.instance
-    go true = refl
-    go false = refl
 
 -- ---- From the arrival to the taking
 

@@ -1,5 +1,5 @@
 -- The charts that the blocks of a resource share.
-use Rattle.std.proofs.Common.{◌≡◌, ℕ, true, false, cond, [], ◌⊎◌, Some, None, refl, sym, ◌∙◌, ap, subst, inl, inr}
+use Rattle.std.proofs.Common.{◌≡◌, ℕ, true, false, cond, nat_eq, [], ◌⊎◌, Some, None, refl, sym, ◌∙◌, ap, subst, inl, inr, arith}
 use Rattle.std.specs.Prelude.{slice_get, IfSome}
 use Rattle.std.specs.BTreeMap.{get, is_at}
 use Rattle.std.specs.Map.{lookup}
@@ -10,8 +10,8 @@ use Rattle.fb_types.specs.declared.library.BlockType.TheVariants as block
 use Rattle.fb_ecc.specs.Programs.{IsSharedOf}
 use Rattle.fb_ecc.specs.declared.shared.Shared.{Shared}
 use Rattle.fb_net.specs.Opening.{AreCharts, Charts, ChartsGrow}
+use Rattle.std.proofs.lemmas.Bool.Decides.{nat_tests}
 use Rattle.std.proofs.lemmas.Option.{same_Some}
-use Rattle.fb_net.proofs.Copies.{nat_same}
 
 pub no_charts : (i : Inputs) (charts : Charts) → charts.entries ≡ [] → AreCharts i charts
 no_charts i charts empty index t c here there =
@@ -28,9 +28,11 @@ known_chart i charts index t are here =
       | Some c ↦ λ e. are index t c here e
     ] refl
 
--- .. and what was there is all that is there
-pub charts_stay : (charts : Charts) (index : ℕ) (t : BasicType) → ChartsGrow charts index t charts
-charts_stay charts index t q c there = inl there
+is_eq-nat_cmp : (m n : ℕ) → is_eq (nat_cmp m n) ≡ nat_eq m n
+is_eq-nat_cmp m n = grind (arith, nat_tests)
+
+nat_same : (m n : ℕ) → is_eq (nat_cmp m n) ≡ true → m ≡ n
+nat_same m n h = let e : nat_eq m n ≡ true = sym (is_eq-nat_cmp m n) ∙ h in grind (arith, nat_tests)
 
 -- a chart more, of the type at the index
 pub chart_more :

@@ -23,14 +23,6 @@ in_composite (Block-F.Composite b) bs cs c e = refl
 pub components_of-with : (b : Block) (bs cs : List Block) (c : Block) → components_of b ≡ c ∷ cs → components_of (with_components b bs) ≡ bs
 components_of-with b bs cs c e = ap components_in (out_roll (composite_with bs (out-Block b))) ∙ in_composite (out-Block b) bs cs c e
 
-same_composite : (x : Block-F Block) → composite_with (components_in x) x ≡ x
-same_composite (Block-F.Basic b) = refl
-same_composite (Block-F.Event b) = refl
-same_composite (Block-F.Composite b) = refl
-
-pub with_same_components : (b : Block) → with_components b (components_of b) ≡ b
-with_same_components b = ap roll-Block (same_composite (out-Block b)) ∙ roll_out b
-
 last_composite : (x : Block-F Block) (bs : List Block) → composite_with [] (composite_with bs x) ≡ composite_with [] x
 last_composite (Block-F.Basic b) bs = refl
 last_composite (Block-F.Event b) bs = refl

@@ -1,12 +1,7 @@
 -- Held copies before the first event.
-use Rattle.std.proofs.Common.{◌≡◌, ◌≢◌, ℕ, ◌<◌, ◌+◌, Bool, true, false, cond, nat_eq, List, [], ◌∷◌, ◌++◌, map, length, Option, Some, None, refl, sym, ◌∙◌, ap, subst, inl, inr, arith}
+use Rattle.std.proofs.Common.{◌≡◌, ◌≢◌, ℕ, ◌<◌, ◌+◌, Bool, true, false, List, [], ◌∷◌, ◌++◌, map, length, Option, Some, None, refl, sym, ◌∙◌, ap, subst, inl, inr, arith}
 use Rattle.std.specs.Prelude.{if◌then◌else◌, option_map, position, slice_get, unwrap_or}
-use Rattle.std.specs.BTreeMap.{get}
-use Rattle.std.specs.Ordering.{bool_cmp, is_eq, nat_cmp, ordering_then}
-use Rattle.std.specs.declared.cmp.Ordering.{Ordering}
-use Rattle.std.specs.declared.cmp.Ordering.TheVariants as order
-use Rattle.std.proofs.lemmas.Bool.{cases_lt}
-use Rattle.std.proofs.lemmas.Bool.Decides.{nat_tests}
+use Rattle.std.proofs.lemmas.Bool.{cases_eq, cases_lt}
 use Rattle.std.proofs.lemmas.Option.{slice_get-map, same_Some}
 use Rattle.fb_types.specs.Names.{Name, Port, same_name}
 use Rattle.fb_types.specs.Blocks.{Kind, ports, ports_of, variable_names}
@@ -19,72 +14,17 @@ use Rattle.fb_types.specs.declared.value.Value.{Value}
 use Rattle.fb_types.proofs.Positions.{position_of_once}
 use Rattle.fb_types.specs.declared.run.InstanceVariable.{InstanceVariable}
 use Rattle.fb_system.specs.Ports.{IsVariable, variable_of, variables_at}
-use Rattle.fb_net.specs.Worlds.{key_cmp, key_of}
-use Rattle.fb_net.specs.Opening.{Covers, CoversIndexes, Held, KeepsCovers}
+use Rattle.fb_system.specs.Stimuli.{initial_inputs, initial_outputs}
+use Rattle.fb_types.specs.Systems.{System}
+use Rattle.fb_net.specs.HeldAt.{IsAdded, IsSet, held_at, place_of}
+use Rattle.fb_net.specs.Opening.{Covers, CoversIndexes, KeepsCovers, KeepsInitial}
+use Rattle.fb_net.specs.declared.held_copies.HeldCopies.{HeldCopies}
+use Rattle.fb_net.proofs.HeldRows.{place_once}
+use Rattle.fb_net.proofs.Shown.{name_there, variable_is}
+use Rattle.fb_net.proofs.Writing.{AreNumbered}
+use Rattle.fb_net.proofs.Shown.{name_is as shown_name}
 use Rattle.fb_types.proofs.ByIndex.{slice_get-append_left, slice_get-after, element_at}
 use Rattle.fb_net.proofs.Known.{kind_once, kind_there, known_of, once_of, stood}
-
--- ---- Keys
-
-is_eq-nat_cmp : (m n : ℕ) → is_eq (nat_cmp m n) ≡ nat_eq m n
-is_eq-nat_cmp m n = grind (arith, nat_tests)
-
-pub nat_same : (m n : ℕ) → is_eq (nat_cmp m n) ≡ true → m ≡ n
-nat_same m n h = let e : nat_eq m n ≡ true = sym (is_eq-nat_cmp m n) ∙ h in grind (arith, nat_tests)
-
-nat_itself : (m : ℕ) → is_eq (nat_cmp m m) ≡ true
-nat_itself m = is_eq-nat_cmp m m ∙ (let e : nat_eq m m ≡ true = grind (arith, nat_tests) in e)
-
-bool_same : (a b : Bool) → is_eq (bool_cmp a b) ≡ true → a ≡ b
-bool_same true true h = refl
-bool_same true false h = absurd (cc)
-bool_same false true h = absurd (cc)
-bool_same false false h = refl
-
-bool_itself : (a : Bool) → is_eq (bool_cmp a a) ≡ true
-bool_itself true = refl
-bool_itself false = refl
-
-then_first : (r s : Ordering) → is_eq (ordering_then r s) ≡ true → is_eq r ≡ true
-then_first order.Less s h = absurd (cc)
-then_first order.Equal s h = refl
-then_first order.Greater s h = absurd (cc)
-
-then_second : (r s : Ordering) → is_eq (ordering_then r s) ≡ true → is_eq s ≡ true
-then_second order.Less s h = absurd (cc)
-then_second order.Equal s h = h
-then_second order.Greater s h = absurd (cc)
-
-then_both : (r s : Ordering) → is_eq r ≡ true → is_eq s ≡ true → is_eq (ordering_then r s) ≡ true
-then_both order.Less s h g = absurd (cc)
-then_both order.Equal s h g = g
-then_both order.Greater s h g = absurd (cc)
-
-key_same : (x y : InstanceVariable) → is_eq (key_cmp (key_of x) (key_of y)) ≡ true → x ≡ y
-key_same x y h =
-    let inner = ordering_then (nat_cmp x.variable y.variable) (bool_cmp x.is_output y.is_output) in
-    let rest = then_second (nat_cmp x.instance y.instance) inner h in
-    let a = nat_same x.instance y.instance (then_first (nat_cmp x.instance y.instance) inner h) in
-    let b = nat_same x.variable y.variable (then_first (nat_cmp x.variable y.variable) (bool_cmp x.is_output y.is_output) rest) in
-    let c = bool_same x.is_output y.is_output (then_second (nat_cmp x.variable y.variable) (bool_cmp x.is_output y.is_output) rest) in
-    λ j. record { instance = a j; variable = b j; is_output = c j }
-
-key_itself : (x : InstanceVariable) → is_eq (key_cmp (key_of x) (key_of x)) ≡ true
-key_itself x =
-    then_both (nat_cmp x.instance x.instance) (ordering_then (nat_cmp x.variable x.variable) (bool_cmp x.is_output x.is_output)) (nat_itself x.instance)
-    (then_both (nat_cmp x.variable x.variable) (bool_cmp x.is_output x.is_output) (nat_itself x.variable) (bool_itself x.is_output))
-
--- the comparison of a triple takes its first two parts first
-abbrev pub left_cmp : ℕ × ℕ × Bool → ℕ × ℕ × Bool → Ordering
-left_cmp a b = ordering_then (ordering_then (nat_cmp a.0 b.0) (nat_cmp a.1 b.1)) (bool_cmp a.2 b.2)
-
-then_assoc : (r s t : Ordering) → ordering_then (ordering_then r s) t ≡ ordering_then r (ordering_then s t)
-then_assoc order.Less s t = refl
-then_assoc order.Equal s t = refl
-then_assoc order.Greater s t = refl
-
-left_is : left_cmp ≡ key_cmp
-left_is = λ j a b. then_assoc (nat_cmp a.0 b.0) (nat_cmp a.1 b.1) (bool_cmp a.2 b.2) j
 
 -- ---- A variable is known by its port
 
@@ -140,11 +80,7 @@ abbrev ports_by : Option Kind → Ports
 ports_by None = ports [] [] [] []
 ports_by (Some k) = ports_of k
 
--- what a system keeps of its numbers
-abbrev pub Numbered : Inputs → Type 0
-Numbered i = (k : ℕ) → k < length (system_of i).paths → (system_of i).number (path_at (system_of i) k) ≡ k
-
-module _ (i : Inputs) (accepted : AreAccepted i) (numbered : Numbered i) where
+module _ (i : Inputs) (accepted : AreAccepted i) (numbered : AreNumbered i) where
   ports_once : (k : ℕ) → k < length (system_of i).paths →
       ¬ (Twice (variable_names (ports_at (system_of i) (path_at (system_of i) k)).inputs ++ variable_names (ports_at (system_of i) (path_at (system_of i) k)).outputs))
   ports_once k h =
@@ -191,27 +127,68 @@ module _ (i : Inputs) (accepted : AreAccepted i) (numbered : Numbered i) where
 
   -- ---- A copy more
 
-  module _ (r : ℕ) (old new : Held) (s : InstanceVariable) (v : Value) (is : IsVariable (system_of i) s) (value : v ≡ (system_of i).initial (variable_of (system_of i) s))
-      (written : (q : ℕ × ℕ × Bool) → get left_cmp new q ≡ cond (is_eq (left_cmp (key_of s) q)) (Some v) (get left_cmp old q)) where
-    updates : (q : ℕ × ℕ × Bool) → get key_cmp new q ≡ cond (is_eq (key_cmp (key_of s) q)) (Some v) (get key_cmp old q)
-    updates q =
-        subst (λ (cmp : ℕ × ℕ × Bool → ℕ × ℕ × Bool → Ordering). get cmp new q ≡ cond (is_eq (cmp (key_of s) q)) (Some v) (get cmp old q)) left_is (written q)
-
+  module _ (r : ℕ) (old new : HeldCopies) (s : InstanceVariable) (is : IsVariable (system_of i) s) (there : held_at new s ≡ Some ((system_of i).initial (variable_of (system_of i) s))) where
     pub held_covers : (to : InstanceVariable) → option_map (variable_of (system_of i)) (Some s) ≡ (system_of i).source (variable_of (system_of i) to) → Covers i r new to
     held_covers to comes x hx from outside =
         let same : s ≡ x = variable_once s x is hx (same_Some (variable_of (system_of i) s) (variable_of (system_of i) x) (comes ∙ from)) in
-        updates (key_of x)
-        ∙ ap (λ b. cond b (Some v) (get key_cmp old (key_of x))) (ap (λ (z : InstanceVariable). is_eq (key_cmp (key_of z) (key_of x))) same ∙ key_itself x)
-        ∙ ap (λ (w : Value). Some w) (value ∙ ap (λ (z : InstanceVariable). (system_of i).initial (variable_of (system_of i) z)) same)
+        subst (λ (z : InstanceVariable). held_at new z ≡ Some ((system_of i).initial (variable_of (system_of i) z))) same there
 
-    pub held_keeps : KeepsCovers i r old new
-    held_keeps to covers x hx from outside =
-        updates (key_of x)
-        ∙ (elim (is_eq (key_cmp (key_of s) (key_of x))) as
-        (λ b. is_eq (key_cmp (key_of s) (key_of x)) ≡ b → cond b (Some v) (get key_cmp old (key_of x)) ≡ Some ((system_of i).initial (variable_of (system_of i) x))) [
-          | true ↦ λ e. ap (λ (w : Value). Some w) (value ∙ ap (λ (z : InstanceVariable). (system_of i).initial (variable_of (system_of i) z)) (key_same s x e))
-          | false ↦ λ e. covers x hx from outside
-        ] refl)
+-- what keeps initial values keeps copies
+pub held_keeps : (i : Inputs) (r : ℕ) (old new : HeldCopies) → KeepsInitial i old new → KeepsCovers i r old new
+held_keeps i r old new keeps to covers x hx from outside = keeps x hx (covers x hx from outside)
+
+-- ---- What the variables on a side of an instance begin with
+
+abbrev starts : System → InstanceVariable → List Value
+starts sys x = if x.is_output then initial_outputs sys (path_at sys x.instance) else initial_inputs sys (path_at sys x.instance)
+
+side_starts : (sys : System) (x : InstanceVariable) → starts sys x ≡ map (λ n. sys.initial (record { at = path_at sys x.instance; name = n })) (variable_names (variables_at sys x))
+side_starts sys x = of x.is_output
+  where
+    of : (o : Bool) → starts sys (record x { is_output = o }) ≡ map (λ n. sys.initial (record { at = path_at sys x.instance; name = n })) (variable_names (variables_at sys (record x { is_output = o })))
+    of true = refl
+    of false = refl
+
+-- the value of one of them
+starts_there : (sys : System) (x y : InstanceVariable) → place_of y ≡ place_of x → IsVariable sys y → (vs : List Value) → vs ≡ starts sys x → slice_get vs y.variable ≡ Some (sys.initial (variable_of sys y))
+starts_there sys x y place is vs start =
+    let once = place_once x y (sym place) in
+    let same : starts sys x ≡ starts sys y = λ j. starts sys (record { instance = once.0 j; variable = y.variable; is_output = once.1 j }) in
+    let its : Name → Value = λ n. sys.initial (record { at = path_at sys y.instance; name = n }) in
+    ap (λ (ws : List Value). slice_get ws y.variable) (start ∙ same ∙ side_starts sys y)
+    ∙ slice_get-map its (variable_names (variables_at sys y)) y.variable
+    ∙ ap (option_map its) (name_there sys y is)
+    ∙ ap (λ (q : Port). Some (sys.initial q)) (ap (λ (m : Name). record { at = path_at sys y.instance; name = m }) (shown_name sys y) ∙ sym (variable_is sys y))
+
+-- a side more has its copies
+pub side_starts_so : (i : Inputs) (old new : HeldCopies) (x : InstanceVariable) → IsVariable (system_of i) x → (vs : List Value) → vs ≡ starts (system_of i) x → IsAdded old x vs new
+    → held_at new x ≡ Some ((system_of i).initial (variable_of (system_of i) x))
+side_starts_so i old new x is vs start added = added.here x refl ∙ starts_there (system_of i) x x refl is vs start
+
+pub side_keeps : (i : Inputs) (old new : HeldCopies) (x : InstanceVariable) (vs : List Value) → vs ≡ starts (system_of i) x → IsAdded old x vs new → KeepsInitial i old new
+side_keeps i old new x vs start added y is was =
+    elim (cases_eq (place_of y) (place_of x)) [
+      | inl same ↦ added.here y same ∙ starts_there (system_of i) x y same is vs start
+      | inr other ↦ added.elsewhere y other ((system_of i).initial (variable_of (system_of i) y)) was
+    ]
+
+-- .. and a copy that begins again
+pub set_starts : (i : Inputs) (old new : HeldCopies) (x : InstanceVariable) (v u : Value) → v ≡ (system_of i).initial (variable_of (system_of i) x) → Some u ≡ held_at old x → IsSet old x v new
+    → held_at new x ≡ Some ((system_of i).initial (variable_of (system_of i) x))
+set_starts i old new x v u start was set = set.here u (sym was) ∙ ap (λ (w : Value). Some w) start
+
+pub set_keeps : (i : Inputs) (old new : HeldCopies) (x : InstanceVariable) (v u : Value) → v ≡ (system_of i).initial (variable_of (system_of i) x) → Some u ≡ held_at old x → IsSet old x v new → KeepsInitial i old new
+set_keeps i old new x v u start was set y is before =
+    elim (cases_eq (place_of y) (place_of x)) [
+      | inr other ↦ set.elsewhere y (λ (e : y ≡ x). other (ap place_of e)) ∙ before
+      | inl same ↦ elim (cases_eq y.variable x.variable) [
+        | inr other ↦ set.elsewhere y (λ (e : y ≡ x). other (ap (λ (z : InstanceVariable). z.variable) e)) ∙ before
+        | inl there ↦
+            let once = place_once x y (sym same) in
+            let e : x ≡ y = λ j. record { instance = once.0 j; variable = sym there j; is_output = once.1 j } in
+            subst (λ (z : InstanceVariable). held_at new z ≡ Some ((system_of i).initial (variable_of (system_of i) z))) e (set_starts i old new x v u start was set)
+      ]
+    ]
 
 -- ---- The steps of the loops
 
@@ -227,17 +204,17 @@ pub within_side :
     → IsVariable (system_of i) (record { instance = k; variable = v; is_output = o }) → v < length vs
 within_side i k v o vs e is = subst (λ (ws : List Variable). v < length ws) (sym e) is.variable
 
-module _ (i : Inputs) (r n : ℕ) (old : Held) where
+module _ (i : Inputs) (r n : ℕ) (old : HeldCopies) where
   abbrev BelowCovered : Type 0
   BelowCovered =
       (to : InstanceVariable) → to.instance < n → IsVariable (system_of i) to → (system_of i).resource (path_at (system_of i) to.instance) ≡ r → Covers i r old to
 
-  side_covered : (held : Held) → CoversIndexes i r held n false → CoversIndexes i r held n true → (v : ℕ) (o : Bool)
+  side_covered : (held : HeldCopies) → CoversIndexes i r held n false → CoversIndexes i r held n true → (v : ℕ) (o : Bool)
       → IsVariable (system_of i) (record { instance = n; variable = v; is_output = o }) → Covers i r held (record { instance = n; variable = v; is_output = o })
   side_covered held ins outs v true is = outs v is
   side_covered held ins outs v false is = ins v is
 
-  pub instance_covered : (a b : Held) → BelowCovered → CoversIndexes i r a n false → KeepsCovers i r old a → CoversIndexes i r b n true → KeepsCovers i r a b →
+  pub instance_covered : (a b : HeldCopies) → BelowCovered → CoversIndexes i r a n false → KeepsCovers i r old a → CoversIndexes i r b n true → KeepsCovers i r a b →
       (to : InstanceVariable) → to.instance < n + 1 → IsVariable (system_of i) to → (system_of i).resource (path_at (system_of i) to.instance) ≡ r → Covers i r b to
   instance_covered a b before ins first outs second to h is lies =
       elim (cases_lt to.instance n) [

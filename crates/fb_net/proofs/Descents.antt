@@ -13,12 +13,6 @@ block_at-nothing [] = refl
 block_at-nothing (p ∷ []) = refl
 block_at-nothing (p ∷ (q ∷ r)) = refl
 
--- a way begins at a block
-pub begun : (blocks : List Block) (first : ℕ) (rest : List ℕ) (x : Block) → slice_get blocks first ≡ None → block_at blocks (first ∷ rest) ≡ Some x → ⊥
-begun blocks first [] x none stood = cc
-begun blocks first (next ∷ rest) x none stood =
-    let missing : None ≡ Some x = ap (option_and_then (λ b. block_at (components_of b) (next ∷ rest))) (sym none) ∙ stood in cc
-
 module _ (blocks : List Block) (first : ℕ) (b : Block) (represents : slice_get blocks first ≡ Some b) where
   below : (rest : List ℕ) → 1 ≤ length rest → block_at blocks (first ∷ rest) ≡ block_at (components_of b) rest
   below [] more = absurd (omega (arith, more))
@@ -28,27 +22,10 @@ module _ (blocks : List Block) (first : ℕ) (b : Block) (represents : slice_get
   put_below [] w more = absurd (omega (arith, more))
   put_below (next ∷ rest) w more = ap (put_back blocks first (λ a. with_components a (put_at (components_of a) (next ∷ rest) w))) represents
 
-  -- a block without components ends the way
-  pub ends_here : (rest : List ℕ) (x : Block) → components_of b ≡ [] → block_at blocks (first ∷ rest) ≡ Some x → (rest ≡ []) × (b ≡ x)
-  ends_here [] x leaf stood = (refl, let same : b ≡ x = cc in same)
-  ends_here (next ∷ rest) x leaf stood =
-      let missing : None ≡ Some x = sym (block_at-nothing (next ∷ rest)) ∙ ap (λ cs. block_at cs (next ∷ rest)) (sym leaf) ∙ sym (below (next ∷ rest) (omega arith)) ∙ stood in cc
-
-  -- the way ends at a block
-  pub stands_here : (rest : List ℕ) (x : Block) → length rest ≡ 0 → block_at blocks (first ∷ rest) ≡ Some x → b ≡ x
-  stands_here [] x none stood = cc
-  stands_here (next ∷ rest) x none stood = absurd (omega (arith, none))
-
 -- a list of one and more, as it is matched
 pub parted : (rest : List ℕ) → 1 ≤ length rest → get_or rest 0 0 ∷ take (length rest - 1) (drop 1 rest) ≡ rest
 parted [] more = absurd (omega (arith, more))
 parted (p ∷ ps) more = ap (λ qs. p ∷ qs) (take_rest (p ∷ ps) 1)
-
--- the way goes on among the components
-pub stands_below : (blocks : List Block) (first : ℕ) (rest : List ℕ) (b x : Block) (inner : List Block) → slice_get blocks first ≡ Some b → 1 ≤ length rest → inner ≡ components_of b →
-    block_at blocks (first ∷ rest) ≡ Some x → block_at inner (get_or rest 0 0 ∷ take (length rest - 1) (drop 1 rest)) ≡ Some x
-stands_below blocks first rest b x inner represents more is stood =
-    ap (block_at inner) (parted rest more) ∙ ap (λ cs. block_at cs rest) is ∙ sym (below blocks first b represents rest more) ∙ stood
 
 module _ {R : Type 0} (Ends : Block → R → Block → Type 0) (blocks : List Block) (first : ℕ) (rest : List ℕ) (b : Block) (represents : slice_get blocks first ≡ Some b) where
   -- the block at the end of the way becomes another one

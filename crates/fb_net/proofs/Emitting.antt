@@ -1,6 +1,6 @@
 -- What the emission of output events makes of a world, of the lines and of what goes out.
 use Rattle.std.proofs.Common.{◌≡◌, ℕ, ◌<◌, false, List, [], ◌∷◌, ◌++◌, map, length, refl, sym, ap, subst, ◌∙◌, suc, append_assoc, arith}
-use Rattle.std.specs.Prelude.{All, None, Some, slice_get}
+use Rattle.std.specs.Prelude.{All, None, Some, slice_get, slice_index_or}
 use Rattle.std.proofs.lemmas.List.{map-append}
 use Rattle.std.proofs.lemmas.Option.{none-some}
 use Rattle.std.proofs.lemmas.List.Elements.{All-append, All-push}
@@ -49,6 +49,13 @@ one_carried k index (u ∷ values) v first =
 pub none_carried : (k index : ℕ) (values : List Value) → None ≡ slice_get values 0 → carried_by k (index ∷ []) values ≡ []
 none_carried k index [] first = refl
 none_carried k index (u ∷ values) first = absurd (none-some u first)
+
+-- the value that is carried alone
+pub carried_only : (k : ℕ) (indexes : List ℕ) (values : List Value) (v : Value) → length indexes ≡ 1 → Some v ≡ slice_get values 0
+    → carried_by k indexes values ≡ record { instance = k; variable = slice_index_or indexes 0 0; value = v } ∷ []
+carried_only k [] values v one first = absurd (omega (arith, one))
+carried_only k (index ∷ []) values v one first = one_carried k index values v first
+carried_only k (index ∷ next ∷ more) values v one first = absurd (omega (arith, one))
 
 -- each element is among the first list's, or among the others
 all_first : {A : Type 0} (P : A → Type 0) (x : A) (xs : List A) → P x → All P xs → All P (x ∷ xs)

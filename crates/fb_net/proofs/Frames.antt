@@ -1,5 +1,5 @@
 -- The variables of a basic block get the values that they begin with.
-use Rattle.std.proofs.Common.{◌≡◌, ℕ, ◌<◌, ◌≤◌, ◌+◌, zero, suc, Bool, List, [], ◌∷◌, map, length, drop, get_or, true, false, cond, Option, Some, None, Contains, refl, sym, ◌∙◌, ap, subst, arith}
+use Rattle.std.proofs.Common.{◌≡◌, ℕ, ◌<◌, ◌+◌, zero, suc, Bool, List, [], ◌∷◌, map, length, drop, get_or, true, false, cond, Option, Some, None, Contains, refl, sym, ◌∙◌, ap, subst, arith}
 use Rattle.std.specs.Prelude.{◌||◌, if◌then◌else◌, option_and_then, option_map, slice_get}
 use Rattle.std.proofs.lemmas.Bool.{true≢false}
 use Rattle.std.proofs.lemmas.Option.{slice_get-get_or, slice_get-map}
@@ -38,21 +38,6 @@ begun_step inputs values k x v m h g =
     let e : k + 1 ≡ suc k = omega arith in
     rw e
     (step (variable_names inputs) values k x.name v m (slice_get-map (λ (v : Variable). v.name) inputs k ∙ ap (λ (o : Option Variable). elim o [ None ↦ None | Some v ↦ Some v.name ]) h) g)
-
-drop_all : {A : Type 0} (xs : List A) (k : ℕ) → length xs ≤ k → drop k xs ≡ []
-drop_all [] zero h = refl
-drop_all [] (suc k) h = refl
-drop_all (x ∷ xs) zero h = absurd (omega (arith, h))
-drop_all (x ∷ xs) (suc k) h = drop_all xs k (omega (arith, h))
-
-names_long : (vs : List Variable) → length (variable_names vs) ≡ length vs
-names_long [] = refl
-names_long (v ∷ vs) = ap suc (names_long vs)
-
-pub begun_end : (inputs : List Variable) (values : List Value) (k : ℕ) (m : Values) → length inputs ≤ k → begun_all (drop k (variable_names inputs)) (drop k values) m ≡ m
-begun_end inputs values k m h =
-    ap (λ (ns : List Name). begun_all ns (drop k values) m)
-    (drop_all (variable_names inputs) k (let long = names_long inputs in omega (arith, h, long)))
 
 -- ---- What a name has then
 

@@ -1,59 +1,62 @@
 -- Where an event goes from a port, target after target.
-use Rattle.std.proofs.Common.{◌≡◌, ◌≢◌, ℕ, suc, ◌+◌, ◌<◌, ◌≤◌, Bool, true, false, cond, eqb, List, [], ◌∷◌, ◌++◌, map, take, length, get_or, Option, Some, None, refl, sym, ap, subst, ◌∙◌, inl, inr, append_assoc, arith}
+use Rattle.std.proofs.Common.{◌≡◌, ℕ, suc, ◌+◌, ◌<◌, ◌≤◌, ◌≢◌, ◌==◌, Bool, true, false, List, [], ◌∷◌, ◌++◌, map, take, length, get_or, Option, Some, None, refl, sym, ap, subst, ◌∙◌, inl, inr, append_assoc, arith}
 use mathlib.Core.Bool.{false≢true, not}
-use Rattle.std.specs.Prelude.{◌↔◌, All, IsTrue, option_map, slice_get}
-use Rattle.std.proofs.lemmas.Bool.{eq-eqb, ne_eqb, cases_lt}
+use Rattle.std.specs.Prelude.{◌↔◌, All, IsTrue, if◌then◌else◌, option_map, slice_get}
+use Rattle.std.proofs.lemmas.Bool.{cases_lt}
+use Rattle.std.proofs.lemmas.Bool.Decides.{nat_tests}
 use Rattle.std.proofs.lemmas.List.{append-nil, length-append, map-append, take_all, take_more}
 use Rattle.std.proofs.lemmas.List.Elements.{All-push}
 use Rattle.std.proofs.lemmas.Option.{get_or_from_slice_get, slice_get-get_or, slice_get_within}
 use Rattle.fb_types.specs.Names.{Port}
-use Rattle.fb_types.specs.Numbers.{carried_of, event_input, event_output, path_at, port_of}
+use Rattle.fb_types.specs.Numbers.{carried_of, path_at, port_of}
 use Rattle.fb_types.specs.Reactions as reactions
 use Rattle.fb_types.specs.Reactions.{spread}
 use Rattle.fb_types.specs.Systems.{System}
-use Rattle.fb_types.specs.declared.run.Carried.{Carried}
-use Rattle.fb_types.specs.declared.run.Target.{Target}
 use Rattle.fb_system.specs.declared.next_target.NextTarget.{NextTarget}
+use Rattle.fb_types.specs.declared.run.Carried.{Carried}
 use Rattle.fb_types.specs.declared.value.Value.{Value}
-use Rattle.fb_system.specs.Ports.{IsCarried, IsTarget}
-use Rattle.fb_net.specs.Emitting.{GoesTo, others, out_at}
+use Rattle.fb_system.specs.Ports.{AreTogether, IsCarried, IsTarget, link_of}
+use Rattle.fb_net.specs.Emitting.{GoesTo, PutsOut, message_to, others, out_at, out_to}
 use Rattle.fb_net.specs.Outs.{IsOut, out_of}
 use Rattle.fb_net.specs.declared.outbox.Out.{Out}
-use Rattle.fb_net.specs.declared.outbox.Out.TheVariants.{Local, Send}
-use Rattle.fb_net.specs.declared.outbox.OutgoingMessage.{OutgoingMessage}
+use Rattle.fb_net.specs.declared.outbox.Out.TheVariants.{Local}
+use Rattle.fb_net.proofs.PortRows.{path-of_port}
 
 -- ---- One target
 
-port_at : (sys : System) (t : Target) → (port_of sys t).at ≡ path_at sys t.instance
-port_at sys t = go t.is_output
+-- a local event where the target is in the same resource, and else a message
+pub kept_to : (n : NextTarget) (vs : List Carried) → n.here ≡ true → out_to n vs ≡ Local n.target
+kept_to n vs e = ap (λ b. if b then Local n.target else message_to n vs) e
+
+pub sent_to : (n : NextTarget) (vs : List Carried) → n.here ≡ false → out_to n vs ≡ message_to n vs
+sent_to n vs e = ap (λ b. if b then Local n.target else message_to n vs) e
+
+-- What is put out by the row of a target goes out to it.
+pub puts_out :
+    (sys : System) (from : ℕ) (n : NextTarget) (vs : List Carried) (before outs : List Out) → IsTarget sys n.target → IsTrue n.here ↔ AreTogether sys n.target.instance from
+    → n.link ≡ link_of sys from n.target.instance → All (IsCarried sys) vs → outs ≡ before ++ out_to n vs ∷ []
+    → PutsOut sys (sys.resource (path_at sys from)) (map (carried_of sys) vs) (port_of sys n.target) before outs
+puts_out sys from n vs before outs target here link each is = (out_to n vs, by n.here refl, is)
   where
-    go : (b : Bool) → (cond b (event_output sys t.instance t.event) (event_input sys t.instance t.event)).at ≡ path_at sys t.instance
-    go true = refl
-    go false = refl
-
-pub goes_local :
-    (sys : System) (r : ℕ) (carried : List (Port × Value)) (t : Target) → IsTarget sys t → sys.resource (path_at sys t.instance) ≡ r
-    → GoesTo sys r carried (port_of sys t) (Local t)
-goes_local sys r carried t target here =
-    let same : eqb (sys.resource (port_of sys t).at) r ≡ true = eq-eqb (sys.resource (port_of sys t).at) r (ap sys.resource (port_at sys t) ∙ here) in
-    record {
-      is = sym (ap (λ b. cond b (reactions.Local (port_of sys t)) (reactions.Sends (port_of sys t) carried)) same);
-      belongs = record { target = target; here = here };
-    }
-
-pub goes_away :
-    (sys : System) (r : ℕ) (carried : List Carried) (s : OutgoingMessage) → IsTarget sys s.target → sys.resource (path_at sys s.target.instance) ≢ r
-    → s.link ≡ sys.link r (sys.resource (path_at sys s.target.instance)) → s.values ≡ carried → All (IsCarried sys) carried
-    → GoesTo sys r (map (carried_of sys) carried) (port_of sys s.target) (Send s)
-goes_away sys r carried s target away link values each =
-    let q = port_of sys s.target in
-    let other : eqb (sys.resource q.at) r ≡ false = ne_eqb (sys.resource q.at) r (λ e. away (sym (ap sys.resource (port_at sys s.target)) ∙ e)) in
-    record {
-      is =
-          ap (λ (cs : List Carried). reactions.Sends q (map (carried_of sys) cs)) values
-          ∙ sym (ap (λ b. cond b (reactions.Local q) (reactions.Sends q (map (carried_of sys) carried))) other);
-      belongs = record { target = target; away = away; link = link; values = subst (λ (cs : List Carried). All (IsCarried sys) cs) (sym values) each };
-    }
+    by : (b : Bool) → n.here ≡ b → GoesTo sys (sys.resource (path_at sys from)) (map (carried_of sys) vs) (port_of sys n.target) (out_to n vs)
+    by true e =
+        let lies = here.0 e in
+        let at : sys.resource (port_of sys n.target).at ≡ sys.resource (path_at sys from) = ap sys.resource (path-of_port sys n.target) ∙ lies in
+        let test : (sys.resource (port_of sys n.target).at == sys.resource (path_at sys from)) ≡ true = grind (arith, nat_tests) in
+        subst (λ (o : Out). GoesTo sys (sys.resource (path_at sys from)) (map (carried_of sys) vs) (port_of sys n.target) o) (sym (kept_to n vs e))
+        (record {
+          is = sym (ap (λ b. if b then reactions.Local (port_of sys n.target) else reactions.Sends (port_of sys n.target) (map (carried_of sys) vs)) test);
+          belongs = record { target = target; here = lies };
+        })
+    by false e =
+        let away : sys.resource (path_at sys n.target.instance) ≢ sys.resource (path_at sys from) = λ lies. false≢true (sym e ∙ here.1 lies) in
+        let apart : sys.resource (port_of sys n.target).at ≢ sys.resource (path_at sys from) = λ at. away (sym (ap sys.resource (path-of_port sys n.target)) ∙ at) in
+        let test : (sys.resource (port_of sys n.target).at == sys.resource (path_at sys from)) ≡ false = grind (arith, nat_tests) in
+        subst (λ (o : Out). GoesTo sys (sys.resource (path_at sys from)) (map (carried_of sys) vs) (port_of sys n.target) o) (sym (sent_to n vs e))
+        (record {
+          is = sym (ap (λ b. if b then reactions.Local (port_of sys n.target) else reactions.Sends (port_of sys n.target) (map (carried_of sys) vs)) test);
+          belongs = record { target = target; away = away; link = link; values = each };
+        })
 
 -- ---- Target after target
 

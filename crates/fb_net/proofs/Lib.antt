@@ -4,6 +4,7 @@ pub mod Components
 pub mod Descents
 pub mod Others
 pub mod Ways
+pub mod HeldRows
 pub mod Holding
 pub mod Shown
 pub mod Sampled
@@ -26,7 +27,6 @@ pub mod Same
 pub mod Wholes
 pub mod Changing
 pub mod Reading
-pub mod Bounds
 pub mod Emitting
 pub mod Going
 pub mod Publishing

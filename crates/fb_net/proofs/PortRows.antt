@@ -1,21 +1,22 @@
 -- What the rows of event ports say, where a step of taking an event needs it.
-use Rattle.std.proofs.Common.{◌≡◌, ℕ, Bool, true, false, List, [], ◌∷◌, length, refl, sym, subst, ap, ◌∙◌, arith}
-use Rattle.std.specs.Prelude.{Option, Some, slice_get}
+use Rattle.std.proofs.Common.{◌≡◌, ℕ, Bool, true, false, cond, List, [], ◌∷◌, length, refl, sym, subst, ap, ◌∙◌, arith}
+use Rattle.std.specs.Prelude.{◌↔◌, IsTrue, Option, Some, slice_get}
 use Rattle.fb_types.specs.Blocks.{Basic, Composite}
-use Rattle.fb_types.specs.Numbers.{path_at, ports_at}
+use Rattle.fb_types.specs.Numbers.{event_input, event_output, path_at, port_of, ports_at}
 use Rattle.fb_types.specs.Systems.{System}
 use Rattle.fb_types.specs.declared.library.BasicType.{BasicType}
 use Rattle.fb_types.specs.declared.library.CompositeType.{CompositeType}
 use Rattle.fb_types.specs.declared.run.InstanceVariable.{InstanceVariable}
 use Rattle.fb_types.specs.declared.run.Target.{Target}
 use Rattle.fb_types.specs.declared.value.Value.{Value}
-use Rattle.fb_system.specs.Ends.{ComesFrom, LeadsTo}
+use Rattle.fb_system.specs.Ends.{IsSourceOf, LeadsTo}
 use Rattle.fb_system.specs.IndexLists.{AreIndexes}
-use Rattle.fb_system.specs.Ports.{IsTarget}
+use Rattle.fb_system.specs.Ports.{AreTogether, IsTarget}
 use Rattle.fb_system.specs.PortRows.{IsOneWith, IsWith, names_of, variables_of}
 use Rattle.fb_system.specs.declared.next_target.NextTarget.{NextTarget}
 use Rattle.fb_system.specs.declared.port_row.With.{With}
 use Rattle.fb_system.specs.declared.port_row.With.TheVariants.{Nothing, One}
+use Rattle.fb_system.specs.declared.source.Source.{Source}
 use Rattle.fb_net.specs.Samples.{names_in, names_out}
 
 -- ---- A port whose direction is known
@@ -25,6 +26,14 @@ at_input at e = (let to : Bool → Target = λ b. record { instance = at.instanc
 
 pub at_output : (at : Target) → at.is_output ≡ true → at ≡ record { instance = at.instance; event = at.event; is_output = true }
 at_output at e = (let to : Bool → Target = λ b. record { instance = at.instance; event = at.event; is_output = b } in ap to e)
+
+-- a port is of its instance
+pub path-of_port : (sys : System) (at : Target) → (port_of sys at).at ≡ path_at sys at.instance
+path-of_port sys at = go at.is_output
+  where
+    go : (b : Bool) → (cond b (event_output sys at.instance at.event) (event_input sys at.instance at.event)).at ≡ path_at sys at.instance
+    go true = refl
+    go false = refl
 
 -- an event goes to a basic block at an event input
 pub basic_input : (sys : System) (at : Target) (t : BasicType) → IsTarget sys at → sys.kind (path_at sys at.instance) ≡ Some (Basic t) → at.is_output ≡ false
@@ -42,14 +51,18 @@ basic_input sys at t target is = go at.is_output refl
 pub none_with : (sys : System) (at : Target) (w : With) → w ≡ Nothing → IsWith sys at w → IsWith sys at Nothing
 none_with sys at w e h = subst (λ (x : With). IsWith sys at x) e h
 
-pub one_with : (sys : System) (at : Target) (w : With) (v : ℕ) (s : Option InstanceVariable) → w ≡ One v s → IsWith sys at w → IsOneWith sys at v s
+pub one_with : (sys : System) (at : Target) (w : With) (v : ℕ) (s : Option Source) → w ≡ One v s → IsWith sys at w → IsOneWith sys at v s
 one_with sys at w v s e h = subst (λ (x : With). IsWith sys at x) e h
 
 pub leads_to : (sys : System) (from : Target) (o : Option NextTarget) (r : NextTarget) → LeadsTo sys from 0 o → o ≡ Some r → LeadsTo sys from 0 (Some r)
 leads_to sys from o r h e = subst (λ (x : Option NextTarget). LeadsTo sys from 0 x) e h
 
-pub comes_from : (sys : System) (to : InstanceVariable) (o p : Option InstanceVariable) → ComesFrom sys to o → o ≡ p → ComesFrom sys to p
-comes_from sys to o p h e = subst (λ (x : Option InstanceVariable). ComesFrom sys to x) e h
+pub source_of : (sys : System) (to : InstanceVariable) (o p : Option Source) → IsSourceOf sys to o → o ≡ p → IsSourceOf sys to p
+source_of sys to o p h e = subst (λ (x : Option Source). IsSourceOf sys to x) e h
+
+-- what is in one resource with an instance of a resource is in it
+pub near : (sys : System) (r a b : ℕ) (here : Bool) → (IsTrue here ↔ AreTogether sys a b) → sys.resource (path_at sys b) ≡ r → IsTrue here ↔ (sys.resource (path_at sys a) ≡ r)
+near sys r a b here together lies = (λ on. together.0 on ∙ lies, λ e. together.1 (e ∙ sym lies))
 
 -- ---- The variables WITH an event input
 
@@ -58,28 +71,28 @@ none_in sys at input h =
     let its = ports_at sys (path_at sys at.instance) in subst (λ (b : Bool). AreIndexes (variables_of its b) (names_of its b at.event) []) input h
 
 pub one_in :
-    (sys : System) (at : Target) (v : ℕ) (s : Option InstanceVariable) → at.is_output ≡ false → IsOneWith sys at v s
+    (sys : System) (at : Target) (v : ℕ) (s : Option Source) → at.is_output ≡ false → IsOneWith sys at v s
     → AreIndexes (ports_at sys (path_at sys at.instance)).inputs (names_in sys at) (v ∷ [])
 one_in sys at v s input h =
     let its = ports_at sys (path_at sys at.instance) in subst (λ (b : Bool). AreIndexes (variables_of its b) (names_of its b at.event) (v ∷ [])) input h.indexes
 
 pub source_in :
-    (sys : System) (at : Target) (v : ℕ) (s : Option InstanceVariable) → at.is_output ≡ false → IsOneWith sys at v s
-    → ComesFrom sys (record { instance = at.instance; variable = v; is_output = false }) s
-source_in sys at v s input h = subst (λ (b : Bool). ComesFrom sys (record { instance = at.instance; variable = v; is_output = b }) s) input h.comes
+    (sys : System) (at : Target) (v : ℕ) (s : Option Source) → at.is_output ≡ false → IsOneWith sys at v s
+    → IsSourceOf sys (record { instance = at.instance; variable = v; is_output = false }) s
+source_in sys at v s input h = subst (λ (b : Bool). IsSourceOf sys (record { instance = at.instance; variable = v; is_output = b }) s) input h.comes
 
 -- ---- .. and an event output
 
 pub one_out :
-    (sys : System) (at : Target) (v : ℕ) (s : Option InstanceVariable) → at.is_output ≡ true → IsOneWith sys at v s
+    (sys : System) (at : Target) (v : ℕ) (s : Option Source) → at.is_output ≡ true → IsOneWith sys at v s
     → AreIndexes (ports_at sys (path_at sys at.instance)).outputs (names_out sys at) (v ∷ [])
 one_out sys at v s output h =
     let its = ports_at sys (path_at sys at.instance) in subst (λ (b : Bool). AreIndexes (variables_of its b) (names_of its b at.event) (v ∷ [])) output h.indexes
 
 pub source_out :
-    (sys : System) (at : Target) (v : ℕ) (s : Option InstanceVariable) → at.is_output ≡ true → IsOneWith sys at v s
-    → ComesFrom sys (record { instance = at.instance; variable = v; is_output = true }) s
-source_out sys at v s output h = subst (λ (b : Bool). ComesFrom sys (record { instance = at.instance; variable = v; is_output = b }) s) output h.comes
+    (sys : System) (at : Target) (v : ℕ) (s : Option Source) → at.is_output ≡ true → IsOneWith sys at v s
+    → IsSourceOf sys (record { instance = at.instance; variable = v; is_output = true }) s
+source_out sys at v s output h = subst (λ (b : Bool). IsSourceOf sys (record { instance = at.instance; variable = v; is_output = b }) s) output h.comes
 
 -- where an event output leads
 pub leads_out :

@@ -1,6 +1,7 @@
 -- What a source shows is what the model says of its port.
-use Rattle.std.proofs.Common.{◌≡◌, [], true, false, Contains, refl, ap, sym, ◌∙◌, subst, inl}
-use Rattle.std.specs.Prelude.{Option, Some, None, if◌then◌else◌}
+use Rattle.std.proofs.Common.{◌≡◌, ◌≢◌, ◌==◌, [], true, false, Contains, refl, ap, sym, ◌∙◌, subst, inl, arith}
+use Rattle.std.proofs.lemmas.Bool.Decides.{nat_tests}
+use Rattle.std.specs.Prelude.{Option, Some, None, if◌then◌else◌, unwrap_or}
 use Rattle.fb_types.specs.Blocks.{Kind, ports, ports_of, variable_names}
 use Rattle.fb_types.specs.Headline.{AreAccepted, Inputs, system_of}
 use Rattle.fb_types.specs.Numbers.{path_at}
@@ -11,7 +12,9 @@ use Rattle.fb_types.specs.declared.run.InstanceVariable.{InstanceVariable}
 use Rattle.fb_types.proofs.NameLaws.{any_from_contains}
 use Rattle.fb_system.specs.Ports.{IsSource, IsVariable, variable_of, variables_at}
 use Rattle.fb_net.specs.Changes.{ShowsInside}
-use Rattle.fb_net.specs.Worlds.{IsComposite, Reads, Samples, Shows}
+use Rattle.fb_types.specs.Flat.{zero_value}
+use Rattle.fb_net.specs.HeldAt.{held_at}
+use Rattle.fb_net.specs.Worlds.{InForest, IsComposite, Reads, Samples, Sees, Shows}
 use Rattle.fb_net.specs.declared.resource.Forest.{Forest}
 use Rattle.fb_net.proofs.Apart.{kind_apart}
 use Rattle.fb_types.proofs.ByIndex.{element_of_index}
@@ -58,6 +61,27 @@ module _ (i : Inputs) (x : InstanceVariable) (variable : IsVariable (system_of i
       sym (ap (λ b. if b then (w.blocks (variable_of (system_of i) x).at).variables (variable_of (system_of i) x).name
       else (w.blocks (variable_of (system_of i) x).at).published (variable_of (system_of i) x).name)
       (at_own_path ∙ input_name into _ composite.1))
+
+-- ---- Where a source is
+
+-- a source in the resource shows what connections see at it
+pub shown_here : (i : Inputs) (t : Forest) (x : InstanceVariable) (v : Value) → InForest i t x.instance → Sees i t x v → Shows i t x v
+shown_here i t x v lies sees w tree read is_source =
+    let sys = system_of i in
+    let q = variable_of sys x in
+    let at : sys.resource q.at ≡ t.resource = ap sys.resource (at_is sys x) ∙ lies in
+    let test : (sys.resource q.at == t.resource) ≡ true = grind (arith, nat_tests) in
+    sees w tree lies is_source ∙ sym (ap (λ b. if b then seen sys w q else w.held q) test)
+
+-- a source in another resource shows its held copy
+pub shown_away : (i : Inputs) (t : Forest) (x : InstanceVariable) (v : Value) → IsVariable (system_of i) x → (InForest i t x.instance → ⊥) → v ≡ unwrap_or (held_at t.held x) zero_value
+    → Shows i t x v
+shown_away i t x v variable away is w tree read is_source =
+    let sys = system_of i in
+    let q = variable_of sys x in
+    let apart : sys.resource q.at ≢ t.resource = λ e. away (sym (ap sys.resource (at_is sys x)) ∙ e) in
+    let test : (sys.resource q.at == t.resource) ≡ false = grind (arith, nat_tests) in
+    is ∙ ap (λ o. unwrap_or o zero_value) (tree.held x variable read away) ∙ sym (ap (λ b. if b then seen sys w q else w.held q) test)
 
 pub source_sampled :
     (i : Inputs) (t : Forest) (x s : InstanceVariable) (v : Value) → IsVariable (system_of i) x → IsSource (system_of i) s →

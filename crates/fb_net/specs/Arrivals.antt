@@ -39,7 +39,7 @@ ComesTo i step old before new x = (w : World) (left : ℕ) → IsForest i old w 
 abbrev pub sampling : Inputs → Key → Target → World → ℕ → Outcome
 sampling i k at w left = let sys = system_of i in taking sys k w (port_of sys at) (ports_at sys (path_at sys at.instance)) left
 
--- .. and an event block reacts
+-- an event input of an event block takes an event, and the block reacts
 abbrev pub reacting : Inputs → Key → EventKind → Target → World → ℕ → Outcome
 reacting i k kind at w left =
     let sys = system_of i in
@@ -48,7 +48,7 @@ reacting i k kind at w left =
     let b = begun.world.blocks q.at in
     answered sys k q.at kind (blocks.reaction kind (memory_of b.memory) q.name k.tick b.variables) begun
 
--- .. and it goes on inside a composite
+-- an event input of a composite takes an event, which goes on inside
 abbrev pub entering : Inputs → Key → Target → World → ℕ → Outcome
 entering i k at w left = let sys = system_of i in crossing_in sys k (port_of sys at) (sampling i k at w left)
 
@@ -82,7 +82,7 @@ pub record Reacted (i : Inputs) (Comes : Outcome → Type 0) (before : Gathered)
   pub leaves : outcome.left ≡ after
   pub represents : RepresentsOutcome i before new x outcome
 
--- .. in each world that the blocks represented
+-- The reaction has this outcome in each world that the blocks represented.
 abbrev pub ReactedIn : Inputs → (World → Outcome → Type 0) → Forest → Outbox → Option Reason → Forest → (after : ℕ) → Outbox → Type 0
 ReactedIn i Comes old before stop new after x =
     (w : World) → IsForest i old w → Reacted i (Comes w) (gathered i before) stop new after x

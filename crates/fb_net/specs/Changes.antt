@@ -46,7 +46,7 @@ pub record Holds (i : Inputs) (old : Forest) (x : InstanceVariable) (v : Value) 
   pub resource : new.resource ≡ old.resource
   pub represents : (w : World) → IsForest i old w → IsForest i new (record w { held = with_held (variable_of (system_of i) x) v w.held })
 
--- .. what a data output of a composite shows from inside
+-- The value is what a data output of a composite shows from inside.
 abbrev pub ShowsInside : Inputs → Forest → InstanceVariable → Value → Type 0
 ShowsInside i t x v =
     (w : World) → IsForest i t w → InForest i t x.instance →

@@ -2,6 +2,7 @@
 use Rattle.std.specs.Prelude.{◌≡◌, ◌==◌, ℕ, List, [], ◌∷◌, ◌++◌, map, if◌then◌else◌}
 use Rattle.std.specs.List.{zip}
 use Rattle.fb_system.specs.IndexLists.{variable_at}
+use Rattle.fb_system.specs.declared.next_target.NextTarget.{NextTarget}
 use Rattle.fb_types.specs.Blocks.{Bound}
 use Rattle.fb_types.specs.Headline.{Inputs, system_of}
 use Rattle.fb_types.specs.Names.{Port}
@@ -17,6 +18,7 @@ use Rattle.fb_types.specs.declared.value.Value.{Value}
 use Rattle.fb_net.specs.declared.resource.Forest.{Forest}
 use Rattle.fb_net.specs.Outs.{Gathered, StillAreOuts, IsOut, RepresentsOutcome, out_of}
 use Rattle.fb_net.specs.declared.outbox.Out.{Out}
+use Rattle.fb_net.specs.declared.outbox.Out.TheVariants.{Local, Send}
 use Rattle.fb_net.specs.declared.outbox.Outbox.{Outbox}
 
 -- what goes out to a target: a local event, or a message where the target is in another resource
@@ -31,6 +33,14 @@ pub record GoesTo (sys : System) (r : ℕ) (carried : List (Port × Value)) (q :
 -- It goes out to a target, after what went out before.
 abbrev pub PutsOut : System → (resource : ℕ) → List (Port × Value) → Port → (before outs : List Out) → Type 0
 PutsOut sys r carried q before outs = (out : Out) × GoesTo sys r carried q out × (outs ≡ before ++ out ∷ [])
+
+-- the message to a target in another resource, by its link
+abbrev pub message_to : NextTarget → List Carried → Out
+message_to n carried = Send (record { link = n.link; target = n.target; values = carried })
+
+-- what is put out to a target: a local event, or a message where the target is in another resource
+abbrev pub out_to : NextTarget → List Carried → Out
+out_to n carried = if n.here then Local n.target else message_to n carried
 
 -- the targets after the first
 abbrev pub others : List Port → List Port

@@ -83,12 +83,12 @@ pub record CameTo (i : Inputs) (k : Key) (e : Event) (before : Gathered) (left :
   pub leaves : outcome.left ≡ after
   pub represents : RepresentsOutcome i before new x outcome
 
--- .. in each world that the blocks represented, after what the outbox had before
+-- The taking has this outcome in each world that the blocks represented, after what the outbox had before.
 abbrev pub Came : Inputs → Key → Event → Forest → Outbox → (left : ℕ) → Option Reason → Forest → (after : ℕ) → Outbox → Type 0
 Came i k e old before left stop new after x =
     (w : World) → IsForest i old w → CameTo i k e (gathered i before) left stop new after x w
 
--- .. and after lines alone, where nothing was to go out and nothing was asked of the timer
+-- The taking has this outcome after lines alone, where nothing was to go out and nothing was asked of the timer.
 abbrev pub CameAlone : Inputs → Key → Event → Forest → Outbox → (left : ℕ) → Option Reason → Forest → (after : ℕ) → Outbox → Type 0
 CameAlone i k e old before left stop new after x =
     (w : World) → IsForest i old w → CameTo i k e (only_lines (map (line_of (system_of i)) before.lines.items)) left stop new after x w

@@ -88,7 +88,7 @@ pub record HasCharted (t : BasicType) (event : ℕ) (values : List Value) (befor
 abbrev pub IsEventAt : List Block → (way : List ℕ) → Type 0
 IsEventAt blocks way = (s : State) × (block_at blocks way ≡ Some (block.Event s))
 
--- .. and the samples of its data inputs are of their types
+-- An event block rests on a way, and the samples of its data inputs are of their types.
 pub record IsTypedAt (inputs : List Value) (blocks : List Block) (way : List ℕ) : Type 0 where
   pub state : State
   pub stood : block_at blocks way ≡ Some (block.Event state)

@@ -1,6 +1,7 @@
 pub mod Blocks
 pub mod Trees
 pub mod Changes
+pub mod HeldAt
 pub mod Worlds
 pub mod Opening
 pub mod Whole

@@ -1,7 +1,7 @@
 -- What contracts say of the blocks of a system: its value is the accepted inputs, and each of these is of the flat system.
 use Rattle.std.specs.Prelude.{ℕ, List}
 use Rattle.fb_types.specs.Blocks.{Bound}
-use Rattle.fb_types.specs.Names.{Name, Path, Port}
+use Rattle.fb_types.specs.Names.{Name, Path}
 use Rattle.fb_types.specs.Headline.{Inputs, system_of}
 use Rattle.fb_types.specs.Reactions as reactions
 use Rattle.fb_types.specs.States as model
@@ -59,6 +59,3 @@ AreOuts i = outs.AreOuts (system_of i)
 -- values, each with the data output at its index
 abbrev pub outputs_at : Inputs → (instance : ℕ) → (indexes : List ℕ) → List Value → List Bound
 outputs_at i = emitting.outputs_at (system_of i)
-
-abbrev pub PutsOut : Inputs → (resource : ℕ) → List (Port × Value) → Port → (before outs : List Out) → Type 0
-PutsOut i = emitting.PutsOut (system_of i)

@@ -20,8 +20,10 @@ use Rattle.fb_types.specs.declared.run.InstanceVariable.{InstanceVariable}
 use Rattle.fb_system.specs.Layouts.{AreNumbers}
 use Rattle.fb_system.specs.Ports.{IsVariable, variable_of}
 use Rattle.fb_net.specs.Blocks.{components_of, own_of}
-use Rattle.fb_net.specs.Worlds.{AreApart, SeatedAt, Represents, key_cmp, key_of, seat_in}
+use Rattle.fb_net.specs.HeldAt.{held_at}
+use Rattle.fb_net.specs.Worlds.{AreApart, SeatedAt, Represents, seat_in}
 use Rattle.fb_net.specs.declared.block.Block.{Block}
+use Rattle.fb_net.specs.declared.held_copies.HeldCopies.{HeldCopies}
 use Rattle.fb_net.specs.declared.resource.Forest.{Forest}
 
 -- ---- Values
@@ -80,7 +82,7 @@ pub record AreRoots (i : Inputs) (r : ℕ) (top roots numbers : List ℕ) : Type
   pub there : (index k : ℕ) → slice_get top index ≡ Some k → (system_of i).resource (path_at (system_of i) k) ≡ r → slice_get numbers (seat_in roots index) ≡ Some k
   pub among : (index k : ℕ) → slice_get numbers index ≡ Some k → (m : ℕ) × (slice_get top m ≡ Some k)
 
--- .. of all instances of the application
+-- Each instance of the application that is in the resource is the root of a tree.
 pub record AreRooted (i : Inputs) (r : ℕ) (roots numbers : List ℕ) : Type 0 where
   pub top : List ℕ
   pub are : AreNumbers i.library [] i.library.application.network.instances top
@@ -104,27 +106,30 @@ pub record IsSeatedAlone (old new : Forest) : Type 0 where
 
 -- ---- Held copies
 
-abbrev pub Held : Type 0
-Held = BTreeMap (ℕ × ℕ × Bool) Value
-
 -- What the variable is connected to has its held copy, where it is in another resource.
-abbrev pub Covers : Inputs → (resource : ℕ) → Held → InstanceVariable → Type 0
+abbrev pub Covers : Inputs → (resource : ℕ) → HeldCopies → InstanceVariable → Type 0
 Covers i r held to =
     (x : InstanceVariable) → IsVariable (system_of i) x → (system_of i).source (variable_of (system_of i) to) ≡ Some (variable_of (system_of i) x) →
     (system_of i).resource (path_at (system_of i) x.instance) ≢ r →
-    get key_cmp held (key_of x) ≡ Some ((system_of i).initial (variable_of (system_of i) x))
+    held_at held x ≡ Some ((system_of i).initial (variable_of (system_of i) x))
 
--- .. for each of the data inputs of an instance, or of its data outputs
-abbrev pub CoversIndexes : Inputs → (resource : ℕ) → Held → (instance : ℕ) → (is_output : Bool) → Type 0
+-- The held copies cover each data input of an instance, or each of its data outputs.
+abbrev pub CoversIndexes : Inputs → (resource : ℕ) → HeldCopies → (instance : ℕ) → (is_output : Bool) → Type 0
 CoversIndexes i r held k o =
     (v : ℕ) → IsVariable (system_of i) (record { instance = k; variable = v; is_output = o }) →
     Covers i r held (record { instance = k; variable = v; is_output = o })
 
--- .. for each variable in the resource
-abbrev pub CoversAll : Inputs → (resource : ℕ) → Held → Type 0
+-- The held copies cover each variable in the resource.
+abbrev pub CoversAll : Inputs → (resource : ℕ) → HeldCopies → Type 0
 CoversAll i r held =
     (to : InstanceVariable) → IsVariable (system_of i) to → (system_of i).resource (path_at (system_of i) to.instance) ≡ r → Covers i r held to
 
 -- No held copy is lost.
-abbrev pub KeepsCovers : Inputs → (resource : ℕ) → (old new : Held) → Type 0
+abbrev pub KeepsCovers : Inputs → (resource : ℕ) → (old new : HeldCopies) → Type 0
 KeepsCovers i r old new = (to : InstanceVariable) → Covers i r old to → Covers i r new to
+
+-- .. and no copy of a variable with what it begins with
+abbrev pub KeepsInitial : Inputs → (old new : HeldCopies) → Type 0
+KeepsInitial i old new =
+    let sys = system_of i in
+    (x : InstanceVariable) → IsVariable sys x → held_at old x ≡ Some (sys.initial (variable_of sys x)) → held_at new x ≡ Some (sys.initial (variable_of sys x))

@@ -29,7 +29,7 @@ AreSampled i f at values =
     (w : World) → IsForest i f w → InForest i f at.instance →
     values ≡ map (λ n. sampled_from (system_of i) f.resource w (record { at = p; name = n })) (names_in (system_of i) at)
 
--- .. and what a composite shows of the outputs WITH the event from inside
+-- These are the values that a composite shows from inside, of its data outputs WITH the event.
 abbrev pub AreShown : Inputs → Forest → Target → List Value → Type 0
 AreShown i f at values =
     let p = path_at (system_of i) at.instance in

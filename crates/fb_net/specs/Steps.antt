@@ -1,5 +1,5 @@
 -- What each step of taking an event rests on, and what it leaves.
-use Rattle.std.specs.Prelude.{◌≡◌, ◌≢◌, ◌<◌, ◌≤◌, ℕ, List, Some, true, Result, length, map}
+use Rattle.std.specs.Prelude.{◌≡◌, ◌≢◌, ◌<◌, ◌≤◌, ℕ, List, Some, true, Result, Ok, Err, length, map}
 use Rattle.fb_types.specs.Blocks.{Basic, Kind}
 use Rattle.fb_types.specs.Headline.{Inputs, system_of}
 use Rattle.fb_types.specs.Numbers.{emission_of, line_of, path_at, ports_at}
@@ -10,6 +10,7 @@ use Rattle.fb_types.specs.declared.library.Ports.{Ports}
 use Rattle.fb_types.specs.declared.run.Emission.{Emission}
 use Rattle.fb_types.specs.declared.run.Event.{Event}
 use Rattle.fb_types.specs.declared.run.Halt.{Halt}
+use Rattle.fb_types.specs.declared.run.Halt.TheVariants as halt
 use Rattle.fb_types.specs.declared.run.Target.{Target}
 use Rattle.fb_types.specs.declared.value.Value.{Value}
 use Rattle.fb_laws.specs.Typed.{IsTypedEvent}
@@ -18,6 +19,8 @@ use Rattle.fb_net.specs.Emitting.{EmitsSo, HasEmitted}
 use Rattle.fb_net.specs.Events.{HasTaken, IsEventIn, Remembered, event_of}
 use Rattle.fb_net.specs.Outs.{StillAreOuts}
 use Rattle.fb_net.specs.Samples.{names_in, names_out}
+use Rattle.fb_net.specs.declared.end.End.{End}
+use Rattle.fb_net.specs.declared.end.End.TheVariants as end
 use Rattle.fb_net.specs.declared.taking.Taking.{Taking}
 use Rattle.fb_system.specs.IndexLists.{AreIndexes}
 use Rattle.fb_system.specs.Ports.{IsPort}
@@ -76,6 +79,12 @@ pub record MayTake (t : Taking) (e : Event) : Type 0 where
 abbrev pub ArePutOut : Taking → Taking → Type 0
 ArePutOut old new = StillAreOuts old.system.now old.forest.now old.outbox.now new.forest.now new.outbox.now
 
+-- the result of a step that came to an end
+abbrev pub ended : End → Result (Unit {0}) Halt
+ended end.Done = Ok tt
+ended (end.Stop r) = Err (halt.Stop r)
+ended end.Memory = Err halt.Memory
+
 -- A step has the result that the model gives it.
 abbrev pub HasDone : (World → ℕ → Outcome) → Taking → Taking → Type 0
 HasDone step old new = ComesTo old.system.now step old.forest.now old.outbox.now new.forest.now new.outbox.now
@@ -89,7 +98,7 @@ HasArrived old at left end new after =
 abbrev pub EmitsAll : Taking → (instance : ℕ) → List Emission → Taking → Type 0
 EmitsAll old k es new = EmitsSo old.system.now old.key.now k old.forest.now old.outbox.now es new.forest.now new.outbox.now
 
--- .. and all that was put out belongs to the system
+-- An instance has emitted, and all that was put out belongs to the system.
 abbrev pub EmitsWell : Taking → (instance : ℕ) → List Emission → Taking → Type 0
 EmitsWell old k es new = HasEmitted old.system.now old.key.now k old.forest.now old.outbox.now es new.forest.now new.outbox.now
 
@@ -112,7 +121,7 @@ pub record IsSame (old new : Taking) : Type 0 where
   pub forest : new.forest.ghost_name ≡ old.forest.ghost_name
   pub outbox : new.outbox.ghost_name ≡ old.outbox.ghost_name
 
--- .. and its blocks are kept
+-- The step keeps what a taking is about, and its blocks stay those of the system.
 abbrev pub IsKept : Taking → Taking → Type 0
 IsKept old new = AreKept old.system.now old.forest.now new.forest.now
 

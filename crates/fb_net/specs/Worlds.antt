@@ -1,8 +1,5 @@
 -- What the blocks of one resource represent in the model (IEC 61499-1, 5.2 and 5.3; that a resource has trees of its own instances, and held copies, is this project's profile).
-use Rattle.std.specs.Prelude.{◌≡◌, ◌<◌, ◌≢◌, ℕ, Bool, false, List, [], ◌∷◌, length, Option, Some, unwrap_or, slice_get, slice_set}
-use Rattle.std.specs.BTreeMap.{get}
-use Rattle.std.specs.Ordering.{nat_cmp, bool_cmp, ordering_then}
-use Rattle.std.specs.declared.cmp.Ordering.{Ordering}
+use Rattle.std.specs.Prelude.{◌≡◌, ◌<◌, ◌≢◌, ℕ, false, List, [], ◌∷◌, length, Option, Some, unwrap_or, slice_get, slice_set}
 use Rattle.fb_types.specs.Names.{Name, Path}
 use Rattle.fb_types.specs.Values.{Values}
 use Rattle.fb_types.specs.Blocks.{Kind, Basic, Event, Composite, among, variable_names}
@@ -23,6 +20,7 @@ use Rattle.fb_event.specs.State.{State}
 use Rattle.fb_system.specs.Layouts.{route_to}
 use Rattle.fb_types.specs.declared.run.InstanceVariable.{InstanceVariable}
 use Rattle.fb_system.specs.Ports.{IsCompositeAt, IsSource, IsVariable, variable_of}
+use Rattle.fb_net.specs.HeldAt.{held_at}
 use Rattle.fb_net.specs.Trees.{own_at}
 use Rattle.fb_net.specs.declared.block.Block.{Block}
 use Rattle.fb_net.specs.declared.block.Block.TheOpen.{Block-F}
@@ -135,12 +133,6 @@ WaysDiffer i r roots =
 
 -- ---- Held copies
 
-abbrev pub key_of : InstanceVariable → ℕ × ℕ × Bool
-key_of x = (x.instance, x.variable, x.is_output)
-
-abbrev pub key_cmp : ℕ × ℕ × Bool → ℕ × ℕ × Bool → Ordering
-key_cmp a b = ordering_then (nat_cmp a.0 b.0) (ordering_then (nat_cmp a.1 b.1) (bool_cmp a.2 b.2))
-
 -- A variable in the resource is connected to this one.
 pub record IsRead (sys : System) (resource : ℕ) (x : InstanceVariable) : Type 0 where
   pub to : InstanceVariable
@@ -159,7 +151,7 @@ pub record IsForest (i : Inputs) (t : Forest) (w : World) : Type 0 where
       SeatedAt i t.seats t.shells k (w.blocks (path_at (system_of i) k))
   pub apart : AreApart i t.resource (length (system_of i).paths) t.seats
   pub held : (x : InstanceVariable) → IsVariable (system_of i) x → IsRead (system_of i) t.resource x → (system_of i).resource (path_at (system_of i) x.instance) ≢ t.resource →
-      get key_cmp t.held (key_of x) ≡ Some (w.held (variable_of (system_of i) x))
+      held_at t.held x ≡ Some (w.held (variable_of (system_of i) x))
 
 -- ---- What is read of the blocks
 
@@ -179,13 +171,13 @@ Reads i t x part v =
 abbrev pub Sees : Inputs → Forest → InstanceVariable → Value → Type 0
 Sees i t x v = (w : World) → IsForest i t w → InForest i t x.instance → IsSource (system_of i) x → v ≡ seen (system_of i) w (variable_of (system_of i) x)
 
--- .. what a source shows in the resource, wherever it is
+-- The value is what a source shows in the resource, wherever the source is.
 abbrev pub Shows : Inputs → Forest → InstanceVariable → Value → Type 0
 Shows i t x v =
     (w : World) → IsForest i t w → IsRead (system_of i) t.resource x → IsSource (system_of i) x →
     v ≡ shown (system_of i) t.resource w (variable_of (system_of i) x)
 
--- .. what a data input samples
+-- The value is what a data input samples.
 abbrev pub Samples : Inputs → Forest → InstanceVariable → Value → Type 0
 Samples i t x v =
     (w : World) → IsForest i t w → InForest i t x.instance →

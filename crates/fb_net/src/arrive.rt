@@ -8,22 +8,23 @@ ghost use Rattle.fb_net.specs.Events.{Remembered};
 ghost use Rattle.fb_net.specs.Leaves.{IsOne};
 ghost use Rattle.fb_net.specs.OfSystem.{IsTypedSystem, names_in};
 ghost use Rattle.fb_net.specs.Samples.{AreSampled};
-ghost use Rattle.fb_net.specs.Steps.{AreInputs, AreOutputs, ArePutOut, HasArrived, HasDone, HasKind, HasWritten, IsKept, IsNoBasic, IsSame, MayArrive, MayBegin, ports_in};
+ghost use Rattle.fb_net.specs.Steps.{AreInputs, AreOutputs, ArePutOut, HasArrived, HasDone, HasKind, HasWritten, IsKept, IsNoBasic, IsSame, MayArrive, MayBegin, ended, ports_in};
 ghost use Rattle.fb_system.specs.Lines.{IsEmission};
-ghost use Rattle.fb_system.specs.OfSystem.{ComesFrom, IsCompositeAt, IsTarget, IsWith, LeadsTo};
+ghost use Rattle.fb_system.specs.OfSystem.{IsCompositeAt, IsSourceOf, IsTarget, IsWith, LeadsTo};
 ghost use Rattle.fb_system.specs.PortRows.{IsPortRow};
 ghost use Rattle.fb_net.specs.Worlds.{InForest};
 
 use crate::basic_blocks::react_basic;
 use crate::bring::keep_samples;
 use crate::emit::{send_out, write_taken};
+use crate::end::End;
 use crate::event_blocks::react_event;
 use crate::samples::{sampled_values, shown_values};
 use crate::taking::Taking;
 use fb_check_names::TypeNumber;
 use fb_event::passes_to;
 use fb_st::Meter;
-use fb_system::{NextTarget, PortRow, With};
+use fb_system::{NextTarget, PortRow, Source, With};
 use fb_types::{
     BasicType, BlockType, Emission, Emits, EventKind, Halt, InstanceVariable, Target, TimerAsk,
     Value, Values,
@@ -32,8 +33,8 @@ use std::alloc::AllocError;
 use std::slice::from_ref;
 
 impl Taking<'_> {
-    /// An event block takes an event at an event input: it keeps what the variables WITH the event sample, and the line of
-    /// the event says their values.
+    /// An event block takes an event at an event input: it keeps what the variables WITH the event sample, and the line
+    /// of the event says their values.
     #[inline(always)]
     fn take_samples(&mut self, at: Target) -> Result<(), AllocError>
         requires index { MayArrive self.old at }
@@ -57,7 +58,8 @@ impl Taking<'_> {
         self.take_values(at.instance, at.event, indexes)
     }
 
-    /// .. where the variables WITH the event are at `indexes`.
+    /// An event block or a composite takes an event whose variables WITH it are at `indexes`: it keeps what they sample,
+    /// and the line of the event says their values.
     #[inline(never)]
     fn take_values(&mut self, instance: u32, event: u32, indexes: &[u32]) -> Result<(), AllocError>
         requires index { MayArrive self.old (record { instance = instance; event = event; is_output = false }) }
@@ -83,7 +85,7 @@ impl Taking<'_> {
                 variable: *variable,
                 is_output: false,
             };
-            let source = self.system.source(input);
+            let source = self.system.placed_source(input);
             return self.take_value(at, *variable, &source);
         }
         let alloc = *self.outbox.lines.allocator();
@@ -92,19 +94,19 @@ impl Taking<'_> {
         write_taken(self.outbox, self.system, self.key, at, values)
     }
 
-    /// .. where one variable is WITH the event.
+    /// The same as `take_values`, where one variable is WITH the event.
     #[inline(always)]
     fn take_value(
         &mut self,
         at: Target,
         variable: u32,
-        source: &Option<InstanceVariable>,
+        source: &Option<Source>,
     ) -> Result<(), AllocError>
         requires index { MayArrive self.old at }
         requires input { at.is_output ≡ false }
         requires no_basic { IsNoBasic self.old at.instance }
         requires represents { AreInputs self.old at (variable ∷ []) }
-        requires source { ComesFrom self.old.system.now (record { instance = at.instance; variable = variable; is_output = false }) source.now }
+        requires source { IsSourceOf self.old.system.now (record { instance = at.instance; variable = variable; is_output = false }) source.now }
         ensures taken { OnOk result (HasDone (sampling self.old.system.now self.old.key.now at) self.old self.new) }
         ensures ready { OnOk result (MayBegin self.new) }
         ensures outs { OnOk result (ArePutOut self.old self.new) }
@@ -168,7 +170,8 @@ impl Taking<'_> {
         }
     }
 
-    /// .. of one that does more than pass events on.
+    /// An event arrives at an event input of an event block that does more than pass events on. Parameter and errors are
+    /// as of `arrive_event`.
     #[inline(always)]
     fn sample_and_react(
         &mut self,
@@ -199,7 +202,8 @@ impl Taking<'_> {
         Ok(())
     }
 
-    /// .. where it is known which variables are WITH the event: mostly one, and then nothing is looked up.
+    /// The same as `take_samples`, where it is known which variables are WITH the event: mostly one, and then nothing is
+    /// looked up.
     #[inline(always)]
     fn take_with(&mut self, at: Target, with: &With) -> Result<(), AllocError>
         requires index { MayArrive self.old at }
@@ -249,7 +253,7 @@ impl Taking<'_> {
         }
     }
 
-    /// .. at a port that is not kept.
+    /// The same as `enter`, at a port that has no row.
     #[inline(never)]
     fn enter_by_tables(&mut self, instance: u32, event: u32) -> Result<(), AllocError>
         requires index { MayArrive self.old (record { instance = instance; event = event; is_output = false }) }
@@ -270,7 +274,7 @@ impl Taking<'_> {
         self.enter_by(at, &port)
     }
 
-    /// .. by what is known of the port.
+    /// The same as `enter`, by the row of the port.
     #[inline(always)]
     fn enter_by(&mut self, at: Target, port: &PortRow) -> Result<(), AllocError>
         requires index { MayArrive self.old at }
@@ -287,7 +291,6 @@ impl Taking<'_> {
         self.take_with(at, &port.with)?;
         send_out(
             &mut self.outbox.outs,
-            self.forest,
             self.system,
             at,
             &port.first,
@@ -319,7 +322,7 @@ impl Taking<'_> {
         }
     }
 
-    /// .. at a port that is not kept.
+    /// The same as `leave`, at a port that has no row.
     #[inline(never)]
     fn leave_by_tables(&mut self, instance: u32, event: u32) -> Result<(), AllocError>
         requires index { MayArrive self.old (record { instance = instance; event = event; is_output = true }) }
@@ -340,7 +343,7 @@ impl Taking<'_> {
         self.leave_by(at, &port)
     }
 
-    /// .. by what is known of the port.
+    /// The same as `leave`, by the row of the port.
     #[inline(always)]
     fn leave_by(&mut self, at: Target, port: &PortRow) -> Result<(), AllocError>
         requires index { MayArrive self.old at }
@@ -360,21 +363,21 @@ impl Taking<'_> {
         }
     }
 
-    /// .. where one variable is WITH the event.
+    /// The same as `leave`, where one variable is WITH the event.
     #[inline(always)]
     fn leave_value(
         &mut self,
         at: Target,
         first: &Option<NextTarget>,
         variable: u32,
-        source: &Option<InstanceVariable>,
+        source: &Option<Source>,
     ) -> Result<(), AllocError>
         requires index { MayArrive self.old at }
         requires output { at.is_output ≡ true }
         requires composite { IsCompositeAt self.old.system.now at.instance }
         requires first { LeadsTo self.old.system.now at 0 first.now }
         requires represents { AreOutputs self.old at (variable ∷ []) }
-        requires source { ComesFrom self.old.system.now (record { instance = at.instance; variable = variable; is_output = true }) source.now }
+        requires source { IsSourceOf self.old.system.now (record { instance = at.instance; variable = variable; is_output = true }) source.now }
         ensures left { OnOk result (HasDone (leaving self.old.system.now self.old.key.now at) self.old self.new) }
         ensures outs { OnOk result (ArePutOut self.old self.new) }
 
@@ -391,7 +394,7 @@ impl Taking<'_> {
         self.emit_value(at.instance, at.event, first, variable, &value)
     }
 
-    /// .. where any number of variables are WITH the event.
+    /// The same as `leave`, where any number of variables are WITH the event.
     #[inline(never)]
     fn leave_values(
         &mut self,
@@ -481,14 +484,14 @@ impl Taking<'_> {
         end
     }
 
-    /// .. where one variable is WITH the event.
+    /// The same as `arrive_basic`, where one variable is WITH the event.
     #[inline(always)]
     fn react_to_one(
         &mut self,
         block: &BasicType,
         at: Target,
         variable: u32,
-        source: &Option<InstanceVariable>,
+        source: &Option<Source>,
         meter: &mut Meter,
         emits: &mut Emits,
     ) -> Result<(), Halt>
@@ -497,7 +500,7 @@ impl Taking<'_> {
         requires kind { HasKind self.old at.instance (Basic block.now) }
         requires one { IsOne self.old.system.now self.old.forest.now at.instance }
         requires represents { AreInputs self.old at (variable ∷ []) }
-        requires source { ComesFrom self.old.system.now (record { instance = at.instance; variable = variable; is_output = false }) source.now }
+        requires source { IsSourceOf self.old.system.now (record { instance = at.instance; variable = variable; is_output = false }) source.now }
         ensures reacted { HasArrived self.old at meter.old.left result self.new meter.new.left }
         ensures outs { Remembered result (ArePutOut self.old self.new) }
         ensures fewer { meter.new.left ≤ meter.old.left }
@@ -516,9 +519,12 @@ impl Taking<'_> {
         self.react_with(block, at, from_ref(&value), values, meter, emits)
     }
 
-    /// .. where any number of variables are WITH the event.
-    #[inline(never)]
-    fn react_to_several(
+    /// A basic block samples any number of variables, and reacts to an event.
+    ///
+    /// # Errors
+    /// As `arrive_basic`.
+    #[inline(always)]
+    fn sample_each_and_react(
         &mut self,
         block: &BasicType,
         instance: u32,
@@ -559,10 +565,32 @@ impl Taking<'_> {
         end
     }
 
-    /// An event arrives at an event input of a basic block. `emits` is room for what it emits.
-    ///
-    /// # Errors
-    /// `Halt::Stop` where a reason ends the reaction: what was emitted before it is kept.
+    /// The same as `arrive_basic`, where any number of variables are WITH the event.
+    #[inline(never)]
+    fn react_to_several(
+        &mut self,
+        block: &BasicType,
+        instance: u32,
+        event: u32,
+        meter: &mut Meter,
+        emits: &mut Emits,
+    ) -> End
+        requires index { MayArrive self.old (record { instance = instance; event = event; is_output = false }) }
+        requires kind { HasKind self.old instance (Basic block.now) }
+        requires one { IsOne self.old.system.now self.old.forest.now instance }
+        ensures reacted { HasArrived self.old (record { instance = instance; event = event; is_output = false }) meter.old.left (ended result) self.new meter.new.left }
+        ensures outs { Remembered (ended result) (ArePutOut self.old self.new) }
+        ensures fewer { meter.new.left ≤ meter.old.left }
+
+        // Also where memory runs out.
+        ensures kept { IsKept self.old self.new }
+        ensures same { IsSame self.old self.new }
+    {
+        End::of(self.sample_each_and_react(block, instance, event, meter, emits))
+    }
+
+    /// An event arrives at an event input of a basic block. `emits` is room for what it emits. Where a reason ends the
+    /// reaction, what was emitted before it is kept.
     fn arrive_basic(
         &mut self,
         block: &BasicType,
@@ -570,12 +598,12 @@ impl Taking<'_> {
         event: u32,
         meter: &mut Meter,
         emits: &mut Emits,
-    ) -> Result<(), Halt>
+    ) -> End
         requires index { MayArrive self.old (record { instance = instance; event = event; is_output = false }) }
         requires kind { HasKind self.old instance (Basic block.now) }
         requires one { IsOne self.old.system.now self.old.forest.now instance }
-        ensures reacted { HasArrived self.old (record { instance = instance; event = event; is_output = false }) meter.old.left result self.new meter.new.left }
-        ensures outs { Remembered result (ArePutOut self.old self.new) }
+        ensures reacted { HasArrived self.old (record { instance = instance; event = event; is_output = false }) meter.old.left (ended result) self.new meter.new.left }
+        ensures outs { Remembered (ended result) (ArePutOut self.old self.new) }
         ensures fewer { meter.new.left ≤ meter.old.left }
 
         // Also where memory runs out.
@@ -591,10 +619,10 @@ impl Taking<'_> {
             Some(port) => match &port.with {
                 With::Nothing => {
                     let values = Values::new(*self.outbox.lines.allocator());
-                    self.react_with(block, at, &[], values, meter, emits)
+                    End::of(self.react_with(block, at, &[], values, meter, emits))
                 }
                 With::One(variable, source) => {
-                    self.react_to_one(block, at, *variable, source, meter, emits)
+                    End::of(self.react_to_one(block, at, *variable, source, meter, emits))
                 }
                 With::Several => self.react_to_several(block, instance, event, meter, emits),
             },
@@ -602,9 +630,12 @@ impl Taking<'_> {
         }
     }
 
-    /// .. with its result read at once (see `take_waiting`).
+    /// The same as `arrive_basic`, with the result that its end stands for.
+    ///
+    /// # Errors
+    /// `Halt::Stop` where a reason ends the reaction: what was emitted before it is kept.
     #[inline(always)]
-    fn arrive_basic_apart(
+    fn arrive_basic_read(
         &mut self,
         block: &BasicType,
         instance: u32,
@@ -623,8 +654,8 @@ impl Taking<'_> {
         ensures kept { IsKept self.old self.new }
         ensures same { IsSame self.old self.new }
     {
-        self.arrive_basic(block, instance, event, meter, emits)?;
-        Ok(())
+        self.arrive_basic(block, instance, event, meter, emits)
+            .result()
     }
 
     /// An event arrives at a port of an instance. `emits` is room for what a leaf emits.
@@ -650,7 +681,7 @@ impl Taking<'_> {
         match system.kind(at.instance) {
             TypeNumber::Event(kind) => self.arrive_event(kind, at, emits),
             TypeNumber::Declared(index) => match system.library().blocks.get(index) {
-                Some(BlockType::Basic(block)) => self.arrive_basic_apart(
+                Some(BlockType::Basic(block)) => self.arrive_basic_read(
                     block,
                     at.instance,
                     at.event,

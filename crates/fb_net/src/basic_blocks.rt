@@ -84,7 +84,8 @@ fn react_at(
     }
 }
 
-/// .. of one that may be in a composite. It calls itself for each composite, so the reaction itself is a call.
+/// The reaction of the basic block on a way that may go down into composites. This function calls itself for each
+/// composite, so it is a call.
 fn react_below(
     blocks: &mut Items<Block>,
     first: usize,
@@ -119,8 +120,9 @@ fn react_below(
     }
 }
 
-/// .. of the one at an index.
-#[inline(never)]
+/// The reaction of the basic block at an index among `blocks`. It is inlined into both ways that lead here: `react` is a
+/// call anyway, and another one around it would only pass its arguments on.
+#[inline(always)]
 fn react_here(
     blocks: &mut Items<Block>,
     first: usize,

@@ -7,7 +7,7 @@ use fb_event::EventState;
 use fb_types::Items;
 
 /// A function block with what is inside it: what only a reaction reads and changes. What connections and stimuli set
-/// of an instance is apart from its block (`shell::Shell`).
+/// of an instance is not in its block (`shell::Shell`).
 #[derive(Drop)]
 pub enum Block {
     /// A basic block: where its chart is, and its variables.

@@ -69,7 +69,7 @@ pub fn hold_carried(forest: &mut Forest, system: &System, values: &MessageValues
     hold_some(forest, system, values);
 }
 
-/// .. where there are some.
+/// The same as `hold_carried`, where there are values.
 #[inline(never)]
 fn hold_some(forest: &mut Forest, system: &System, values: &MessageValues)
     requires { All (IsCarried system.now) values.now }
@@ -81,7 +81,7 @@ fn hold_some(forest: &mut Forest, system: &System, values: &MessageValues)
     }
 }
 
-/// .. a single one, which was in place.
+/// The same as `hold_carried`, for a single value, which was in place.
 #[inline(always)]
 fn hold_one(forest: &mut Forest, system: &System, item: &Carried)
     requires { IsCarried system.now item.now }
@@ -95,7 +95,7 @@ fn hold_one(forest: &mut Forest, system: &System, item: &Carried)
     forest.hold(system, output, item.value);
 }
 
-/// .. those of a list.
+/// The same as `hold_carried`, for the values of a list.
 #[inline(never)]
 fn hold_each(forest: &mut Forest, system: &System, carried: &[Carried])
     requires { All (IsCarried system.now) carried.now }

@@ -1,17 +1,17 @@
 //! Emissions, and where events go.
 
-ghost use Rattle.std.specs.Prelude.{◌≡◌, ◌≢◌, ◌++◌, ◌∷◌, [], ◌<◌, length, map, All, IfOk, OnOk, true};
+ghost use Rattle.std.specs.Prelude.{◌≡◌, ◌++◌, ◌∷◌, [], ◌<◌, length, map, All, IfOk, OnOk, true};
 ghost use Rattle.fb_types.specs.Blocks.{outputs_with};
 ghost use Rattle.fb_types.specs.Numbers.{event_at};
-ghost use Rattle.fb_types.specs.OfSystem.{IsInstance, IsResource, carried_of, line_of, path_at, port_of, ports_at, resource_at, spread, targets_at};
+ghost use Rattle.fb_types.specs.OfSystem.{IsInstance, carried_of, line_of, path_at, port_of, ports_at, resource_at, spread, targets_at};
 ghost use Rattle.fb_system.specs.Lines.{IsEmission};
 ghost use Rattle.fb_system.specs.IndexLists.{AreIndexes};
 ghost use Rattle.fb_system.specs.PortRows.{IsPortRow};
-ghost use Rattle.fb_system.specs.OfSystem.{BelongsTo, IsCarried, IsPort, IsTarget, LeadsTo};
+ghost use Rattle.fb_system.specs.OfSystem.{BelongsTo, IsCarried, IsPort, LeadsTo};
 ghost use Rattle.fb_net.specs.Changes.{Changes};
-ghost use Rattle.fb_net.specs.Emitting.{bare, carried_by, others, outputs_shown};
+ghost use Rattle.fb_net.specs.Emitting.{bare, carried_by, message_to, others, out_to, outputs_shown};
 ghost use Rattle.fb_net.specs.Steps.{ArePutOut, EmitsAll, EmitsWell, IsKept, IsSame, MayEmit, ports_in};
-ghost use Rattle.fb_net.specs.OfSystem.{IsOut, PutsOut, out_of, outputs_at};
+ghost use Rattle.fb_net.specs.OfSystem.{IsOut, out_of, outputs_at};
 
 use crate::outbox::{Out, Outbox, OutgoingMessage};
 use crate::resource::Forest;
@@ -23,28 +23,51 @@ use fb_types::{
 use std::alloc::{AllocError, Global};
 use std::slice::from_ref;
 
-/// Puts out an event that goes to a target: a local event where the target is in the same resource, as most do, else a
-/// message.
+/// Puts out an event that goes to a target: a local event where the target is in the same resource, as most are, else a
+/// message. The target says which, and the link to it.
 #[inline(always)]
 fn put_out(
     outs: &mut Vec<Out>,
-    resource: usize,
-    system: &System,
-    target: Target,
+    reached: &NextTarget,
     instance: u32,
     indexes: &[u32],
     values: &[Value],
 ) -> Result<(), AllocError>
-    requires resource { IsResource system.now resource }
-    requires target { IsTarget system.now target }
-    requires carried { All (IsCarried system.now) (carried_by instance indexes.now values.now) }
-    ensures { OnOk result (PutsOut system.now resource (map (carried_of system.now) (carried_by instance indexes.now values.now)) (port_of system.now target) outs.old.items outs.new.items) }
+    ensures { OnOk result (outs.new.items ≡ outs.old.items ++ out_to reached.now (carried_by instance indexes.now values.now) ∷ []) }
 {
-    if system.resource(target.instance) != resource {
-        return put_message(outs, resource, system, target, instance, indexes, values);
+    if reached.here {
+        outs.reserve(1)?;
+        outs.push_reserved(Out::Local(reached.target));
+        return Ok(());
     }
+    // Most messages carry one value.
+    if let [variable] = indexes {
+        if let Some(value) = values.first() {
+            return put_message_with(outs, reached, instance, *variable, value);
+        }
+    }
+    put_message(outs, reached, instance, indexes, values)
+}
+
+/// Puts out a message to a target in another resource, with the value of one data output. Target and value are lent, so
+/// that each is copied once, to where the message waits.
+#[inline(never)]
+fn put_message_with(
+    outs: &mut Vec<Out>,
+    reached: &NextTarget,
+    instance: u32,
+    variable: u32,
+    value: &Value,
+) -> Result<(), AllocError>
+    ensures { OnOk result (outs.new.items ≡ outs.old.items ++ message_to reached.now (record { instance = instance; variable = variable; value = value.now } ∷ []) ∷ []) }
+{
     outs.reserve(1)?;
-    outs.push_reserved(Out::Local(target));
+    let values = MessageValues::one(instance, variable, *value);
+    outs.push_reserved(Out::Send(OutgoingMessage {
+        link: u32::from(reached.link),
+        target: reached.target,
+        values,
+    }));
     Ok(())
 }
 
@@ -53,110 +76,90 @@ fn put_out(
 #[inline(never)]
 fn put_message(
     outs: &mut Vec<Out>,
-    resource: usize,
-    system: &System,
-    target: Target,
+    reached: &NextTarget,
     instance: u32,
     indexes: &[u32],
     values: &[Value],
 ) -> Result<(), AllocError>
-    requires resource { IsResource system.now resource }
-    requires target { IsTarget system.now target }
-    requires away { resource_at system.now (path_at system.now target.instance) ≢ resource }
-    requires carried { All (IsCarried system.now) (carried_by instance indexes.now values.now) }
-    ensures { OnOk result (PutsOut system.now resource (map (carried_of system.now) (carried_by instance indexes.now values.now)) (port_of system.now target) outs.old.items outs.new.items) }
+    ensures { OnOk result (outs.new.items ≡ outs.old.items ++ message_to reached.now (carried_by instance indexes.now values.now) ∷ []) }
 {
-    // There are at most 1,024 links, so that the number of one fits.
-    system.facts();
-    let there = system.resource(target.instance);
-    let link = system.link(resource, there) as u32;
     let values = carried_values(*outs.allocator(), instance, indexes, values)?;
     outs.reserve(1)?;
     outs.push_reserved(Out::Send(OutgoingMessage {
-        link,
-        target,
+        link: u32::from(reached.link),
+        target: reached.target,
         values,
     }));
     Ok(())
 }
 
-/// Sends an event from a port to where its connections lead, `first` and then the others, with the values of data outputs
-/// of its instance, each at its index. Each target after the first costs one lookup, and a message memory for its values.
-/// The error is that memory runs out.
+/// Sends an event from a port to where its connections lead, `first` and then the others, with the values of data
+/// outputs of its instance, each at its index. Each target after the first costs one lookup, and a message memory for
+/// its values. The error is that memory runs out.
 #[inline(always)]
 pub fn send_out(
     outs: &mut Vec<Out>,
-    forest: &Forest,
     system: &System,
     from: Target,
     first: &Option<NextTarget>,
     indexes: &[u32],
     values: &[Value],
 ) -> Result<(), AllocError>
-    requires resource { IsResource system.now forest.now.resource }
     requires port { IsPort system.now from }
     requires first { LeadsTo system.now from 0 first.now }
     requires carried { All (IsCarried system.now) (carried_by from.instance indexes.now values.now) }
     ensures sent { OnOk result (map (out_of system.now) outs.new.items ≡ map (out_of system.now) outs.old.items
-        ++ spread system.now forest.now.resource (map (carried_of system.now) (carried_by from.instance indexes.now values.now)) (targets_at system.now (port_of system.now from))) }
-    ensures outs { OnOk result (All (IsOut system.now forest.now.resource) outs.old.items → All (IsOut system.now forest.now.resource) outs.new.items) }
+        ++ spread system.now (resource_at system.now (path_at system.now from.instance)) (map (carried_of system.now) (carried_by from.instance indexes.now values.now)) (targets_at system.now (port_of system.now from))) }
+    ensures outs { OnOk result (All (IsOut system.now (resource_at system.now (path_at system.now from.instance))) outs.old.items → All (IsOut system.now (resource_at system.now (path_at system.now from.instance))) outs.new.items) }
 {
-    let resource = forest.resource;
     let Some(reached) = first else {
         return Ok(());
     };
-    let instance = from.instance;
-    put_out(
-        outs,
-        resource,
-        system,
-        reached.target,
-        instance,
-        indexes,
-        values,
-    )?;
+    put_out(outs, reached, from.instance, indexes, values)?;
     // Mostly a port has one connection, and no other is looked for.
     if !reached.more {
         return Ok(());
     }
-    // This copy is made here alone, so that where there is no other connection no port is put into memory for the call.
-    let from = Target {
-        instance,
-        event: from.event,
-        is_output: from.is_output,
-    };
-    send_others(outs, resource, system, from, indexes, values)
+    send_others(outs, system, from, indexes, values)
 }
 
-/// .. to where its connections after the first lead.
-#[inline(never)]
+/// Sends an event from a port to where its connections after the first lead, as `send_out` does. It is inlined, and its
+/// own copy of the port goes to the call: so where there is no other connection no port is put into memory.
+#[inline(always)]
 fn send_others(
     outs: &mut Vec<Out>,
-    resource: usize,
     system: &System,
     from: Target,
     indexes: &[u32],
     values: &[Value],
 ) -> Result<(), AllocError>
-    requires resource { IsResource system.now resource }
     requires port { IsPort system.now from }
     requires carried { All (IsCarried system.now) (carried_by from.instance indexes.now values.now) }
     ensures sent { OnOk result (map (out_of system.now) outs.new.items ≡ map (out_of system.now) outs.old.items
-        ++ spread system.now resource (map (carried_of system.now) (carried_by from.instance indexes.now values.now)) (others (targets_at system.now (port_of system.now from)))) }
-    ensures outs { OnOk result (All (IsOut system.now resource) outs.old.items → All (IsOut system.now resource) outs.new.items) }
+        ++ spread system.now (resource_at system.now (path_at system.now from.instance)) (map (carried_of system.now) (carried_by from.instance indexes.now values.now)) (others (targets_at system.now (port_of system.now from)))) }
+    ensures outs { OnOk result (All (IsOut system.now (resource_at system.now (path_at system.now from.instance))) outs.old.items → All (IsOut system.now (resource_at system.now (path_at system.now from.instance))) outs.new.items) }
+{
+    send_each_other(outs, system, from, indexes, values)
+}
+
+/// The same as `send_others`, connection by connection.
+#[inline(never)]
+fn send_each_other(
+    outs: &mut Vec<Out>,
+    system: &System,
+    from: Target,
+    indexes: &[u32],
+    values: &[Value],
+) -> Result<(), AllocError>
+    requires port { IsPort system.now from }
+    requires carried { All (IsCarried system.now) (carried_by from.instance indexes.now values.now) }
+    ensures sent { OnOk result (map (out_of system.now) outs.new.items ≡ map (out_of system.now) outs.old.items
+        ++ spread system.now (resource_at system.now (path_at system.now from.instance)) (map (carried_of system.now) (carried_by from.instance indexes.now values.now)) (others (targets_at system.now (port_of system.now from)))) }
+    ensures outs { OnOk result (All (IsOut system.now (resource_at system.now (path_at system.now from.instance))) outs.old.items → All (IsOut system.now (resource_at system.now (path_at system.now from.instance))) outs.new.items) }
 {
     let mut index = 0;
     while let Some(reached) = system.reached(from, index + 1) {
-        let target = reached.target;
-        put_out(
-            outs,
-            resource,
-            system,
-            target,
-            from.instance,
-            indexes,
-            values,
-        )?;
+        put_out(outs, &reached, from.instance, indexes, values)?;
         if !reached.more {
             return Ok(());
         }
@@ -169,16 +172,14 @@ fn send_others(
 #[inline(always)]
 fn send_bare(
     outs: &mut Vec<Out>,
-    forest: &Forest,
     system: &System,
     instance: u32,
     event: u32,
 ) -> Result<(), AllocError>
-    requires resource { IsResource system.now forest.now.resource }
     requires port { IsPort system.now (record { instance = instance; event = event; is_output = true }) }
     ensures sent { OnOk result (map (out_of system.now) outs.new.items ≡ map (out_of system.now) outs.old.items
-        ++ spread system.now forest.now.resource [] (targets_at system.now (port_of system.now (record { instance = instance; event = event; is_output = true })))) }
-    ensures outs { OnOk result (All (IsOut system.now forest.now.resource) outs.old.items → All (IsOut system.now forest.now.resource) outs.new.items) }
+        ++ spread system.now (resource_at system.now (path_at system.now instance)) [] (targets_at system.now (port_of system.now (record { instance = instance; event = event; is_output = true })))) }
+    ensures outs { OnOk result (All (IsOut system.now (resource_at system.now (path_at system.now instance))) outs.old.items → All (IsOut system.now (resource_at system.now (path_at system.now instance))) outs.new.items) }
 {
     let from = Target {
         instance,
@@ -186,25 +187,23 @@ fn send_bare(
         is_output: true,
     };
     match system.kept_port(from) {
-        Some(port) => send_out(outs, forest, system, from, &port.first, &[], &[]),
-        None => send_by_tables(outs, forest, system, instance, event),
+        Some(port) => send_out(outs, system, from, &port.first, &[], &[]),
+        None => send_by_tables(outs, system, instance, event),
     }
 }
 
-/// .. from a port that is not kept.
+/// The same as `send_bare`, from a port that has no row.
 #[inline(never)]
 fn send_by_tables(
     outs: &mut Vec<Out>,
-    forest: &Forest,
     system: &System,
     instance: u32,
     event: u32,
 ) -> Result<(), AllocError>
-    requires resource { IsResource system.now forest.now.resource }
     requires port { IsPort system.now (record { instance = instance; event = event; is_output = true }) }
     ensures sent { OnOk result (map (out_of system.now) outs.new.items ≡ map (out_of system.now) outs.old.items
-        ++ spread system.now forest.now.resource [] (targets_at system.now (port_of system.now (record { instance = instance; event = event; is_output = true })))) }
-    ensures outs { OnOk result (All (IsOut system.now forest.now.resource) outs.old.items → All (IsOut system.now forest.now.resource) outs.new.items) }
+        ++ spread system.now (resource_at system.now (path_at system.now instance)) [] (targets_at system.now (port_of system.now (record { instance = instance; event = event; is_output = true })))) }
+    ensures outs { OnOk result (All (IsOut system.now (resource_at system.now (path_at system.now instance))) outs.old.items → All (IsOut system.now (resource_at system.now (path_at system.now instance))) outs.new.items) }
 {
     let from = Target {
         instance,
@@ -212,7 +211,7 @@ fn send_by_tables(
         is_output: true,
     };
     let first = system.reached(from, 0);
-    send_out(outs, forest, system, from, &first, &[], &[])
+    send_out(outs, system, from, &first, &[], &[])
 }
 
 /// Writes the line of an event that was taken at a port of an instance. The error is that memory runs out.
@@ -261,7 +260,7 @@ fn publish_all(
             variable: *index,
             is_output: true,
         };
-        forest.publish(system, output, *value);
+        forest.publish(system, output, value);
     }
 }
 
@@ -286,7 +285,7 @@ fn carried_values(
     }
 }
 
-/// .. where there is at most one, which is of the data output at `index`.
+/// The value that a message carries where there is at most one, which is of the data output at `index`.
 #[inline(always)]
 fn carried_value(instance: u32, index: u32, values: &[Value]) -> MessageValues
     ensures { result ≡ carried_by instance (index ∷ []) values.now }
@@ -297,7 +296,7 @@ fn carried_value(instance: u32, index: u32, values: &[Value]) -> MessageValues
     }
 }
 
-/// .. of any number.
+/// The values that a message carries, as `carried_values` gives them, for any number of them.
 #[inline(never)]
 fn carried_each(
     alloc: Global,
@@ -346,7 +345,7 @@ impl Taking<'_> {
         }
     }
 
-    /// .. at a port that is not kept.
+    /// The same as `emit_one`, at a port that has no row.
     #[inline(never)]
     fn emit_by_tables(&mut self, instance: u32, emission: Emission) -> Result<(), AllocError>
         requires index { MayEmit self.old instance }
@@ -366,7 +365,7 @@ impl Taking<'_> {
         self.emit_by(instance, emission, &port)
     }
 
-    /// .. by what is known of its port: mostly one variable is WITH the event.
+    /// The same as `emit_one`, by the row of the port: mostly one variable is WITH the event.
     #[inline(always)]
     fn emit_by(
         &mut self,
@@ -417,7 +416,7 @@ impl Taking<'_> {
             variable,
             is_output: true,
         };
-        self.forest.publish(self.system, output, *value);
+        self.forest.publish(self.system, output, value);
         let from = Target {
             instance,
             event,
@@ -425,15 +424,15 @@ impl Taking<'_> {
         };
         send_out(
             &mut self.outbox.outs,
-            self.forest,
             self.system,
             from,
             first,
             &[variable],
             from_ref(value),
         )?;
-        let values = Values::one(*self.outbox.lines.allocator(), *value);
         self.outbox.lines.reserve(1)?;
+        // The value is copied after the room was asked for, so that it goes straight to its line.
+        let values = Values::one(*self.outbox.lines.allocator(), *value);
         self.outbox.lines.push_reserved(Line {
             key: *self.key,
             taken: false,
@@ -478,7 +477,6 @@ impl Taking<'_> {
         };
         send_out(
             &mut self.outbox.outs,
-            self.forest,
             self.system,
             from,
             first,
@@ -508,13 +506,7 @@ impl Taking<'_> {
         ensures kept { IsKept self.old self.new }
         ensures same { IsSame self.old self.new }
     {
-        send_bare(
-            &mut self.outbox.outs,
-            self.forest,
-            self.system,
-            instance,
-            event,
-        )?;
+        send_bare(&mut self.outbox.outs, self.system, instance, event)?;
         let values = Values::new(*self.outbox.lines.allocator());
         self.outbox.lines.reserve(1)?;
         self.outbox.lines.push_reserved(Line {
@@ -528,8 +520,8 @@ impl Taking<'_> {
     }
 
     /// Emits output events of an instance in their order: their variables are published, each has a line, and each goes
-    /// where its connections lead. They leave their list, which keeps its memory. The error is that memory runs out; each
-    /// instance has its block then too.
+    /// where its connections lead. They leave their list, which keeps its memory. The error is that memory runs out;
+    /// each instance has its block then too.
     #[inline(always)]
     pub fn emit_all(&mut self, instance: u32, emits: &mut Emits) -> Result<(), AllocError>
         requires index { MayEmit self.old instance }
@@ -548,7 +540,7 @@ impl Taking<'_> {
         }
     }
 
-    /// .. of a basic block, most of whose reactions emit one event with one value.
+    /// The same as `emit_all`, for a basic block. Most reactions of basic blocks emit one event with one value.
     #[inline(always)]
     pub fn emit_basic(&mut self, instance: u32, emits: &mut Emits) -> Result<(), AllocError>
         requires index { MayEmit self.old instance }
@@ -590,7 +582,7 @@ impl Taking<'_> {
         self.emit_with_one_by_tables(instance, event, value)
     }
 
-    /// .. at a port that is not kept.
+    /// The same as `emit_with_one`, at a port that has no row.
     #[inline(never)]
     fn emit_with_one_by_tables(
         &mut self,
@@ -610,7 +602,7 @@ impl Taking<'_> {
         self.emit_by_tables(instance, Emission { event, values })
     }
 
-    /// .. which are not one event without values.
+    /// The same as `emit_all`, for emissions that are not one event without values.
     #[inline(never)]
     fn emit_rest(&mut self, instance: u32, emits: &mut Emits) -> Result<(), AllocError>
         requires index { MayEmit self.old instance }
@@ -625,7 +617,7 @@ impl Taking<'_> {
         self.emit_each(instance, emits)
     }
 
-    /// .. one by one.
+    /// The same as `emit_all`, emission by emission.
     #[inline(always)]
     fn emit_each(&mut self, instance: u32, emits: &mut Emits) -> Result<(), AllocError>
         requires index { MayEmit self.old instance }
@@ -648,7 +640,7 @@ impl Taking<'_> {
         self.emit_others(instance, emits)
     }
 
-    /// .. those after the first.
+    /// Emits the output events that are left, after the first.
     #[inline(never)]
     fn emit_others(&mut self, instance: u32, emits: &mut Emits) -> Result<(), AllocError>
         requires index { MayEmit self.old instance }

@@ -86,7 +86,7 @@ fn react_at(
     }
 }
 
-/// .. of one that may be in a composite.
+/// The reaction of the event block on a way that may go down into composites. It calls itself for each composite.
 fn react_below(
     blocks: &mut Items<Block>,
     first: usize,
@@ -120,7 +120,7 @@ fn react_below(
     }
 }
 
-/// .. of the one at an index.
+/// The reaction of the event block at an index among `blocks`.
 #[inline(always)]
 fn react_here(
     blocks: &mut Items<Block>,
@@ -151,6 +151,7 @@ fn react_here(
 ///
 /// # Errors
 /// As of `react_event`.
+#[inline(always)]
 pub fn expire_event(
     forest: &mut Forest,
     system: &System,
@@ -180,11 +181,11 @@ pub fn expire_event(
     expire_at(blocks, first, below, tick, emits, ask)
 }
 
-/// The reaction of the event block on a way to its timer, where it is: goes down by the first index, and on by those
-/// below.
+/// The reaction of the event block on a way to its timer: goes down by the first index, and on by those below.
 ///
 /// # Errors
 /// As of `react_event`.
+#[inline(always)]
 fn expire_at(
     blocks: &mut Items<Block>,
     first: usize,
@@ -199,20 +200,66 @@ fn expire_at(
     ensures reacted { Changed (HasTurned (λ s. expiry_of s tick) ask.new emits.new) blocks.old (first ∷ below.now) result blocks.new }
     ensures only_memory { IfErr result (λ halt. halt ≡ Halt.Memory) }
 {
+    match below {
+        // Most event blocks are in no composite.
+        [] => expire_here(blocks, first, tick, emits, ask),
+        [_, ..] => expire_below(blocks, first, below, tick, emits, ask),
+    }
+}
+
+/// The reaction of the event block on a way to its timer, where the way may go down into composites. It calls itself for
+/// each composite.
+fn expire_below(
+    blocks: &mut Items<Block>,
+    first: usize,
+    below: &[u32],
+    tick: u64,
+    emits: &mut Emits,
+    ask: &mut TimerAsk,
+) -> Result<(), Halt>
+    requires early { tick ≤ 10 ^ 12 }
+    requires event { IsEventAt blocks.old (first ∷ below.now) }
+    requires fresh { emits.old ≡ [] }
+    ensures reacted { Changed (HasTurned (λ s. expiry_of s tick) ask.new emits.new) blocks.old (first ∷ below.now) result blocks.new }
+    ensures only_memory { IfErr result (λ halt. halt ≡ Halt.Memory) }
+{
+    match below {
+        [] => expire_here(blocks, first, tick, emits, ask),
+        [next, rest @ ..] => {
+            let Some(slot) = blocks.get_mut(first) else {
+                unreachable!()
+            };
+            match slot.components_mut() {
+                Some(components) => {
+                    let next = *next as usize;
+                    expire_below(components, next, rest, tick, emits, ask)
+                }
+                None => unreachable!(),
+            }
+        }
+    }
+}
+
+/// The reaction of the event block at an index among `blocks` to its timer.
+#[inline(always)]
+fn expire_here(
+    blocks: &mut Items<Block>,
+    first: usize,
+    tick: u64,
+    emits: &mut Emits,
+    ask: &mut TimerAsk,
+) -> Result<(), Halt>
+    requires early { tick ≤ 10 ^ 12 }
+    requires event { IsEventAt blocks.old (first ∷ []) }
+    requires fresh { emits.old ≡ [] }
+    ensures reacted { Changed (HasTurned (λ s. expiry_of s tick) ask.new emits.new) blocks.old (first ∷ []) result blocks.new }
+    ensures only_memory { IfErr result (λ halt. halt ≡ Halt.Memory) }
+{
     let Some(slot) = blocks.get_mut(first) else {
         unreachable!()
     };
-    match below {
-        [] => match slot {
-            Block::Event(state) => expire(state, tick, emits, ask),
-            Block::Basic(_) | Block::Composite(_) => unreachable!(),
-        },
-        [next, rest @ ..] => match slot.components_mut() {
-            Some(components) => {
-                let next = *next as usize;
-                expire_at(components, next, rest, tick, emits, ask)
-            }
-            None => unreachable!(),
-        },
+    match slot {
+        Block::Event(state) => expire(state, tick, emits, ask),
+        Block::Basic(_) | Block::Composite(_) => unreachable!(),
     }
 }

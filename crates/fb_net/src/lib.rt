@@ -6,14 +6,15 @@
 //!
 //! Read in this order:
 //!
-//! - the data: `block`, the recursive type; `shell`, what connections and stimuli set of an instance; `resource`, the ways to
-//!   the blocks and the seats of the shells, with what is read and changed; `laws`, what a change of one block leaves as it was;
+//! - the data: `block`, the recursive type; `shell`, what connections and stimuli set of an instance; `resource`, the
+//!   ways to the blocks and the seats of the shells, with what is read and changed; `held_copies`, values of variables
+//!   of other resources; `laws`, what a change of one block leaves as it was;
 //! - before the first event: `building`, with `opening_charts`, `opening_blocks`, `opening_trees`, `opening_roots`,
 //!   `opening_shells`, `opening_seats` and `opening_copies`;
 //! - one event: `arrival` and `tree`; `taking`, what the steps share; `take`, by the kind of event; `arrive`, where it
-//!   arrives; `samples`, what an event samples and what composites show from inside; `bring`, slots and held copies that are
-//!   set; `event_blocks` and `basic_blocks`, the reactions of leaves; `outbox` and `emit`, emissions with their lines, local
-//!   events and messages. What goes out has no keys.
+//!   arrives, and `end`, how that ends; `samples`, what an event samples and what composites show from inside; `bring`,
+//!   slots and held copies that are set; `event_blocks` and `basic_blocks`, the reactions of leaves; `outbox` and `emit`,
+//!   emissions with their lines, local events and messages. What goes out has no keys.
 #![tactic(auto)]
 
 pub mod arrival;
@@ -23,7 +24,9 @@ pub mod block;
 mod bring;
 pub mod building;
 mod emit;
+mod end;
 mod event_blocks;
+pub mod held_copies;
 pub mod laws;
 pub mod opening_blocks;
 pub mod opening_charts;
@@ -43,9 +46,10 @@ pub mod tree;
 pub use arrival::Arrival;
 pub use block::Block;
 pub use building::build;
+pub use held_copies::HeldCopies;
 pub use opening_blocks::block_of;
 pub use opening_charts::Charts;
 pub use outbox::{Out, Outbox, OutgoingMessage};
-pub use resource::{Forest, HeldCopies};
+pub use resource::Forest;
 pub use shell::Shell;
 pub use tree::Tree;

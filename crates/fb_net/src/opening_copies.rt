@@ -1,15 +1,31 @@
 //! The held copies of a resource before the first event.
 
-ghost use Rattle.std.specs.Prelude.{◌≡◌, IfOk, OnOk};
-ghost use Rattle.fb_types.specs.OfSystem.{IsInstance};
-ghost use Rattle.fb_system.specs.OfSystem.{IsVariable, initial_at, variable_of};
-ghost use Rattle.fb_net.specs.Opening.{Covers, CoversAll, CoversIndexes, KeepsCovers};
+ghost use Rattle.std.specs.Prelude.{◌≡◌, Some, if◌then◌else◌, IfOk, OnOk};
+ghost use Rattle.fb_types.specs.OfSystem.{IsInstance, path_at};
+ghost use Rattle.fb_system.specs.OfSystem.{IsVariable, initial_at, initial_inputs, initial_outputs, variable_of};
+ghost use Rattle.fb_net.specs.HeldAt.{held_at};
+ghost use Rattle.fb_net.specs.Opening.{Covers, CoversAll, CoversIndexes, KeepsCovers, KeepsInitial};
 
-use crate::resource::HeldCopies;
+use crate::held_copies::HeldCopies;
 use fb_system::System;
-use fb_types::{InstanceVariable, Value};
+use fb_types::{InstanceVariable, Items, Value};
 use std::alloc::{AllocError, Global};
-use std::collections::BTreeMap;
+
+/// What the variables on the side of its instance on which a variable is begin with.
+fn initials(
+    alloc: Global,
+    system: &System,
+    variable: InstanceVariable,
+) -> Result<Items<Value>, AllocError>
+    requires { IsVariable system.now variable }
+    ensures { IfOk result (λ vs. vs ≡ (if variable.is_output then initial_outputs system.now (path_at system.now variable.instance) else initial_inputs system.now (path_at system.now variable.instance))) }
+{
+    if variable.is_output {
+        system.initial_outputs(alloc, variable.instance)
+    } else {
+        system.initial_inputs(alloc, variable.instance)
+    }
+}
 
 /// What a variable begins with.
 fn initial(alloc: Global, system: &System, variable: InstanceVariable) -> Result<Value, AllocError>
@@ -22,6 +38,27 @@ fn initial(alloc: Global, system: &System, variable: InstanceVariable) -> Result
         system.initial_inputs(alloc, variable.instance)?
     };
     Ok(values.as_slice()[variable.variable as usize])
+}
+
+/// Holds copies of the variables on the side of its instance on which a variable is, each with what it begins with,
+/// unless there are some.
+fn hold_side(
+    alloc: Global,
+    system: &System,
+    variable: InstanceVariable,
+    held: &mut HeldCopies,
+) -> Result<(), AllocError>
+    requires { IsVariable system.now variable }
+    ensures here { OnOk result (held_at held.new variable ≡ Some (initial_at system.now (variable_of system.now variable))) }
+    ensures kept { OnOk result (KeepsInitial system.now held.old held.new) }
+{
+    if let Some(_) = held.get(&variable) {
+        let value = initial(alloc, system, variable)?;
+        held.set(&variable, value);
+        return Ok(());
+    }
+    let values = initials(alloc, system, variable)?;
+    held.add(&variable, values)
 }
 
 /// Holds a copy of what a variable is connected to, where that is in another resource.
@@ -39,9 +76,7 @@ fn hold(
     system.facts();
     if let Some(source) = system.source(to) {
         if system.resource(source.instance) != resource {
-            let value = initial(alloc, system, source)?;
-            let key = (source.instance, source.variable, source.is_output);
-            held.insert(key, value)?;
+            hold_side(alloc, system, source, held)?;
         }
     }
     Ok(())
@@ -87,7 +122,7 @@ pub(crate) fn held_of(
     ensures { IfOk result (CoversAll system.now resource) }
 {
     system.facts();
-    let mut held = BTreeMap::new(alloc);
+    let mut held = HeldCopies::new(alloc);
     for instance in 0..system.count() as u32 {
         if system.resource(instance) == resource {
             hold_indexes(alloc, system, resource, instance, false, &mut held)?;

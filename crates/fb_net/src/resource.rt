@@ -1,25 +1,21 @@
 //! The blocks, the shells and the held copies of one resource.
 
-ghost use Rattle.std.specs.Prelude.{◌≡◌, ◌∷◌, option_map, slice_get, true, false, unwrap_or};
-ghost use Rattle.std.specs.BTreeMap.{get};
+ghost use Rattle.std.specs.Prelude.{◌≡◌, ◌∷◌, ◌↔◌, option_map, slice_get, true, false, unwrap_or, IsTrue};
 ghost use Rattle.std.specs.Option.{option_copied};
 ghost use Rattle.fb_types.specs.Flat.{zero_value};
 ghost use Rattle.fb_types.specs.Reactions.{World};
 ghost use Rattle.fb_types.specs.OfSystem.{IsInstance, path_at};
-ghost use Rattle.fb_system.specs.OfSystem.{ComesFrom, IsVariable, variable_of};
+ghost use Rattle.fb_system.specs.OfSystem.{IsSourceOf, IsVariable, variable_of};
 ghost use Rattle.fb_net.specs.Changes.{Changes, Holds, ShowsInside, input_sampled, output_shown, slot_set};
-ghost use Rattle.fb_net.specs.Worlds.{Found, InForest, IsForest, Reads, Samples, Sees, Shows, key_cmp, key_of, seat_in, value_in, way_in, with_seated};
+ghost use Rattle.fb_net.specs.HeldAt.{held_at};
+ghost use Rattle.fb_net.specs.Worlds.{Found, InForest, IsForest, Reads, Samples, Sees, Shows, seat_in, value_in, way_in, with_seated};
 ghost use Rattle.fb_net.specs.OfSystem.{IsComposite, TakesSamples};
 
 use crate::block::Block;
+use crate::held_copies::HeldCopies;
 use crate::shell::Shell;
-use fb_system::System;
+use fb_system::{Source, System};
 use fb_types::{InstanceVariable, Items, Value};
-use std::alloc::Global;
-use std::collections::BTreeMap;
-
-/// Values of variables of other resources, by instance, index, and whether it is an output.
-pub type HeldCopies = BTreeMap<(u32, u32, bool), Value, Global>;
 
 /// The instances of one resource, and the held copies of the variables of other resources to which they are
 /// connected.
@@ -174,28 +170,27 @@ impl Forest {
     }
 
     /// The held copy of a variable of another resource, or 0 where there is none.
-    #[inline(never)]
+    #[inline(always)]
     fn held(&self, source: &InstanceVariable) -> &Value
-        ensures { result.now ≡ unwrap_or (get key_cmp self.now.held (key_of source.now)) zero_value }
+        ensures { result.now ≡ unwrap_or (held_at self.now.held source.now) zero_value }
     {
-        let key = (source.instance, source.variable, source.is_output);
-        match self.held.get(&key) {
+        match self.held.get(source) {
             Some(value) => value,
             None => &NOTHING,
         }
     }
 
     /// What a source shows in the resource: what connections see at it, or the held copy where it is in another
-    /// resource.
+    /// resource. The source says where it is.
     #[inline(always)]
-    pub fn shown(&self, system: &System, source: &InstanceVariable) -> &Value
-        requires { IsVariable system.now source.now }
-        ensures { Shows system.now self.now source.now result.now }
+    pub(crate) fn shown(&self, system: &System, source: &Source) -> &Value
+        requires { IsVariable system.now source.now.variable }
+        ensures { (IsTrue source.now.here ↔ InForest system.now self.now source.now.variable.instance) → Shows system.now self.now source.now.variable result.now }
     {
-        if system.resource(source.instance) == self.resource {
-            self.seen(system, *source)
+        if source.here {
+            self.seen(system, source.variable)
         } else {
-            self.held(source)
+            self.held(&source.variable)
         }
     }
 
@@ -207,20 +202,20 @@ impl Forest {
         requires input { input.is_output ≡ false }
         ensures { Samples system.now self.now input result.now }
     {
-        self.sampled_from(system, input, &system.source(input))
+        self.sampled_from(system, input, &system.placed_source(input))
     }
 
-    /// .. where it is known what the input is connected to, if anything.
+    /// The same as `sampled`, where it is known what the input is connected to, if anything.
     #[inline(always)]
     pub(crate) fn sampled_from(
         &self,
         system: &System,
         input: InstanceVariable,
-        source: &Option<InstanceVariable>,
+        source: &Option<Source>,
     ) -> &Value
         requires variable { IsVariable system.now input }
         requires input { input.is_output ≡ false }
-        requires source { ComesFrom system.now input source.now }
+        requires source { IsSourceOf system.now input source.now }
         ensures { Samples system.now self.now input result.now }
     {
         match source {
@@ -238,20 +233,20 @@ impl Forest {
         requires composite { IsComposite system.now output }
         ensures { ShowsInside system.now self.now output result.now }
     {
-        self.shown_inside_from(system, output, &system.source(output))
+        self.shown_inside_from(system, output, &system.placed_source(output))
     }
 
-    /// .. where it is known what the output is connected to inside, if anything.
+    /// The same as `shown_inside`, where it is known what the output is connected to inside, if anything.
     #[inline(always)]
     pub(crate) fn shown_inside_from(
         &self,
         system: &System,
         output: InstanceVariable,
-        source: &Option<InstanceVariable>,
+        source: &Option<Source>,
     ) -> &Value
         requires variable { IsVariable system.now output }
         requires output { output.is_output ≡ true }
-        requires source { ComesFrom system.now output source.now }
+        requires source { IsSourceOf system.now output source.now }
         requires composite { IsComposite system.now output }
         ensures { ShowsInside system.now self.now output result.now }
     {
@@ -273,16 +268,17 @@ impl Forest {
         }
     }
 
-    /// A data output of an instance that is in the resource shows another value to connections.
+    /// A data output of an instance that is in the resource shows another value to connections. The value is lent, so
+    /// that it is copied once, to where it stays.
     #[inline(always)]
-    pub(crate) fn publish(&mut self, system: &System, output: InstanceVariable, value: Value)
+    pub(crate) fn publish(&mut self, system: &System, output: InstanceVariable, value: &Value)
         requires variable { IsVariable system.now output }
         requires output { output.is_output ≡ true }
-        ensures { Changes system.now self.old output.instance (output_shown (variable_of system.now output).name value) self.new }
+        ensures { Changes system.now self.old output.instance (output_shown (variable_of system.now output).name value.now) self.new }
     {
         system.facts();
         if let Some(shell) = self.shell_mut(output.instance) {
-            shell.published.set(output.variable as usize, value);
+            shell.published.set(output.variable as usize, *value);
         }
     }
 
@@ -308,10 +304,7 @@ impl Forest {
         ensures { Holds system.now self.old output value self.new }
     {
         system.facts();
-        let key = (output.instance, output.variable, output.is_output);
-        if let Some(held) = self.held.get_mut(&key) {
-            *held = value;
-        }
+        self.held.set(&output, value);
     }
 }
 

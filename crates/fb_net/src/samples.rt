@@ -12,8 +12,8 @@ use fb_system::System;
 use fb_types::{InstanceVariable, Target, Values};
 use std::alloc::{AllocError, Global};
 
-/// What the data inputs WITH an event input sample, in the order in which they are declared. They are at `indexes`, and the
-/// instance is in the resource.
+/// What the data inputs WITH an event input sample, in the order in which they are declared. They are at `indexes`, and
+/// the instance is in the resource.
 pub fn sampled_values(
     alloc: Global,
     forest: &Forest,

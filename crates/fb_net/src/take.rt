@@ -1,6 +1,6 @@
 //! Taking an event, by what it is.
 
-ghost use Rattle.std.specs.Prelude.{◌≡◌, ◌≤◌, ◌^◌, ℕ, None, IfErr, OnOk};
+ghost use Rattle.std.specs.Prelude.{◌≡◌, ◌≤◌, ◌^◌, ℕ, None, OnOk};
 ghost use Rattle.fb_types.specs.Blocks as model;
 ghost use Rattle.fb_types.specs.OfSystem.{IsInstance};
 ghost use Rattle.fb_net.specs.Arrivals.{expiring};
@@ -16,6 +16,7 @@ use crate::taking::Taking;
 use fb_check_names::TypeNumber;
 use fb_st::Meter;
 use fb_types::{Emits, Event, EventKind, Halt, Message, TimerAsk};
+use std::alloc::AllocError;
 
 impl Taking<'_> {
     /// Takes a stimulus, which sets slots before its event arrives.
@@ -34,9 +35,9 @@ impl Taking<'_> {
         self.arrive(at, meter, emits)
     }
 
-    /// .. with its result read at once (see `take_waiting`).
+    /// The same as `take_stimulus`, with its result read here (see `take_waiting`).
     #[inline(always)]
-    fn take_stimulus_apart(
+    fn take_stimulus_read(
         &mut self,
         row: u32,
         meter: &mut Meter,
@@ -68,27 +69,14 @@ impl Taking<'_> {
         self.arrive(message.target, meter, emits)
     }
 
-    /// .. with its result read at once (see `take_waiting`).
+    /// The timer of an event block goes off. The error is that memory runs out.
     #[inline(always)]
-    fn take_message_apart(
+    fn expire(
         &mut self,
-        message: &Message,
-        meter: &mut Meter,
+        kind: EventKind,
+        instance: u32,
         emits: &mut Emits,
-    ) -> Result<(), Halt>
-        requires { MayTake self.old (Event.Arrival message.now) }
-        ensures taken { WasTaken self.old (Event.Arrival message.now) meter.old.left result self.new meter.new.left }
-        ensures same { IsSame self.old self.new }
-    {
-        self.take_message(message, meter, emits)?;
-        Ok(())
-    }
-
-    /// The timer of an event block goes off.
-    ///
-    /// # Errors
-    /// When memory runs out, and never a stop.
-    fn expire(&mut self, kind: EventKind, instance: u32, emits: &mut Emits) -> Result<(), Halt>
+    ) -> Result<(), AllocError>
         requires instance { IsInstance self.old.system.now instance }
         requires kind { HasKind self.old instance (model.Event kind) }
         requires here { InForest self.old.system.now self.old.forest.now instance }
@@ -100,12 +88,11 @@ impl Taking<'_> {
         // Also where memory runs out.
         ensures kept { IsKept self.old self.new }
         ensures same { IsSame self.old self.new }
-        ensures only_memory { IfErr result (λ halt. halt ≡ Halt.Memory) }
     {
         emits.clear();
         let mut ask = TimerAsk::Keep;
         let tick = self.key.tick;
-        expire_event(
+        match expire_event(
             self.forest,
             self.system,
             kind,
@@ -113,17 +100,18 @@ impl Taking<'_> {
             tick,
             emits,
             &mut ask,
-        )?;
-        self.outbox.ask_timer(ask);
-        self.emit_all(instance, emits)?;
-        Ok(())
+        ) {
+            Ok(()) => {
+                self.outbox.ask_timer(ask);
+                self.emit_all(instance, emits)
+            }
+            Err(_) => Err(AllocError),
+        }
     }
 
-    /// Takes the timer of an instance. Nothing happens where it is no event block.
-    ///
-    /// # Errors
-    /// When memory runs out, and never a stop.
-    fn take_timer(&mut self, instance: u32, emits: &mut Emits) -> Result<(), Halt>
+    /// Takes the timer of an instance. Nothing happens where it is no event block. The error is that memory runs out: it
+    /// is returned in a register, where that of `arrive`, which may be a stop, goes through memory.
+    fn take_timer(&mut self, instance: u32, emits: &mut Emits) -> Result<(), AllocError>
         requires { MayTake self.old (Event.Timer instance) }
         ensures taken { OnOk result ((left : ℕ) → Came self.old.system.now self.old.key.now (Event.Timer instance) self.old.forest.now self.old.outbox.now left None self.new.forest.now left self.new.outbox.now) }
         ensures outs { OnOk result (ArePutOut self.old self.new) }
@@ -131,28 +119,11 @@ impl Taking<'_> {
         // Also where memory runs out.
         ensures kept { IsKept self.old self.new }
         ensures same { IsSame self.old self.new }
-        ensures only_memory { IfErr result (λ halt. halt ≡ Halt.Memory) }
     {
         match self.system.kind(instance) {
             TypeNumber::Event(kind) => self.expire(kind, instance, emits),
             TypeNumber::Declared(_) => Ok(()),
         }
-    }
-
-    /// .. with its result read at once (see `take_waiting`).
-    #[inline(always)]
-    fn take_timer_apart(&mut self, instance: u32, emits: &mut Emits) -> Result<(), Halt>
-        requires { MayTake self.old (Event.Timer instance) }
-        ensures taken { OnOk result ((left : ℕ) → Came self.old.system.now self.old.key.now (Event.Timer instance) self.old.forest.now self.old.outbox.now left None self.new.forest.now left self.new.outbox.now) }
-        ensures outs { OnOk result (ArePutOut self.old self.new) }
-
-        // Also where memory runs out.
-        ensures kept { IsKept self.old self.new }
-        ensures same { IsSame self.old self.new }
-        ensures only_memory { IfErr result (λ halt. halt ≡ Halt.Memory) }
-    {
-        self.take_timer(instance, emits)?;
-        Ok(())
     }
 
     /// Takes an event, whatever it is. `emits` is room for what a leaf emits.
@@ -172,7 +143,7 @@ impl Taking<'_> {
     {
         match arrival {
             Arrival::Stimulus(row) => self.take_stimulus(row, meter, emits),
-            Arrival::Timer(instance) => self.take_timer(instance, emits),
+            Arrival::Timer(instance) => Ok(self.take_timer(instance, emits)?),
             Arrival::Message(message) => self.take_message(message, meter, emits),
             Arrival::Local { target, .. } => self.arrive(target, meter, emits),
         }
@@ -194,15 +165,19 @@ impl Taking<'_> {
         ensures same { IsSame self.old self.new }
     {
         // The compiler drops the hint to inline a function that is too large with all that is always inlined into it. So
-        // `arrive` is so inlined here once, for local events.
+        // `arrive` is so inlined here once, for local events and for messages.
         //
-        // A call puts its result into memory, and then that of each arm would go there. So each call is in a function that
-        // reads the result, and that of a local event stays in registers.
-        match event {
-            Event::Stimulus(row) => self.take_stimulus_apart(*row, meter, emits),
-            Event::Timer(instance) => self.take_timer_apart(*instance, emits),
-            Event::Arrival(message) => self.take_message_apart(message, meter, emits),
-            Event::Local(target) => self.arrive(*target, meter, emits),
-        }
+        // A call puts its result into memory, and then that of each arm would go there. So the call for a stimulus is in
+        // a function that reads the result, and that of the others stays in registers.
+        let at = match event {
+            Event::Stimulus(row) => return self.take_stimulus_read(*row, meter, emits),
+            Event::Timer(instance) => return Ok(self.take_timer(*instance, emits)?),
+            Event::Arrival(message) => {
+                hold_carried(self.forest, self.system, &message.values);
+                message.target
+            }
+            Event::Local(target) => *target,
+        };
+        self.arrive(at, meter, emits)
     }
 }

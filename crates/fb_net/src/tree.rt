@@ -104,7 +104,7 @@ impl Tree {
     ///     .expect(&rt, "taken");
     /// assert!(rt; outbox.lines.len() == 1 && outbox.outs.is_empty());
     /// forget((tree, outbox));
-    /// discard_system(system);
+    /// drop(system);
     /// ```
     #[tactic(auto, using(crate::proofs::Keys::keys))]
     pub fn take(
@@ -134,7 +134,7 @@ impl Tree {
         self.take_under(system, arrival, &key, meter, outbox)
     }
 
-    /// .. where the key of the event is made.
+    /// The same as `take`, where the key of the event is made.
     #[inline(always)]
     #[tactic(auto, using(crate::proofs::Keys::keys))]
     fn take_under(

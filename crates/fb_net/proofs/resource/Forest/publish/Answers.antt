@@ -5,7 +5,7 @@ use Rattle.fb_net.proofs.resource.Forest.publish.Goals as goal
 pub returns-in-Some : goal.returns-in-Some
 returns-in-Some c =
     rw c.set.ensures
-    (output_changes c.args.system.now c.facts.ensures.accepted c.facts.ensures.numbered c.args.self.now c.args.output c.requires.variable c.args.value c.in-Some.shell.now (sym c.in-Some.ensures.value) c.requires.output)
+    (output_changes c.args.system.now c.facts.ensures.accepted c.facts.ensures.numbered c.args.self.now c.args.output c.requires.variable c.args.value.now c.in-Some.shell.now (sym c.in-Some.ensures.value) c.requires.output)
 
 pub returns-in_default : goal.returns-in_default
 returns-in_default c =

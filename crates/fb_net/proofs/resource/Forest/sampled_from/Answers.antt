@@ -1,18 +1,22 @@
 use Rattle.std.specs.Prelude.{None, Some}
 use Rattle.fb_types.specs.Headline.{system_of}
-use Rattle.fb_net.proofs.PortRows.{comes_from}
+use Rattle.fb_net.proofs.PortRows.{near, source_of}
 use Rattle.fb_net.proofs.Sampled.{slot_sampled, source_sampled}
 use Rattle.fb_net.proofs.resource.Forest.sampled_from.Goals as goal
 
 pub shown-requires : goal.shown-requires
-shown-requires c = (comes_from (system_of c.args.system.now) c.args.input c.args.source.now (Some c.in-Some.source) c.requires.source c.in-Some.is).within.variable
+shown-requires c = (source_of (system_of c.args.system.now) c.args.input c.args.source.now (Some c.in-Some.source) c.requires.source c.in-Some.is).comes.within.variable
 
 pub returns-in-Some : goal.returns-in-Some
 returns-in-Some c =
-    let from = comes_from (system_of c.args.system.now) c.args.input c.args.source.now (Some c.in-Some.source) c.requires.source c.in-Some.is in
-    source_sampled c.args.system.now c.args.self.now c.args.input c.in-Some.source _ c.requires.variable from.within from.comes c.shown.ensures
+    let sys = system_of c.args.system.now in
+    let from = source_of sys c.args.input c.args.source.now (Some c.in-Some.source) c.requires.source c.in-Some.is in
+    let source = c.in-Some.source.variable in
+    λ w tree lies.
+    source_sampled c.args.system.now c.args.self.now c.args.input source _ c.requires.variable from.comes.within from.comes.comes
+    (c.shown.ensures (near sys c.args.self.now.resource source.instance c.args.input.instance c.in-Some.source.here from.here lies)) w tree lies
 
 pub returns-in-None : goal.returns-in-None
 returns-in-None c =
-    slot_sampled c.args.system.now c.args.self.now c.args.input _ (comes_from (system_of c.args.system.now) c.args.input c.args.source.now None c.requires.source c.in-None.is).comes
+    slot_sampled c.args.system.now c.args.self.now c.args.input _ (source_of (system_of c.args.system.now) c.args.input c.args.source.now None c.requires.source c.in-None.is).comes.comes
     c.slot.ensures

@@ -67,15 +67,15 @@ returns-in_ok-enter-in-Some-Composite-clause-reacted c =
 pub arrive_event-requires-clause-typed : goal.arrive_event-requires-clause-typed
 arrive_event-requires-clause-typed c = c.requires.typed
 
-pub arrive_basic_apart-requires-clause-kind : goal.arrive_basic_apart-requires-clause-kind
-arrive_basic_apart-requires-clause-kind c =
+pub arrive_basic_read-requires-clause-kind : goal.arrive_basic_read-requires-clause-kind
+arrive_basic_read-requires-clause-kind c =
     let i = c.args.self.now.system.now in
     let declared : slice_get i.library.blocks c.in-Declared.index ≡ Some (block.Basic c.in-Some-Basic.block) =
     ap (λ (l : Library). slice_get l.blocks c.in-Declared.index) (sym c.library.ensures) ∙ sym c.in-Some-Basic.ensures.value ∙ ap Some c.in-Some-Basic.field-0-is in
     sym c.in-Declared.ensures ∙ ap (option_map kind_of) declared
 
-pub arrive_basic_apart-requires-clause-one : goal.arrive_basic_apart-requires-clause-one
-arrive_basic_apart-requires-clause-one c = (c.requires.typed.0, c.requires.typed.1, c.requires.here)
+pub arrive_basic_read-requires-clause-one : goal.arrive_basic_read-requires-clause-one
+arrive_basic_read-requires-clause-one c = (c.requires.typed.0, c.requires.typed.1, c.requires.here)
 
 pub enter-requires-clause-composite : goal.enter-requires-clause-composite
 enter-requires-clause-composite c =
@@ -99,8 +99,8 @@ pub enter-requires-clause-index : goal.enter-requires-clause-index
 enter-requires-clause-index c =
     subst (λ (t : Target). MayArrive c.args.self.now t) (at_input c.args.at c.if-at.false) (record { port = c.requires.target.port; here = c.requires.here; ready = c.requires.ready })
 
-pub arrive_basic_apart-requires-clause-index : goal.arrive_basic_apart-requires-clause-index
-arrive_basic_apart-requires-clause-index c =
+pub arrive_basic_read-requires-clause-index : goal.arrive_basic_read-requires-clause-index
+arrive_basic_read-requires-clause-index c =
     let i = c.args.self.now.system.now in
     let declared : slice_get i.library.blocks c.in-Declared.index ≡ Some (block.Basic c.in-Some-Basic.block) =
     ap (λ (l : Library). slice_get l.blocks c.in-Declared.index) (sym c.library.ensures) ∙ sym c.in-Some-Basic.ensures.value ∙ ap Some c.in-Some-Basic.field-0-is in
@@ -114,5 +114,5 @@ returns-in-Some-Basic-clause-reacted c =
     let declared : slice_get i.library.blocks c.in-Declared.index ≡ Some (block.Basic c.in-Some-Basic.block) =
     ap (λ (l : Library). slice_get l.blocks c.in-Declared.index) (sym c.library.ensures) ∙ sym c.in-Some-Basic.ensures.value ∙ ap Some c.in-Some-Basic.field-0-is in
     let is : (system_of i).kind (path_at (system_of i) c.args.at.instance) ≡ Some (Basic c.in-Some-Basic.block) = sym c.in-Declared.ensures ∙ ap (option_map kind_of) declared in
-    subst (λ (t : Target). HasArrived c.args.self.now t c.args.meter.now.left c.arrive_basic_apart.result c.arrive_basic_apart.new.self c.arrive_basic_apart.new.meter.left)
-    (sym (at_input c.args.at (basic_input (system_of i) c.args.at _ c.requires.target is))) c.arrive_basic_apart.ensures.reacted
+    subst (λ (t : Target). HasArrived c.args.self.now t c.args.meter.now.left c.arrive_basic_read.result c.arrive_basic_read.new.self c.arrive_basic_read.new.meter.left)
+    (sym (at_input c.args.at (basic_input (system_of i) c.args.at _ c.requires.target is))) c.arrive_basic_read.ensures.reacted

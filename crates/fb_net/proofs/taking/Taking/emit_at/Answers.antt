@@ -1,12 +1,13 @@
-use Rattle.std.proofs.Common.{[], ◌∷◌, ◌++◌, ◌∙◌, List, map, ap, subst, refl}
+use Rattle.std.proofs.Common.{◌≡◌, ℕ, [], ◌∷◌, ◌++◌, ◌∙◌, List, map, ap, sym, subst, refl}
+use Rattle.std.specs.Prelude.{All}
 use Rattle.fb_types.specs.Headline.{system_of}
-use Rattle.fb_types.specs.Numbers.{carried_of, event_output}
+use Rattle.fb_types.specs.Numbers.{carried_of, event_output, path_at}
 use Rattle.fb_types.specs.Reactions.{spread}
 use Rattle.fb_types.specs.declared.run.Line.{Line}
 use Rattle.fb_types.specs.declared.value.Value.{Value}
 use Rattle.fb_net.specs.Changes.{Changes}
 use Rattle.fb_net.specs.Emitting.{carried_by, outputs_at, outputs_shown}
-use Rattle.fb_net.specs.Outs.{out_of}
+use Rattle.fb_net.specs.Outs.{IsOut, out_of}
 use Rattle.fb_net.specs.declared.outbox.Outbox.{Outbox}
 use Rattle.fb_net.proofs.Emitting.{Doing, are_carried, has_emitted, line_by}
 use Rattle.fb_net.proofs.Wholes.{kept-changed}
@@ -26,6 +27,7 @@ returns-clause-emitted c =
     let f = c.args.self.now.forest.now in
     let g = c.publish_all.new.forest in
     let x = c.args.self.now.outbox.now in
+    let lies : sys.resource (path_at sys k) ≡ g.resource = c.requires.index.here ∙ sym c.publish_all.ensures.resource in
     let y : Outbox = record { lines = c.push_reserved.new.self; outs = c.send_out.new.outs; timer = x.timer } in
     let done : Doing i c.args.self.now.key.now k f x e g y = record {
       indexes = indexes;
@@ -33,8 +35,9 @@ returns-clause-emitted c =
       published = subst (λ (vs : List Value). Changes i f k (outputs_shown (outputs_at sys k indexes vs)) g) c.as_slice.ensures c.publish_all.ensures;
       sent =
           c.in_ok-send_out.ensures.sent
-          ∙ ap (λ (vs : List Value). map (out_of sys) x.outs.items ++ spread sys g.resource (map (carried_of sys) (carried_by k indexes vs)) (sys.targets (event_output sys k e.event))) c.as_slice-2.ensures;
-      belong = c.in_ok-send_out.ensures.outs;
+          ∙ ap (λ (vs : List Value). map (out_of sys) x.outs.items ++ spread sys (sys.resource (path_at sys k)) (map (carried_of sys) (carried_by k indexes vs)) (sys.targets (event_output sys k e.event))) c.as_slice-2.ensures
+          ∙ ap (λ (r : ℕ). map (out_of sys) x.outs.items ++ spread sys r (map (carried_of sys) (carried_by k indexes e.values)) (sys.targets (event_output sys k e.event))) lies;
+      belong = subst (λ (r : ℕ). All (IsOut sys r) x.outs.items → All (IsOut sys r) c.send_out.new.outs.items) lies c.in_ok-send_out.ensures.outs;
       lines = c.push_reserved.ensures.items ∙ ap (λ (ls : List Line). ls ++ line_by c.args.self.now.key.now k e ∷ []) c.in_ok-reserve.ensures.items;
       timer = refl;
     } in

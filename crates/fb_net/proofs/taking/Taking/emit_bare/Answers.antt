@@ -1,7 +1,12 @@
-use Rattle.std.proofs.Common.{[], ◌∷◌, ◌++◌, ◌∙◌, List, ap, refl}
+use Rattle.std.proofs.Common.{ℕ, [], ◌∷◌, ◌++◌, ◌∙◌, List, map, ap, subst, refl}
+use Rattle.std.specs.Prelude.{All}
+use Rattle.fb_types.specs.Headline.{system_of}
+use Rattle.fb_types.specs.Numbers.{event_output}
+use Rattle.fb_types.specs.Reactions.{spread}
 use Rattle.fb_types.specs.declared.run.Line.{Line}
 use Rattle.fb_types.specs.declared.value.Value.{Value}
 use Rattle.fb_net.specs.Emitting.{bare}
+use Rattle.fb_net.specs.Outs.{IsOut, out_of}
 use Rattle.fb_net.specs.declared.outbox.Outbox.{Outbox}
 use Rattle.fb_net.proofs.Emitting.{Doing, has_emitted, line_by, no_indexes}
 use Rattle.fb_net.proofs.Publishing.{nothing_shown}
@@ -11,6 +16,7 @@ use Rattle.fb_net.proofs.taking.Taking.emit_bare.Goals as goal
 pub returns-clause-emitted : goal.returns-clause-emitted
 returns-clause-emitted c =
     let i = c.args.self.now.system.now in
+    let sys = system_of i in
     let key = c.args.self.now.key.now in
     let k = c.args.instance in
     let e = bare c.args.event in
@@ -21,8 +27,10 @@ returns-clause-emitted c =
       indexes = [];
       stand = no_indexes _ _ c.requires.emission.values;
       published = nothing_shown i k f;
-      sent = c.in_ok-send_bare.ensures.sent;
-      belong = c.in_ok-send_bare.ensures.outs;
+      sent =
+          c.in_ok-send_bare.ensures.sent
+          ∙ ap (λ (r : ℕ). map (out_of sys) x.outs.items ++ spread sys r [] (sys.targets (event_output sys k e.event))) c.requires.index.here;
+      belong = subst (λ (r : ℕ). All (IsOut sys r) x.outs.items → All (IsOut sys r) c.send_bare.new.outs.items) c.requires.index.here c.in_ok-send_bare.ensures.outs;
       lines =
           c.push_reserved.ensures.items
           ∙ ap (λ (vs : List Value). c.reserve.new.self.items ++ line_by key k (record { event = c.args.event; values = vs }) ∷ []) c.new-values.ensures

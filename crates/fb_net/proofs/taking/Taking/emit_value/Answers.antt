@@ -1,13 +1,14 @@
-use Rattle.std.proofs.Common.{◌≡◌, [], ◌∷◌, ◌++◌, ◌∙◌, List, length, map, ap, subst, refl, rules, arith}
+use Rattle.std.proofs.Common.{◌≡◌, ℕ, [], ◌∷◌, ◌++◌, ◌∙◌, List, length, map, ap, sym, subst, refl, rules, arith}
+use Rattle.std.specs.Prelude.{All}
 use Rattle.std.proofs.lemmas.Grind.{common_steps}
 use Rattle.fb_types.specs.Headline.{system_of}
-use Rattle.fb_types.specs.Numbers.{carried_of, event_output}
+use Rattle.fb_types.specs.Numbers.{carried_of, event_output, path_at}
 use Rattle.fb_types.specs.Reactions.{spread}
 use Rattle.fb_types.specs.declared.run.Emission.{Emission}
 use Rattle.fb_types.specs.declared.run.Line.{Line}
 use Rattle.fb_types.specs.declared.value.Value.{Value}
 use Rattle.fb_net.specs.Emitting.{carried_by, outputs_at, outputs_shown}
-use Rattle.fb_net.specs.Outs.{out_of}
+use Rattle.fb_net.specs.Outs.{IsOut, out_of}
 use Rattle.fb_net.specs.declared.outbox.Outbox.{Outbox}
 use Rattle.fb_net.proofs.Changing.{changes_as}
 use Rattle.fb_net.proofs.Emitting.{Doing, are_carried, has_emitted, line_by}
@@ -33,15 +34,19 @@ returns-clause-emitted c =
     let g = c.publish.new.self in
     let x = c.args.self.now.outbox.now in
     let y : Outbox = record { lines = c.push_reserved.new.self; outs = c.send_out.new.outs; timer = x.timer } in
+    let lies : sys.resource (path_at sys k) ≡ g.resource = c.requires.index.here ∙ sym c.publish.ensures.resource in
     let one : c.from_ref.result.now ≡ c.args.value.now ∷ [] = first_of (cc, search rules, search (rules, c.from_ref.ensures.value), grind (arith, common_steps)) in
     let done : Doing i key k f x e g y = record {
       indexes = indexes;
       stand = c.requires.indexes;
       published = changes_as (outputs_shown (outputs_at sys k indexes e.values)) c.publish.ensures (λ m. refl);
       sent = subst
-          (λ (vs : List Value). map (out_of sys) c.send_out.new.outs.items ≡ map (out_of sys) x.outs.items ++ spread sys g.resource (map (carried_of sys) (carried_by k indexes vs)) (sys.targets (event_output sys k e.event)))
-          one c.in_ok-send_out.ensures.sent;
-      belong = c.in_ok-send_out.ensures.outs;
+          (λ (r : ℕ). map (out_of sys) c.send_out.new.outs.items ≡ map (out_of sys) x.outs.items ++ spread sys r (map (carried_of sys) (carried_by k indexes e.values)) (sys.targets (event_output sys k e.event)))
+          lies
+          (subst
+          (λ (vs : List Value). map (out_of sys) c.send_out.new.outs.items ≡ map (out_of sys) x.outs.items ++ spread sys (sys.resource (path_at sys k)) (map (carried_of sys) (carried_by k indexes vs)) (sys.targets (event_output sys k e.event)))
+          one c.in_ok-send_out.ensures.sent);
+      belong = subst (λ (r : ℕ). All (IsOut sys r) x.outs.items → All (IsOut sys r) c.send_out.new.outs.items) lies c.in_ok-send_out.ensures.outs;
       lines =
           c.push_reserved.ensures.items
           ∙ ap (λ (vs : List Value). c.reserve.new.self.items ++ line_by key k (record { event = c.args.event; values = vs }) ∷ []) c.one-values.ensures

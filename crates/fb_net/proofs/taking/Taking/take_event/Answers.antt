@@ -1,24 +1,26 @@
-use Rattle.std.proofs.Common.{arith, sym, subst}
+use Rattle.std.proofs.Common.{Ok, Err, arith, sym, subst}
+use Rattle.std.proofs.lemmas.Result.{err_from_is_err_and}
+use Rattle.fb_types.specs.declared.run.Halt.TheVariants as halt
 use Rattle.fb_net.specs.Events.{IsNumbered, event_in}
 use Rattle.fb_net.specs.Steps.{MayTake, WasTaken}
 use Rattle.fb_net.specs.declared.arrival.Arrival.{Arrival}
-use Rattle.fb_net.proofs.ByEvent.{local-taken, timer-ended}
-use Rattle.fb_net.proofs.Crossing.{remembered-ended}
+use Rattle.fb_net.proofs.ByEvent.{local-taken}
 use Rattle.fb_net.proofs.taking.Taking.take_event.Goals as goal
 
-pub returns-in-Timer-clause-taken : goal.returns-in-Timer-clause-taken
-returns-in-Timer-clause-taken c =
-    let i = c.args.self.now.system.now in
+pub returns-in_ok-take_timer-in-Timer-clause-taken : goal.returns-in_ok-take_timer-in-Timer-clause-taken
+returns-in_ok-take_timer-in-Timer-clause-taken c =
     let left = c.args.meter.now.left in
-    let done = c.take_timer in
-    subst (λ (a : Arrival). WasTaken c.args.self.now (event_in a) left done.result done.new.self left) (sym c.in-Timer.is)
-    (record {
-      taken = timer-ended i c.args.self.now.key.now c.in-Timer.instance c.args.self.now.forest.now done.new.self.forest.now c.args.self.now.outbox.now done.new.self.outbox.now left done.result
-          done.ensures.only_memory done.ensures.taken;
-      outs = remembered-ended _ done.result done.ensures.only_memory done.ensures.outs;
-      fewer = omega arith;
-      kept = done.ensures.kept;
-    })
+    let done = c.in_ok-take_timer-in-Timer.ensures in
+    subst (λ (a : Arrival). WasTaken c.args.self.now (event_in a) left (Ok tt) c.take_timer.new.self left) (sym c.in-Timer.is)
+    (record { taken = done.taken left; outs = done.outs; fewer = omega arith; kept = c.take_timer.ensures.kept })
+
+pub returns-in_err-take_timer-in-Timer-clause-taken : goal.returns-in_err-take_timer-in-Timer-clause-taken
+returns-in_err-take_timer-in-Timer-clause-taken c =
+    let left = c.args.meter.now.left in
+    let memory = err_from_is_err_and c.from_residual.result c.from_residual.ensures.1 in
+    rw (memory.1, memory.2)
+    (subst (λ (a : Arrival). WasTaken c.args.self.now (event_in a) left (Err halt.Memory) c.take_timer.new.self left) (sym c.in-Timer.is)
+    (record { taken = tt; outs = tt; fewer = omega arith; kept = c.take_timer.ensures.kept }))
 
 pub returns-in-Local-clause-taken : goal.returns-in-Local-clause-taken
 returns-in-Local-clause-taken c =

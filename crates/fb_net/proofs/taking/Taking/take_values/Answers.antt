@@ -40,4 +40,4 @@ returns-clause-outs c =
     c.write_taken.ensures.lines
 
 pub take_value-requires-clause-source : goal.take_value-requires-clause-source
-take_value-requires-clause-source c = record { comes = c.source-source.ensures.comes; within = c.source-source.ensures.within }
+take_value-requires-clause-source c = c.placed_source-source.ensures

@@ -6,7 +6,7 @@ use Rattle.fb_net.proofs.Charting.{chart-reacts}
 use Rattle.fb_net.specs.Outs.{StillAreOuts}
 use Rattle.fb_net.proofs.PutOut.{blocks-changed, remembered-always}
 use Rattle.fb_net.proofs.Wholes.{kept-same, kept-then, kept-world}
-use Rattle.fb_net.proofs.taking.Taking.react_to_several.Goals as goal
+use Rattle.fb_net.proofs.taking.Taking.sample_each_and_react.Goals as goal
 
 pub returns-clause-reacted : goal.returns-clause-reacted
 returns-clause-reacted c =

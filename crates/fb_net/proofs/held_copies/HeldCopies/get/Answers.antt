@@ -1,0 +1,35 @@
+use Rattle.std.proofs.Common.{◌≡◌, None, Some, sym, ap, ◌∙◌}
+use Rattle.std.specs.Prelude.{slice_get}
+use Rattle.fb_net.specs.HeldAt.{place_of}
+use Rattle.fb_net.specs.Worlds.{seat_in}
+use Rattle.fb_net.proofs.HeldRows.{copy_elsewhere, copy_here, held_by}
+use Rattle.fb_net.proofs.held_copies.HeldCopies.get.Goals as goal
+
+pub returns : goal.returns
+returns c =
+    let h = c.args.self.now in
+    let x = c.args.variable.now in
+    let row = c.in_ok-row.row.now in
+    let at = ap (seat_in h.indexes) c.place_of-place.ensures in
+    let there : slice_get h.rows (seat_in h.indexes (place_of x)) ≡ Some row =
+    ap (slice_get h.rows) (sym (c.index.ensures ∙ at)) ∙ sym c.in_ok-row.ensures.value in
+    c.get-2.ensures.value ∙ sym (held_by h x (Some row) there ∙ copy_here row x (c.if-row-place.false ∙ c.place_of-place.ensures))
+
+pub returns-then-row-place : goal.returns-then-row-place
+returns-then-row-place c =
+    let h = c.args.self.now in
+    let x = c.args.variable.now in
+    let row = c.in_ok-row.row.now in
+    let at = ap (seat_in h.indexes) c.place_of-place.ensures in
+    let there : slice_get h.rows (seat_in h.indexes (place_of x)) ≡ Some row =
+    ap (slice_get h.rows) (sym (c.index.ensures ∙ at)) ∙ sym c.in_ok-row.ensures.value in
+    sym (held_by h x (Some row) there ∙ copy_elsewhere row x (λ e. c.if-row-place.true (e ∙ sym c.place_of-place.ensures)))
+
+pub returns-in_err-row : goal.returns-in_err-row
+returns-in_err-row c =
+    let h = c.args.self.now in
+    let x = c.args.variable.now in
+    let at = ap (seat_in h.indexes) c.place_of-place.ensures in
+    let there : slice_get h.rows (seat_in h.indexes (place_of x)) ≡ None =
+    ap (slice_get h.rows) (sym (c.index.ensures ∙ at)) ∙ sym c.in_err-row.ensures.value in
+    rw c.from_residual.ensures (sym (held_by h x None there))
