@@ -15,7 +15,7 @@ use Rattle.fb_types.proofs.KeyLaws.{earlier_precedes, key_cmp_total, same_key_is
 use Rattle.fb_agenda.specs.Agendas.{Contents, waiting, AreRising, AreApart, IsFirst, IsFirstTick, IsLeast, IsNext, IsQueue}
 use Rattle.fb_agenda.specs.Calendars.{BeginsAt, Leads, Sets}
 use Rattle.fb_types.specs.declared.run.Event.{Event}
-use Rattle.fb_agenda.specs.Indexes.{taken}
+use Rattle.fb_agenda.specs.Slots.{taken}
 use Rattle.fb_agenda.specs.declared.least.Least.{Least}
 use Rattle.fb_agenda.proofs.Orders.{less_from, not_none, absent, all_later, precedes, without_first}
 use Rattle.fb_types.proofs.Lookups.{or_else_none, or_else_nones}
@@ -103,14 +103,6 @@ pub first_some : {X : Type 0} (o p : Option X) → IsSome o → IsSome (or_else 
 first_some {X} None p there = absurd (not_none {X = X} None there refl)
 first_some (Some x) p there = refl
 
--- if the queue is empty
-pub least_of_later : (c : Contents) (o : Option Key) → c.running ≡ [] → IfSome o (IsFirst c.later) → IfSome o (IsLeast c)
-least_of_later c None none first = tt
-least_of_later c (Some k) none first = record {
-  waits = either_some (lookup (same_key k) c.running) (lookup (same_key k) c.later) first.there;
-  none_before = λ j before. or_else_nones (lookup (same_key j) c.running) (lookup (same_key j) c.later) (ap (λ es. lookup (same_key j) es) none) (first.none_before j before);
-}
-
 -- if the first of the others comes before the first in the queue
 pub least_is_later : (c : Contents) (k l : Key) → IsFirst c.running l → IsFirst c.later k → Precedes k l → IsLeast c k
 least_is_later c k l local later less = record {
@@ -157,11 +149,6 @@ next_least c k least = record {
   waits = (k, refl, least.waits);
   none_below = λ j there. not_below j.tick k.tick (λ less. not_none (waiting c j) there (least.none_before j (earlier_precedes j k less)));
 }
-
--- if the queue is empty
-pub next_of_later : (c : Contents) (o : Option ℕ) → c.running ≡ [] → IfSome o (IsFirstTick c.later) → IfSome o (IsNext c)
-next_of_later c None none first = tt
-next_of_later c (Some t) none first = subst (IsNext c) first.1 (next_least c first.0 (least_of_later c (Some first.0) none first.2))
 
 -- if both have events
 pub next_of_both : (c : Contents) (t u : ℕ) → IsFirstTick c.running t → IsFirstTick c.later u → IsNext c (min t u)

@@ -360,10 +360,6 @@ index_none es k rising (Err i) found =
 
 -- ---- What stays
 
-pub kept_both : {A E : Type 0} (few new many : List (Key × Event)) (o : Result A E) → OnErr o (new ≡ few) → OnErr o (new ++ many ≡ few ++ many)
-kept_both few new many (Ok x) kept = tt
-kept_both few new many (Err x) kept = ap (λ es. es ++ many) kept
-
 pub front_kept : (few rest many : List (Key × Event)) (o : Option (Key × Event)) → few ≡ option_to_list o ++ rest → IfNone o (rest ++ many ≡ few ++ many)
 front_kept few rest many None items = ap (λ es. es ++ many) (sym items)
 front_kept few rest many (Some f) items = tt

@@ -10,3 +10,4 @@ pub mod Keeping
 pub mod Ranks
 pub mod Places
 pub mod Queueing
+pub mod Moved

@@ -1,6 +1,6 @@
 -- The tick and the resource of keys, and where events wait by these.
-use Rattle.std.proofs.Common.{◌≡◌, ℕ, zero, suc, ◌<◌, ◌≤◌, Bool, true, false, cond, List, refl, sym, ap, subst, ◌∙◌, Option, Some, None, Result, Ok, Err, arith}
-use Rattle.std.specs.Prelude.{IfSome, IfNone, OnOk, OnErr}
+use Rattle.std.proofs.Common.{◌≡◌, ℕ, zero, suc, ◌<◌, ◌≤◌, Bool, true, false, cond, List, refl, sym, ap, subst, ◌∙◌, Option, Some, None, arith}
+use Rattle.std.specs.Prelude.{IfSome, IfNone}
 use Rattle.std.specs.Bool.{OnTrue}
 use Rattle.std.specs.Map.{lookup}
 use Rattle.std.specs.Ordering.{nat_cmp, ordering_then}
@@ -75,11 +75,6 @@ quiet_gone q k old new quiet sets = record { below = λ j less. sets j ∙ go (s
     go : {o : Option Event} (b : Bool) → o ≡ None → cond b None o ≡ None
     go true e = refl
     go false e = e
-
-pub quiet_result : {A E : Type 0} (q r m : Moment) (k : Key) (e : Event) (old new : List (Key × Event)) → IsQuiet q old → IsNoLater r q → IsNoLater r m → m.tick ≡ k.tick → m.resource ≡ k.resource
-    → (o : Result A E) → OnOk o (Sets k (Some e) old new) → OnErr o (new ≡ old) → IsQuiet r new
-quiet_result q r m k e old new quiet less later tick resource (Ok x) sets kept = quiet_put q r m k (Some e) old new quiet less later tick resource sets
-quiet_result q r m k e old new quiet less later tick resource (Err x) sets kept = subst (λ es. IsQuiet r es) (sym kept) (quiet_less q r old quiet less)
 
 pub quiet_popped : (q : Moment) (old new : List (Key × Event)) → IsQuiet q old → (o : Option (Key × Event)) → IfSome o (λ p. Sets p.0 None old new) → IfNone o (new ≡ old) → IsQuiet q new
 quiet_popped q old new quiet None sets kept = subst (λ es. IsQuiet q es) (sym kept) quiet

@@ -5,7 +5,7 @@ use Rattle.std.specs.List.{AllByRecursion, insert}
 use Rattle.std.specs.List.Sorted.{IsStrictlySortedBy}
 use Rattle.std.specs.Map.{keys_of, lookup}
 use Rattle.std.specs.BTreeMap.{insert_entry}
-use Rattle.std.specs.Ordering.{match_ordering, ordering_index, ordering_reverse, is_eq, is_gt, is_lt, is_some_and, nat_cmp, partial_ordering_then}
+use Rattle.std.specs.Ordering.{match_ordering, ordering_index, ordering_reverse, is_eq, is_lt, is_some_and, nat_cmp, partial_ordering_then}
 use Rattle.std.specs.Cmp.{Some-then}
 use Rattle.std.specs.declared.cmp.Ordering.{Ordering}
 use Rattle.std.specs.declared.cmp.Ordering.TheVariants.{Less, Equal, Greater}
@@ -67,18 +67,6 @@ absent q [] h = refl
 absent q (e ∷ es) h = ap (λ o. cond (is_eq o) (Some e.1) (lookup (same_key q) es)) h.0 ∙ absent q es h.1
 
 -- ---- The first
-
-pub not_after : {X : Type 0} (f : Key × X) (es : List (Key × X)) → Rise (f ∷ es) → (q : Key) → IsSome (lookup (same_key q) (f ∷ es)) → is_gt (key_cmp f.0 q) ≡ false
-unfolding IsStrictlySortedBy
-not_after f es rise q there = go (key_cmp f.0 q) refl
-  where
-    go : (r : Ordering) → key_cmp f.0 q ≡ r → is_gt r ≡ false
-    go Less h = refl
-    go Equal h = refl
-    go Greater h =
-        let before : Precedes q f.0 = precedes f.0 q h in
-        let gone : lookup (same_key q) (f ∷ es) ≡ None = absent q (f ∷ es) (before, all_later q f.0 es before rise.0) in
-        absurd (not_none (lookup (same_key q) (f ∷ es)) there gone)
 
 pub without_first : {X : Type 0} (f : Key × X) (es : List (Key × X)) → Rise (f ∷ es) → (q : Key) → lookup (same_key q) es ≡ cond (same_key f.0 q) None (lookup (same_key q) (f ∷ es))
 unfolding IsStrictlySortedBy

@@ -55,10 +55,6 @@ module _ (es : List (Key × Event)) (k : Key) (v : Event) where
         go true same = subst (λ o. IsSome o) (sym (this_key j same)) some
         go false other = subst (λ o. IsSome o) (sym (other_key j other)) (has j (more_some j there other))
 
-  -- what a part of these does not have is kept, since the part keeps it
-  pub keeps_part : (old new : List (Key × Event)) → KeepsOthers es old new → KeepsOthers (es ++ (k, v) ∷ []) old new
-  keeps_part old new kept j none = kept j (more_none j none).0
-
 -- a key of the list is found
 pub found_there : {X : Type 0} (k : Key) (v : X) (es fs : List (Key × X)) → IsSome (found k (es ++ (k, v) ∷ fs))
 found_there k v [] fs = either_some (found k fs) (cond (same_key k k) (Some v) None) (ap (λ b. is_some (cond b (Some v) None)) (same_key_itself k))

@@ -1,25 +1,22 @@
 -- Moments and classes of keys, and which list of events comes first by these.
-use Rattle.std.proofs.Common.{◌≡◌, ◌<◌, ◌≤◌, Bool, true, false, List, [], ◌++◌, refl, sym, ap, subst, ◌∙◌, Option, Some, None, arith}
+use Rattle.std.proofs.Common.{◌≡◌, ◌<◌, Bool, true, false, List, [], ◌++◌, refl, sym, ap, subst, ◌∙◌, Option, Some, None, arith}
 use Rattle.std.specs.Prelude.{IsSome, IfNone}
 use Rattle.std.specs.Bool.{OnTrue}
 use Rattle.std.specs.Map.{lookup}
-use Rattle.std.specs.Ordering.{is_eq, is_lt, nat_cmp, ordering_then}
-use Rattle.std.specs.declared.cmp.Ordering.{Ordering}
-use Rattle.std.specs.declared.cmp.Ordering.TheVariants.{Less, Equal, Greater}
-use Rattle.fb_types.specs.Keys.{Precedes, key_cmp, same_key}
+use Rattle.std.specs.Ordering.{is_lt, nat_cmp, ordering_then}
+use Rattle.fb_types.specs.Keys.{Precedes, same_key}
 use Rattle.fb_types.specs.declared.key.Key.{Key}
 use Rattle.fb_types.specs.declared.run.Event.{Event}
-use Rattle.fb_types.proofs.KeyLaws.{earlier_precedes, key_cmp_total, same_key_is}
+use Rattle.fb_types.proofs.KeyLaws.{earlier_precedes}
 use Rattle.fb_types.proofs.Lookups.{cmp_equal, or_else_nones}
 use Rattle.fb_agenda.specs.Agendas.{IsFirst}
 use Rattle.fb_agenda.specs.Calendars.{Leads}
-use Rattle.fb_agenda.specs.Moments.{HasRank, IsNoLater, IsPast, IsQuiet, IsSooner}
+use Rattle.fb_agenda.specs.Moments.{HasRank, IsLed, IsNoLater, IsPast, IsQuiet, IsSooner, moment_of}
 use Rattle.fb_agenda.specs.declared.moment.Moment.{Moment}
 use Rattle.fb_agenda.specs.declared.moment.Rank.{Rank}
 use Rattle.fb_agenda.proofs.Apart.{either_some, first_some}
 use Rattle.fb_agenda.proofs.Calendars.{leads_less, leads_past, lookup_both}
 use Rattle.fb_agenda.proofs.Moments.{either_tick, number_less, past_of_quiet, quiet_first, quiet_less, sooner_precedes}
-use Rattle.fb_agenda.proofs.Orders.{not_none, precedes}
 
 -- ---- The order of keys by tick, resource and class
 
@@ -107,46 +104,21 @@ none_anyway (Some x) p = tt
 
 -- ---- Which comes first
 
-module _ (xs ys : List (Key × Event)) (k : Key) (m : Moment) (r : Rank) (tick : m.tick ≡ k.tick) (resource : m.resource ≡ k.resource) (first : IsFirst xs k) (waits : HasRank ys r) where
-  -- the moment of the first key is before that of the others
-  pub leads_sooner : IsSooner m r.moment → Leads xs ys
-  leads_sooner sooner = leads_past xs ys k m tick resource first (past_of_quiet m r.moment ys sooner waits.quiet)
+-- what a first key says of the events up to a moment
+module _ (es : List (Key × Event)) (k : Key) (m : Moment) (first : IsFirst es k) where
+  pub past_first : IsSooner m (moment_of k) → IsPast m es
+  past_first sooner = past_of_quiet m (moment_of k) es sooner (quiet_first (moment_of k) es k refl refl first)
 
-  -- it is not, and an event of an earlier class waits there
-  pub leads_by_class : IsNoLater r.moment m → r.class < k.class → Leads ys xs
-  leads_by_class le less = record {
-    none_before = λ i is j before. first.none_before j (key_cmp_total.trans j i k before (comes_before i is));
-    none = λ empty. absurd (not_none (lookup (same_key waits.key) ys) waits.there (ap (λ es. lookup (same_key waits.key) es) empty));
-  }
-    where
-      its_class : waits.key.class < k.class
-      its_class = let same = waits.class in omega (arith, same, less)
+  pub led_first : IsNoLater (moment_of k) m → k.class < 3 → IsLed m es
+  led_first le class = record { key = k; first = first; moment = le; class = class }
 
-      waits_before : Precedes waits.key k
-      waits_before = rank_precedes waits.key k r.moment m waits.tick waits.resource tick resource le its_class
-
-      comes_before : (i : Key) → IsFirst ys i → Precedes i k
-      comes_before i is = go (key_cmp i waits.key) refl
-        where
-          go : (o : Ordering) → key_cmp i waits.key ≡ o → Precedes i k
-          go Less h = key_cmp_total.trans i waits.key k h waits_before
-          go Equal h = subst (λ (z : Key). Precedes z k) (sym (same_key_is i waits.key (ap is_eq h))) waits_before
-          go Greater h = absurd (not_none (lookup (same_key waits.key) ys) waits.there (is.none_before waits.key (precedes i waits.key h)))
+-- an event of an earlier class waits up to the moment of a first local event
+pub leads_led : (xs ys : List (Key × Event)) (k : Key) (m : Moment) → m.tick ≡ k.tick → m.resource ≡ k.resource → IsFirst xs k → k.class ≡ 3 → IsLed m ys → Leads ys xs
+leads_led xs ys k m tick resource first local led =
+    let class = led.class in
+    leads_less ys xs led.key k led.first first (ap is_lt (rank_precedes led.key k (moment_of led.key) m refl refl tick resource led.moment (omega (arith, local, class))))
 
 -- if it is noted that nothing waits there up to the moment of the first key
 pub leads_if_past : (xs ys : List (Key × Event)) (k : Key) (m : Moment) (b : Bool) → m.tick ≡ k.tick → m.resource ≡ k.resource → IsFirst xs k → OnTrue b (IsPast m ys) → OnTrue b (Leads xs ys)
 leads_if_past xs ys k m true tick resource first past = leads_past xs ys k m tick resource first past
 leads_if_past xs ys k m false tick resource first past = tt
-
--- of two first keys, the one of the earlier moment
-pub leads_earlier : (xs ys : List (Key × Event)) (k l : Key) (m n : Moment) → m.tick ≡ k.tick → m.resource ≡ k.resource → n.tick ≡ l.tick → n.resource ≡ l.resource
-    → IsFirst xs k → IsFirst ys l → IsSooner m n → Leads xs ys
-leads_earlier xs ys k l m n tick resource tick_of resource_of first other sooner = leads_less xs ys k l first other (ap is_lt before)
-  where
-    le : m.tick ≤ n.tick
-    le = sooner.tick
-
-    before : Precedes k l
-    before =
-        either_tick k.tick l.tick (omega (arith, tick, tick_of, le)) (λ less. earlier_precedes k l less)
-        (λ same. let less = sooner.resource (tick ∙ same ∙ sym tick_of) in sooner_precedes k l same (omega (arith, resource, resource_of, less)))

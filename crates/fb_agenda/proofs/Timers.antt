@@ -6,10 +6,8 @@ use Rattle.std.proofs.lemmas.Bool.{eqb-true, eq-eqb}
 use Rattle.fb_types.specs.Keys.{changed_to, same_key, timer_key}
 use Rattle.fb_types.specs.Takes.{is_timer_of}
 use Rattle.fb_types.specs.declared.key.Key.{Key}
-use Rattle.fb_types.specs.declared.run.TimerAsk.{TimerAsk}
-use Rattle.fb_types.specs.declared.run.TimerAsk.TheVariants.{Keep, Clear, At}
 use Rattle.fb_types.proofs.KeyLaws.{same_key_is}
-use Rattle.fb_agenda.specs.Agendas.{Contents, waiting, IsTimed, IsInResource, timer_set}
+use Rattle.fb_agenda.specs.Agendas.{Contents, waiting, IsTimed, IsInResource}
 use Rattle.fb_types.specs.declared.run.Event.{Event}
 use Rattle.fb_types.specs.declared.run.Event.TheVariants.{Timer}
 
@@ -104,61 +102,3 @@ changed_is false false x o = refl
 pub on_ok_both : {A E : Type 0} {P Q R : Type 0} (r : Result A E) → (P → Q → R) → OnOk r P → OnOk r Q → OnOk r R
 on_ok_both (Ok a) f h k = f h k
 on_ok_both (Err e) f h k = tt
-
--- a timer that is in a resource is still there after a request, if an instance has one resource
-pub is_after : (old new : Contents) (r i : ℕ) (ask : TimerAsk) (s n : ℕ) → IsInResource s n old → (i ≡ n → r ≡ s)
-    → ((j : Key) → waiting new j ≡ changed_to (timer_set r i ask j) (waiting old j)) → IsInResource s n new
-is_after old new r i Keep s n lies home changed j q e found is = lies j q e (sym (changed j) ∙ found) is
-is_after old new r i Clear s n lies home changed j q e found is = go (is_timer_of r i j) refl
-  where
-    go : (t : Bool) → is_timer_of r i j ≡ t → q ≡ s
-    go true mine =
-        let none : waiting new j ≡ None = changed j ∙ ap (λ b. changed_to (cond b (Some None) None) (waiting old j)) mine in
-        absurd cc
-    go false mine = lies j q e (sym (changed j ∙ ap (λ b. changed_to (cond b (Some None) None) (waiting old j)) mine) ∙ found) is
-is_after old new r i (At t) s n lies home changed j q e found is = go (same_key (timer_key t r i) j) refl (is_timer_of r i j) refl
-  where
-    changed_at : (a b : Bool) → same_key (timer_key t r i) j ≡ a → is_timer_of r i j ≡ b
-        → waiting new j ≡ changed_to (cond a (Some (Some (Timer i))) (cond b (Some None) None)) (waiting old j)
-    changed_at a b same mine =
-        changed j ∙ ap (λ z. changed_to (cond z (Some (Some (Timer i))) (cond (is_timer_of r i j) (Some None) None)) (waiting old j)) same
-        ∙ ap (λ z. changed_to (cond a (Some (Some (Timer i))) (cond z (Some None) None)) (waiting old j)) mine
-
-    go : (a : Bool) → same_key (timer_key t r i) j ≡ a → (b : Bool) → is_timer_of r i j ≡ b → q ≡ s
-    go true same b mine =
-        let one : timer_key t r i ≡ j = same_key_is (timer_key t r i) j same in
-        sym (ap (λ (k : Key). k.resource) one ∙ timer_resource q n j is) ∙ home (ap (λ (k : Key). k.a) one ∙ timer_instance q n j is)
-    go false same true mine =
-        let none : waiting new j ≡ None = changed_at false true same mine in
-        absurd cc
-    go false same false mine = lies j q e (sym (changed_at false false same mine) ∙ found) is
-
--- ---- What sets no timer keeps each under its key
-
--- each timer that waits has waited before
-abbrev pub NoneNew : (old new : Contents) → Type 0
-NoneNew old new = (j : Key) (e : Event) → j.class ≡ 1 → waiting new j ≡ Some e → waiting old j ≡ Some e
-
-pub none_put : (old new : Contents) (k : Key) (e : Event) → k.class ≢ 1
-    → ((j : Key) → waiting new j ≡ cond (same_key k j) (Some e) (waiting old j)) → NoneNew old new
-none_put old new k e other put j f timer found = go (same_key k j) refl
-  where
-    go : (s : Bool) → same_key k j ≡ s → waiting old j ≡ Some f
-    go true same = absurd (other (ap (λ (z : Key). z.class) (same_key_is k j same) ∙ timer))
-    go false same = sym (put j ∙ ap (λ b. cond b (Some e) (waiting old j)) same) ∙ found
-
-pub none_taken : (old new : Contents) (k : Key) → ((j : Key) → waiting new j ≡ cond (same_key k j) None (waiting old j)) → NoneNew old new
-none_taken old new k left j f timer found = go (same_key k j) refl
-  where
-    go : (s : Bool) → same_key k j ≡ s → waiting old j ≡ Some f
-    go true same =
-        let none : waiting new j ≡ None = left j ∙ ap (λ b. cond b None (waiting old j)) same in
-        absurd cc
-    go false same = sym (left j ∙ ap (λ b. cond b None (waiting old j)) same) ∙ found
-
-pub timed_kept : (old new : Contents) → NoneNew old new → new.due ≡ old.due → IsTimed old → IsTimed new
-timed_kept old new none same timed j r i e found is =
-    subst (λ (d : List ℕ). same_key (timer_key (slice_index d i) r i) j ≡ true) (sym same) (timed j r i e (none j e (timer_class r i j is) found) is)
-
-pub lies_kept : (old new : Contents) → NoneNew old new → (r i : ℕ) → IsInResource r i old → IsInResource r i new
-lies_kept old new none r i lies j s e found is = lies j s e (none j e (timer_class s i j is) found) is

@@ -1,5 +1,5 @@
 -- Messages that are put on an agenda (this project's profile).
-use Rattle.std.specs.Prelude.{◌≡◌, ℕ, List, All, None, IsSome, map}
+use Rattle.std.specs.Prelude.{◌≡◌, ◌++◌, ◌∷◌, ℕ, List, [], All, None, IsSome, map}
 use Rattle.std.specs.Map.{lookup}
 use Rattle.fb_types.specs.Keys.{found, message_key, same_key}
 use Rattle.fb_types.specs.declared.key.Key.{Key}
@@ -32,3 +32,9 @@ HasKeys es new = (j : Key) → IsSome (found j es) → IsSome (lookup (same_key 
 -- There is no event under any key of these.
 abbrev pub LacksKeys : (those : List (Key × Event)) → List (Key × Event) → Type 0
 LacksKeys es new = (j : Key) → IsSome (found j es) → lookup (same_key j) new ≡ None
+
+-- ---- The last message of a list
+
+-- The last message leaves its list, and this holds of it.
+abbrev pub MovesLast : (old new : List Message) → (Message → Type 0) → Type 0
+MovesLast old new P = (m : Message) × (old ≡ new ++ m ∷ []) × P m

@@ -38,8 +38,8 @@ pub record IsBetween (es : List (Key × Event)) (k : Key) (i : ℕ) : Type 0 whe
 abbrev pub BeginsAt : ℕ → List (Key × Event) → Type 0
 BeginsAt t es = es ≢ [] → (k : Key) × (t ≤ k.tick) × IsFirst es k
 
--- The keys of the timers rise, none of them is among the others, and all of them are keys of timers. If the others are not
--- marked as containing the key of a timer, they contain none. No event is before this moment.
+-- The keys of the timers rise, none of them is among the others, and all of them are keys of timers. If the others are
+-- not marked as containing the key of a timer, they contain none. No event is before this moment.
 pub record AreKept (timers others : List (Key × Event)) (has_timer : Bool) (moment : Moment) : Type 0 where
   pub split : AreSplit timers others
   pub only : (j : Key) → j.class ≢ 1 → lookup (same_key j) timers ≡ None

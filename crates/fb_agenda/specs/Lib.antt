@@ -1,8 +1,8 @@
 pub mod Agendas
 pub mod Arrivals
 pub mod Calendars
-pub mod Indexes
 pub mod Inside
 pub mod Moments
+pub mod Slots
 pub mod Targets
 pub mod Timing

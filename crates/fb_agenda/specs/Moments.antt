@@ -4,6 +4,7 @@ use Rattle.std.specs.Map.{lookup}
 use Rattle.fb_types.specs.Keys.{same_key}
 use Rattle.fb_types.specs.declared.key.Key.{Key}
 use Rattle.fb_types.specs.declared.run.Event.{Event}
+use Rattle.fb_agenda.specs.Agendas.{IsFirst}
 use Rattle.fb_agenda.specs.declared.moment.Moment.{Moment}
 use Rattle.fb_agenda.specs.declared.moment.Rank.{Rank}
 
@@ -17,6 +18,10 @@ pub record IsNoLater (m n : Moment) : Type 0 where
   pub tick : m.tick ≤ n.tick
   pub resource : m.tick ≡ n.tick → m.resource ≤ n.resource
 
+-- the moment of a key
+abbrev pub moment_of : Key → Moment
+moment_of k = record { tick = k.tick; resource = k.resource }
+
 -- No event waits before this moment.
 pub record IsQuiet (m : Moment) (es : List (Key × Event)) : Type 0 where
   pub below : (j : Key) → j.tick < m.tick → lookup (same_key j) es ≡ None
@@ -26,6 +31,13 @@ pub record IsQuiet (m : Moment) (es : List (Key × Event)) : Type 0 where
 pub record IsPast (m : Moment) (es : List (Key × Event)) : Type 0 where
   pub below : (j : Key) → j.tick < m.tick → lookup (same_key j) es ≡ None
   pub up_to : (j : Key) → j.tick ≡ m.tick → j.resource ≤ m.resource → lookup (same_key j) es ≡ None
+
+-- The first event has an earlier class than local ones, and waits at this moment or before.
+pub record IsLed (m : Moment) (es : List (Key × Event)) : Type 0 where
+  pub key : Key
+  pub first : IsFirst es key
+  pub moment : IsNoLater (moment_of key) m
+  pub class : key.class < 3
 
 -- An event of this rank waits, and none before its moment.
 pub record HasRank (es : List (Key × Event)) (r : Rank) : Type 0 where

@@ -1,21 +1,22 @@
 //! The events that wait, under their keys.
 
-ghost use Rattle.std.specs.Prelude.{◌≡◌, ◌<◌, ℕ, [], if◌then◌else◌, length, Some, None, IfSome, IfNone, IfOk, IfErr, OnOk, OnErr, slice_set};
+ghost use Rattle.std.specs.Prelude.{◌≡◌, ◌<◌, ◌++◌, ◌∷◌, ℕ, List, [], if◌then◌else◌, length, Some, None, IfSome, IfNone, IfOk, IfErr, OnOk, OnErr, slice_set};
 ghost use Rattle.std.specs.Bool.{OnFalse, OnTrue};
 ghost use Rattle.std.specs.Map.{lookup};
 ghost use Rattle.fb_types.specs.Keys.{Precedes, changed_to, found, local_key, or_else, same_key, timer_key};
 ghost use Rattle.fb_types.specs.Takes.{is_timer_of};
-ghost use Rattle.fb_types.specs.declared.run.Event.TheVariants.{Local, Timer};
+ghost use Rattle.fb_types.specs.declared.run.Event.TheVariants.{Arrival, Local, Timer};
+ghost use Rattle.fb_types.specs.declared.run.Message.{Message as Sent};
 ghost use Rattle.fb_agenda.specs.Agendas.{waiting, AreRising, IsClear, IsNext, IsTimed, IsInResource, local_events, timer_set};
 ghost use Rattle.fb_agenda.specs.Arrivals.{AreNew, arrivals_at};
 ghost use Rattle.fb_agenda.specs.Calendars.{BeginsAt, Leads, Sets};
-ghost use Rattle.fb_agenda.specs.Indexes.{taken};
+ghost use Rattle.fb_agenda.specs.Slots.{taken};
 
 use crate::arrivals;
-use crate::calendar::Calendar;
+use crate::calendar::{Calendar, Lead};
 use crate::later::Later;
 use crate::least::Least;
-use crate::moment::{LOCAL, Moment};
+use crate::moment::{ARRIVAL, Moment};
 use crate::queue::{self, Queue};
 use fb_types::{Event, Key, Message, Target, TimerAsk};
 use std::alloc::{AllocError, Global};
@@ -50,7 +51,7 @@ impl Model for Agenda {
     ghost invariant = { λ a. AreApart (contents_of a) a.later.has_local };
 }
 
-/// Whether the queue has an event, and it is noted that no event of `later` comes before its first.
+/// Whether the queue has an event, and it is known that no event of `later` comes before its first.
 #[inline(always)]
 fn is_now_noted(now: &Queue, later: &Calendar) -> bool
     requires { AreRising (local_events now.now) }
@@ -62,34 +63,7 @@ fn is_now_noted(now: &Queue, later: &Calendar) -> bool
     later.is_past(Moment::of(&first))
 }
 
-/// Whether the queue has an event, and no event of `later` comes before its first. If so, it is noted for the next calls
-/// up to which moment no event of `later` waits.
-#[inline(always)]
-fn is_now_first(now: &Queue, later: &mut Calendar) -> bool
-    requires { AreRising (local_events now.now) }
-    ensures running { OnTrue result (Leads (local_events now.now) later.old) }
-    ensures later { OnFalse result (Leads later.old (local_events now.now)) }
-    ensures kept { later.new ≡ later.old }
-{
-    let Some(first) = now.first() else {
-        return false;
-    };
-    let Some(other) = later.first_rank() else {
-        return true;
-    };
-    if Moment::of(&first).is_before(other.moment) {
-        later.note_quiet(other.moment);
-        return true;
-    }
-    // Of one moment, all other events come before the local ones.
-    if other.class < LOCAL {
-        return false;
-    }
-    is_now_less(now, later)
-}
-
-/// The same as `is_now_first`, by comparing the first keys of both. In a run nothing asks for it.
-#[inline(never)]
+/// Whether the queue has an event, and no event of `later` comes before its first, by comparing the first keys of both.
 fn is_now_less(now: &Queue, later: &Calendar) -> bool
     requires { AreRising (local_events now.now) }
     ensures running { OnTrue result (Leads (local_events now.now) later.now) }
@@ -107,15 +81,15 @@ fn is_now_less(now: &Queue, later: &Calendar) -> bool
 /// Takes the first event of the calendar, if its tick is below the horizon, and moves it into the slot. Returns whether
 /// it did.
 #[inline(always)]
-fn pop_later(later: &mut Calendar, horizon: u64, index: &mut Least) -> bool
-    ensures value { IfSome (taken result index.new) (λ r. lookup (same_key r.0) later.old ≡ Some r.1) }
-    ensures none_before { IfSome (taken result index.new) (λ r. (j : Key) → Precedes j r.0 → lookup (same_key j) later.old ≡ None) }
-    ensures left { IfSome (taken result index.new) (λ r. Sets r.0 None later.old later.new) }
-    ensures below { IfSome (taken result index.new) (λ r. r.0.tick < horizon) }
-    ensures none { IfNone (taken result index.new) (BeginsAt horizon later.old) }
-    ensures kept { IfNone (taken result index.new) (later.new ≡ later.old) }
+fn pop_later(later: &mut Calendar, horizon: u64, slot: &mut Least) -> bool
+    ensures value { IfSome (taken result slot.new) (λ r. lookup (same_key r.0) later.old ≡ Some r.1) }
+    ensures none_before { IfSome (taken result slot.new) (λ r. (j : Key) → Precedes j r.0 → lookup (same_key j) later.old ≡ None) }
+    ensures left { IfSome (taken result slot.new) (λ r. Sets r.0 None later.old later.new) }
+    ensures below { IfSome (taken result slot.new) (λ r. r.0.tick < horizon) }
+    ensures none { IfNone (taken result slot.new) (BeginsAt horizon later.old) }
+    ensures kept { IfNone (taken result slot.new) (later.new ≡ later.old) }
 {
-    later.pop_into(horizon, index)
+    later.pop_into(horizon, slot)
 }
 
 impl Agenda {
@@ -135,7 +109,8 @@ impl Agenda {
         }
     }
 
-    /// An agenda without events, for no instance. It takes no memory, and stands in for one that is used elsewhere.
+    /// An agenda without events, for no instance. It takes no memory. It is put in place of an agenda that was moved
+    /// out.
     pub fn none(alloc: Global) -> Agenda
         ensures { (j : Key) → waiting result j ≡ None }
     {
@@ -173,6 +148,29 @@ impl Agenda {
         }
     }
 
+    /// Puts the last message of a list under a key, and takes it from the list. It replaces an event that waits there.
+    /// This is `put` for a message, which moves once. If the list is empty, nothing changes.
+    ///
+    /// # Errors
+    ///
+    /// When memory runs out. The agenda is then as it was.
+    #[inline(always)]
+    pub fn put_last(&mut self, key: Key, mail: &mut Vec<Message>) -> Result<(), AllocError>
+        ensures put { OnOk result ((rest : List Sent) (m : Sent) → mail.old.items ≡ rest ++ m ∷ [] → (j : Key) → waiting self.new j ≡ (if same_key key j then Some (Arrival m) else waiting self.old j)) }
+        ensures mail { OnOk result ((rest : List Sent) (m : Sent) → mail.old.items ≡ rest ++ m ∷ [] → mail.new.items ≡ rest) }
+        ensures due { self.new.due ≡ self.old.due }
+        ensures err { OnErr result (self.new ≡ self.old) }
+    {
+        if mail.is_empty() {
+            return Ok(());
+        }
+        if key.class == ARRIVAL {
+            return self.later.events.insert_last(key, mail);
+        }
+        let message = mail.pop().unwrap();
+        self.put(key, Event::Arrival(message))
+    }
+
     /// Puts a local event under the key of its number. It replaces an event that waits there. This is `put` for an event
     /// that follows those of its tick and resource, in fewer steps.
     ///
@@ -198,7 +196,7 @@ impl Agenda {
         }
     }
 
-    /// The same as `put_local`, wherever the event waits. It is apart so that `put_local` makes no event.
+    /// The same as `put_local`, wherever the event waits. A function of its own, so that `put_local` makes no event.
     ///
     /// # Errors
     ///
@@ -218,8 +216,8 @@ impl Agenda {
         self.put_aside(Key::local(tick, resource, number), Event::Local(target))
     }
 
-    /// Puts an event under the key of a local event, wherever such an event waits. If the key does not fit the queue, the
-    /// event goes to the others.
+    /// Puts an event under the key of a local event, wherever such an event waits. If the key does not fit the queue,
+    /// the event goes to the others.
     ///
     /// # Errors
     ///
@@ -244,8 +242,8 @@ impl Agenda {
         Ok(())
     }
 
-    /// Puts the event in the slot back on the agenda, under its key. The slot keeps the key, and has an empty event if the
-    /// event moved. It replaces an event that waits there.
+    /// Puts the event in the slot back on the agenda, under its key. The slot keeps the key, and has an empty event if
+    /// the event moved. It replaces an event that waits there.
     ///
     /// # Errors
     ///
@@ -265,7 +263,7 @@ impl Agenda {
         }
     }
 
-    /// The same as `put_back`, for any event. It is apart so that `put_back` moves no event.
+    /// The same as `put_back`, for any event. A function of its own, so that `put_back` moves no event.
     ///
     /// # Errors
     ///
@@ -305,8 +303,8 @@ impl Agenda {
         Ok(())
     }
 
-    /// Whether no event waits at this tick (in milliseconds) in this resource, nor before, where the queue is empty. So an event
-    /// of them would be the next one.
+    /// Whether no event waits at this tick (in milliseconds) in this resource, nor before, where the queue is empty. So
+    /// an event of them would be the next one.
     #[inline(always)]
     pub fn is_clear(&mut self, tick: u64, resource: u32) -> bool
         ensures clear { OnTrue result (IsClear tick resource self.old) }
@@ -325,56 +323,81 @@ impl Agenda {
     /// Takes the event with the least key, if its tick is below the horizon (in milliseconds), and moves it into the
     /// slot. Returns whether it did.
     #[inline(always)]
-    pub fn take_least_into(&mut self, horizon: u64, index: &mut Least) -> bool
-        ensures found { OnTrue result (waiting self.old index.new.key ≡ Some index.new.event) }
-        ensures below { OnTrue result (index.new.key.tick < horizon) }
-        ensures least { OnTrue result ((j : Key) → Precedes j index.new.key → waiting self.old j ≡ None) }
-        ensures left { OnTrue result ((j : Key) → waiting self.new j ≡ (if same_key index.new.key j then None else waiting self.old j)) }
+    pub fn take_least_into(&mut self, horizon: u64, slot: &mut Least) -> bool
+        ensures found { OnTrue result (waiting self.old slot.new.key ≡ Some slot.new.event) }
+        ensures below { OnTrue result (slot.new.key.tick < horizon) }
+        ensures least { OnTrue result ((j : Key) → Precedes j slot.new.key → waiting self.old j ≡ None) }
+        ensures left { OnTrue result ((j : Key) → waiting self.new j ≡ (if same_key slot.new.key j then None else waiting self.old j)) }
         ensures due { self.new.due ≡ self.old.due }
         ensures none { OnFalse result ((j : Key) → j.tick < horizon → waiting self.old j ≡ None) }
         ensures kept { OnFalse result (self.new ≡ self.old) }
     {
         if self.now.is_empty() {
-            return self.take_later_into(horizon, index);
+            return self.take_later_into(horizon, slot);
         }
         // Usually no other event waits at the running tick in this resource or before.
         if is_now_noted(&self.now, &self.later.events) {
-            queue::pop_into(&mut self.now, horizon, index)
+            queue::pop_into(&mut self.now, horizon, slot)
         } else {
-            self.take_any_into(horizon, index)
+            self.take_any_into(horizon, slot)
         }
     }
 
     /// The same as `take_least_into`, if the queue is empty.
     #[inline(never)]
-    fn take_later_into(&mut self, horizon: u64, index: &mut Least) -> bool
+    fn take_later_into(&mut self, horizon: u64, slot: &mut Least) -> bool
         requires { self.old.running ≡ [] }
-        ensures found { OnTrue result (waiting self.old index.new.key ≡ Some index.new.event) }
-        ensures below { OnTrue result (index.new.key.tick < horizon) }
-        ensures least { OnTrue result ((j : Key) → Precedes j index.new.key → waiting self.old j ≡ None) }
-        ensures left { OnTrue result ((j : Key) → waiting self.new j ≡ (if same_key index.new.key j then None else waiting self.old j)) }
+        ensures found { OnTrue result (waiting self.old slot.new.key ≡ Some slot.new.event) }
+        ensures below { OnTrue result (slot.new.key.tick < horizon) }
+        ensures least { OnTrue result ((j : Key) → Precedes j slot.new.key → waiting self.old j ≡ None) }
+        ensures left { OnTrue result ((j : Key) → waiting self.new j ≡ (if same_key slot.new.key j then None else waiting self.old j)) }
         ensures due { self.new.due ≡ self.old.due }
         ensures none { OnFalse result ((j : Key) → j.tick < horizon → waiting self.old j ≡ None) }
         ensures kept { OnFalse result (self.new ≡ self.old) }
     {
-        pop_later(&mut self.later.events, horizon, index)
+        pop_later(&mut self.later.events, horizon, slot)
     }
 
     /// The same as `take_least_into`, wherever the event waits.
     #[inline(never)]
-    fn take_any_into(&mut self, horizon: u64, index: &mut Least) -> bool
-        ensures found { OnTrue result (waiting self.old index.new.key ≡ Some index.new.event) }
-        ensures below { OnTrue result (index.new.key.tick < horizon) }
-        ensures least { OnTrue result ((j : Key) → Precedes j index.new.key → waiting self.old j ≡ None) }
-        ensures left { OnTrue result ((j : Key) → waiting self.new j ≡ (if same_key index.new.key j then None else waiting self.old j)) }
+    fn take_any_into(&mut self, horizon: u64, slot: &mut Least) -> bool
+        ensures found { OnTrue result (waiting self.old slot.new.key ≡ Some slot.new.event) }
+        ensures below { OnTrue result (slot.new.key.tick < horizon) }
+        ensures least { OnTrue result ((j : Key) → Precedes j slot.new.key → waiting self.old j ≡ None) }
+        ensures left { OnTrue result ((j : Key) → waiting self.new j ≡ (if same_key slot.new.key j then None else waiting self.old j)) }
         ensures due { self.new.due ≡ self.old.due }
         ensures none { OnFalse result ((j : Key) → j.tick < horizon → waiting self.old j ≡ None) }
         ensures kept { OnFalse result (self.new ≡ self.old) }
     {
-        if is_now_first(&self.now, &mut self.later.events) {
-            queue::pop_into(&mut self.now, horizon, index)
+        let Some(first) = self.now.first() else {
+            return self.take_later_into(horizon, slot);
+        };
+        match self
+            .later
+            .events
+            .pop_up_to(Moment::of(&first), horizon, slot)
+        {
+            Lead::Running => queue::pop_into(&mut self.now, horizon, slot),
+            Lead::Later(found) => found,
+            Lead::Unsure => self.take_unsure_into(horizon, slot),
+        }
+    }
+
+    /// The same as `take_least_into`, by comparing the first keys of both. In a run nothing asks for it.
+    #[inline(never)]
+    fn take_unsure_into(&mut self, horizon: u64, slot: &mut Least) -> bool
+        ensures found { OnTrue result (waiting self.old slot.new.key ≡ Some slot.new.event) }
+        ensures below { OnTrue result (slot.new.key.tick < horizon) }
+        ensures least { OnTrue result ((j : Key) → Precedes j slot.new.key → waiting self.old j ≡ None) }
+        ensures left { OnTrue result ((j : Key) → waiting self.new j ≡ (if same_key slot.new.key j then None else waiting self.old j)) }
+        ensures due { self.new.due ≡ self.old.due }
+        ensures none { OnFalse result ((j : Key) → j.tick < horizon → waiting self.old j ≡ None) }
+        ensures kept { OnFalse result (self.new ≡ self.old) }
+    {
+        if is_now_less(&self.now, &self.later.events) {
+            queue::pop_into(&mut self.now, horizon, slot)
         } else {
-            pop_later(&mut self.later.events, horizon, index)
+            pop_later(&mut self.later.events, horizon, slot)
         }
     }
 

@@ -1,23 +1,35 @@
 //! The events outside the queue of the running tick: timers, and in a store all others.
 
-ghost use Rattle.std.specs.Prelude.{◌≡◌, ◌≢◌, ◌<◌, [], IfSome, IfNone, OnOk, OnErr, Some, None};
+ghost use Rattle.std.specs.Prelude.{◌≡◌, ◌≢◌, ◌<◌, [], IfSome, IfNone, OnOk, OnErr, Some, None, vec_len};
 ghost use Rattle.std.specs.Bool.{OnFalse, OnTrue};
 ghost use Rattle.std.specs.Map.{lookup};
 ghost use Rattle.fb_types.specs.Keys.{Precedes, same_key, timer_key};
 ghost use Rattle.fb_types.specs.declared.key.Key as keys;
-ghost use Rattle.fb_types.specs.declared.run.Event.TheVariants.{Timer};
+ghost use Rattle.fb_types.specs.declared.run.Event.TheVariants.{Arrival, Timer};
 ghost use Rattle.fb_agenda.specs.Agendas.{AreRising, IsFirst, IsFirstTick};
+ghost use Rattle.fb_agenda.specs.Arrivals.{MovesLast};
 ghost use Rattle.fb_agenda.specs.Calendars.{BeginsAt, Leads, Sets};
-ghost use Rattle.fb_agenda.specs.Indexes.{taken};
-ghost use Rattle.fb_agenda.specs.Moments.{HasRank, IsPast, IsQuiet};
+ghost use Rattle.fb_agenda.specs.Slots.{IfLater, IfRunning, led, taken};
+ghost use Rattle.fb_agenda.specs.Moments.{HasRank, IsLed, IsPast, IsQuiet};
 
 use crate::least::Least;
-use crate::moment::{Moment, Rank, TIMER};
+use crate::moment::{LOCAL, Moment, Rank, TIMER};
 use crate::store::Store;
 use crate::timer_row::Timers;
-use fb_types::{Event, Key};
+use fb_types::{Event, Key, Message};
 use std::alloc::{AllocError, Global};
 use std::marker::Model;
+
+/// Which comes first, an event of the calendar or the local events of a moment.
+#[derive(Clone, Copy)]
+pub(crate) enum Lead {
+    /// The local events: no event of the calendar waits at their moment or before.
+    Running,
+    /// An event of the calendar. It was taken, if this is true; else its tick is at the horizon or later.
+    Later(bool),
+    /// Their moments and classes do not tell.
+    Unsure,
+}
 
 /// Events under their keys, at most one under each. Contracts see them as a list.
 #[derive(Drop)]
@@ -58,15 +70,6 @@ fn is_timer_first(timers: &Timers, others: &Store) -> bool
     let Some(other) = others.first() else {
         return true;
     };
-    // Their moments differ mostly, and are compared in fewer steps than their keys.
-    let timer = Moment::of(&first);
-    let event = Moment::of(other);
-    if event.is_before(timer) {
-        return false;
-    }
-    if timer.is_before(event) {
-        return true;
-    }
     first < *other
 }
 
@@ -100,8 +103,28 @@ impl Calendar {
         if key.class == TIMER {
             return self.insert_aside(key, event);
         }
-        self.quiet = self.quiet.earlier(Moment::of(&key));
+        self.quiet.lower(Moment::of(&key));
         self.others.insert(key, event)
+    }
+
+    /// Puts the last message of a list under its key, and takes it from the list. It replaces an event that waits there.
+    ///
+    /// # Errors
+    ///
+    /// When memory runs out. The events are then as they were.
+    #[inline(always)]
+    pub(crate) fn insert_last(
+        &mut self,
+        key: Key,
+        mail: &mut Vec<Message>,
+    ) -> Result<(), AllocError>
+        requires class { key.class ≢ 1 }
+        requires some { 0 < vec_len mail.old }
+        ensures put { OnOk result (MovesLast mail.old.items mail.new.items (λ m. Sets key (Some (Arrival m)) self.old self.new)) }
+        ensures err { OnErr result (self.new ≡ self.old) }
+    {
+        self.quiet.lower(Moment::of(&key));
+        self.others.insert_last(key, mail)
     }
 
     /// The same as `insert`, for the key of a timer. The event goes to the others, since it can be any.
@@ -114,7 +137,7 @@ impl Calendar {
         ensures put { OnOk result (Sets key (Some event) self.old self.new) }
         ensures err { OnErr result (self.new ≡ self.old) }
     {
-        self.quiet = self.quiet.earlier(Moment::of(&key));
+        self.quiet.lower(Moment::of(&key));
         self.others.insert(key, event)?;
         self.has_timer = true;
         self.timers.remove(&key);
@@ -136,7 +159,7 @@ impl Calendar {
         ensures put { OnOk result (Sets (timer_key tick resource instance) (Some (Timer instance)) self.old self.new) }
         ensures err { OnErr result (self.new ≡ self.old) }
     {
-        self.quiet = self.quiet.earlier(Moment { tick, resource });
+        self.quiet.lower(Moment { tick, resource });
         self.timers.set(tick, resource, instance)?;
         if self.has_timer {
             self.others.clear(&Key::timer(tick, resource, instance));
@@ -149,10 +172,9 @@ impl Calendar {
     pub(crate) fn clear_timer(&mut self, tick: u64, resource: u32, instance: u32)
         ensures { Sets (timer_key tick resource instance) None self.old self.new }
     {
-        let key = Key::timer(tick, resource, instance);
-        self.timers.remove(&key);
+        self.timers.cancel(tick, resource, instance);
         if self.has_timer {
-            self.others.clear(&key);
+            self.others.clear(&Key::timer(tick, resource, instance));
         }
     }
 
@@ -206,7 +228,7 @@ impl Calendar {
         Some(timer)
     }
 
-    /// Notes that no event waits before a moment.
+    /// Keeps for the next calls that no event waits before a moment.
     #[inline(always)]
     pub(crate) fn note_quiet(&mut self, moment: Moment)
         requires { IsQuiet moment self.old }
@@ -215,7 +237,8 @@ impl Calendar {
         self.quiet = moment;
     }
 
-    /// Whether no event waits at this moment or before, by the first events of both lists. It is noted for the next calls.
+    /// Whether no event waits at this moment or before, by the first events of both lists. The answer is kept for the
+    /// next calls.
     #[inline(never)]
     pub(crate) fn comes_past(&mut self, moment: Moment) -> bool
         ensures past { OnTrue result (IsPast moment self.old) }
@@ -228,7 +251,7 @@ impl Calendar {
         self.is_past(moment)
     }
 
-    /// Whether it is noted that no event waits at this moment or before.
+    /// Whether it is known from an earlier call that no event waits at this moment or before.
     #[inline(always)]
     pub(crate) fn is_past(&self, moment: Moment) -> bool
         ensures { OnTrue result (IsPast moment self.now) }
@@ -236,21 +259,61 @@ impl Calendar {
         moment.is_sooner(&self.quiet)
     }
 
-    /// Takes the event with the first key, if its tick is below the horizon, and moves it into the slot. Returns whether it
-    /// did.
+    /// Takes the event with the first key, if its tick is below the horizon, and moves it into the slot. Returns whether
+    /// it did.
     #[inline(always)]
-    pub(crate) fn pop_into(&mut self, horizon: u64, index: &mut Least) -> bool
-        ensures value { IfSome (taken result index.new) (λ r. lookup (same_key r.0) self.old ≡ Some r.1) }
-        ensures none_before { IfSome (taken result index.new) (λ r. (j : keys.Key) → Precedes j r.0 → lookup (same_key j) self.old ≡ None) }
-        ensures left { IfSome (taken result index.new) (λ r. Sets r.0 None self.old self.new) }
-        ensures below { IfSome (taken result index.new) (λ r. r.0.tick < horizon) }
-        ensures none { IfNone (taken result index.new) (BeginsAt horizon self.old) }
-        ensures kept { IfNone (taken result index.new) (self.new ≡ self.old) }
+    pub(crate) fn pop_into(&mut self, horizon: u64, slot: &mut Least) -> bool
+        ensures value { IfSome (taken result slot.new) (λ r. lookup (same_key r.0) self.old ≡ Some r.1) }
+        ensures none_before { IfSome (taken result slot.new) (λ r. (j : keys.Key) → Precedes j r.0 → lookup (same_key j) self.old ≡ None) }
+        ensures left { IfSome (taken result slot.new) (λ r. Sets r.0 None self.old self.new) }
+        ensures below { IfSome (taken result slot.new) (λ r. r.0.tick < horizon) }
+        ensures none { IfNone (taken result slot.new) (BeginsAt horizon self.old) }
+        ensures kept { IfNone (taken result slot.new) (self.new ≡ self.old) }
     {
         if is_timer_first(&self.timers, &self.others) {
-            self.timers.pop_into(horizon, index)
+            self.timers.pop_into(horizon, slot)
         } else {
-            self.others.pop_first_into(horizon, index)
+            self.others.pop_first_into(horizon, slot)
+        }
+    }
+
+    /// Takes the event with the first key as `pop_into` does, if it comes before the local events of a moment. If these
+    /// come first, the answer is kept for the next calls.
+    #[inline(always)]
+    pub(crate) fn pop_up_to(&mut self, moment: Moment, horizon: u64, slot: &mut Least) -> Lead
+        ensures past { IfRunning result (IsPast moment self.old) }
+        ensures leads { IfLater result (λ found. IsLed moment self.old) }
+        ensures value { IfSome (led result slot.new) (λ r. lookup (same_key r.0) self.old ≡ Some r.1) }
+        ensures none_before { IfSome (led result slot.new) (λ r. (j : keys.Key) → Precedes j r.0 → lookup (same_key j) self.old ≡ None) }
+        ensures left { IfSome (led result slot.new) (λ r. Sets r.0 None self.old self.new) }
+        ensures below { IfSome (led result slot.new) (λ r. r.0.tick < horizon) }
+        ensures none { IfLater result (λ found. IfNone (taken found slot.new) (BeginsAt horizon self.old)) }
+        ensures kept { IfNone (led result slot.new) (self.new ≡ self.old) }
+    {
+        if is_timer_first(&self.timers, &self.others) {
+            let Some(first) = self.timers.first() else {
+                return Lead::Unsure;
+            };
+            if moment.is_before_key(&first) {
+                self.quiet = Moment::of(&first);
+                return Lead::Running;
+            }
+            if first.class >= LOCAL {
+                return Lead::Unsure;
+            }
+            Lead::Later(self.timers.pop_into(horizon, slot))
+        } else {
+            let Some(first) = self.others.first() else {
+                return Lead::Running;
+            };
+            if moment.is_before_key(first) {
+                self.quiet = Moment::of(first);
+                return Lead::Running;
+            }
+            if first.class >= LOCAL {
+                return Lead::Unsure;
+            }
+            Lead::Later(self.others.pop_first_into(horizon, slot))
         }
     }
 }

@@ -3,15 +3,15 @@
 ghost use Rattle.std.specs.Prelude.{◌≡◌, IfSome};
 ghost use Rattle.fb_types.specs.Keys.{local_key};
 ghost use Rattle.fb_types.specs.declared.run.Event.TheVariants.{Local};
-ghost use Rattle.fb_agenda.specs.Indexes.{taken};
+ghost use Rattle.fb_agenda.specs.Slots.{taken};
 
 use crate::moment::LOCAL;
 use fb_types::{Event, Key, Target};
 
 /// An event that was taken from an agenda, with its key.
 ///
-/// An event is large, and returning it would copy it from function to function. So a loop that takes events has one slot,
-/// and each event moves into it.
+/// An event is large, and returning it would copy it from function to function. So a loop that takes events has one
+/// slot, and each event moves into it.
 #[derive(Drop)]
 pub struct Least {
     /// The key under which the event waited.

@@ -3,9 +3,9 @@
 //! Guarantees to callers: the event with the least key is taken; an instance has at most one timer; messages are added
 //! all or none, and none if memory runs out.
 //!
-//! Read in this order: `agenda`; `queue`, the local events of the running tick, with `targets`; `later` and `calendar`, all
-//! other events, with `moment`; `timer_row`; `store` and `rising`, the others of these; `arrivals`, messages; `least`, what
-//! is taken.
+//! Read in this order: `agenda`; `queue`, the local events of the running tick, with `targets`; `later` and `calendar`,
+//! all other events, with `moment`; `timer_row`; `store` and `rising`, the others of these; `arrivals`, messages;
+//! `least`, what is taken.
 #![tactic(auto)]
 
 pub mod agenda;

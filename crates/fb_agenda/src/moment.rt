@@ -2,12 +2,15 @@
 
 ghost use Rattle.std.specs.Prelude.{◌≡◌};
 ghost use Rattle.std.specs.Bool.{OnFalse, OnTrue};
-ghost use Rattle.fb_agenda.specs.Moments.{IsNoLater, IsSooner};
+ghost use Rattle.fb_agenda.specs.Moments.{IsNoLater, IsSooner, moment_of};
 
 use fb_types::Key;
 
 /// The class of the keys of timers.
 pub(crate) const TIMER: u8 = 1;
+
+/// The class of the keys of messages.
+pub(crate) const ARRIVAL: u8 = 2;
 
 /// The class of the keys of local events.
 pub(crate) const LOCAL: u8 = 3;
@@ -47,7 +50,8 @@ impl Moment {
     /// not read.
     #[inline(always)]
     pub(crate) fn is_sooner(self, other: &Moment) -> bool
-        ensures { OnTrue result (IsSooner self other.now) }
+        ensures sooner { OnTrue result (IsSooner self other.now) }
+        ensures later { OnFalse result (IsNoLater other.now self) }
     {
         if self.tick < other.tick {
             return true;
@@ -55,19 +59,27 @@ impl Moment {
         self.tick == other.tick && self.resource < other.resource
     }
 
-    /// The earlier of two moments.
+    /// Whether this moment comes before that of a key, which is read where it is.
     #[inline(always)]
-    pub(crate) fn earlier(self, other: Moment) -> Moment
-        ensures first { IsNoLater result self }
-        ensures second { IsNoLater result other }
+    pub(crate) fn is_before_key(self, key: &Key) -> bool
+        ensures sooner { OnTrue result (IsSooner self (moment_of key.now)) }
+        ensures later { OnFalse result (IsNoLater (moment_of key.now) self) }
     {
-        if self.tick < other.tick {
-            return self;
+        if self.tick != key.tick {
+            return self.tick < key.tick;
         }
-        if self.tick > other.tick || self.resource > other.resource {
-            return other;
+        self.resource < key.resource
+    }
+
+    /// Makes this the earlier of itself and another moment. Mostly it is, and nothing is written.
+    #[inline(always)]
+    pub(crate) fn lower(&mut self, other: Moment)
+        ensures first { IsNoLater self.new self.old }
+        ensures second { IsNoLater self.new other }
+    {
+        if other.is_sooner(self) {
+            *self = other;
         }
-        self
     }
 }
 

@@ -1,8 +1,8 @@
 //! The queue of the running tick: local events in the order of their keys.
 //!
-//! An event raises local events of the same tick and resource, with numbers that follow the last one. So the queue has the
-//! tick and the resource once, and of each event its number and its target. Appending one, and finding the next one,
-//! takes constant time and compares no keys.
+//! An event raises local events of the same tick and resource, with numbers that follow the last one. So the queue has
+//! the tick and the resource once, and of each event its number and its target. Appending one, and finding the next
+//! one, takes constant time and compares no keys.
 
 ghost use Rattle.std.specs.Prelude.{◌≡◌, ◌<◌, ◌++◌, ◌∷◌, [], None, drop, option_to_list, IfSome, IfNone, OnErr, OnOk, length, option_map, slice_index_or, slice_set};
 ghost use Rattle.std.specs.Bool.{OnFalse, OnTrue};
@@ -14,7 +14,7 @@ ghost use Rattle.fb_types.specs.declared.run.Event.TheVariants.{Local};
 ghost use Rattle.fb_types.specs.declared.run.Target.{Target as Waiting};
 ghost use Rattle.fb_agenda.specs.Agendas.{AreRising, IsAt, IsFirst, IsQueue, MayFollow, event_of, local_events};
 ghost use Rattle.fb_agenda.specs.Calendars.{BeginsAt, IsIndexOf};
-ghost use Rattle.fb_agenda.specs.Indexes.{taken};
+ghost use Rattle.fb_agenda.specs.Slots.{taken};
 
 use crate::least::Least;
 use crate::targets::Targets;
@@ -76,8 +76,8 @@ impl Queue {
         Some(Key::local(self.tick, self.resource, number))
     }
 
-    /// Whether an event of this tick and resource may be appended: the queue is empty, or its last event has the same tick
-    /// and resource, and an earlier number.
+    /// Whether an event of this tick and resource may be appended: the queue is empty, or its last event has the same
+    /// tick and resource, and an earlier number.
     #[inline(always)]
     pub(crate) fn follows(&self, tick: u64, resource: u32, number: u128) -> bool
         requires { IsQueue (local_events self.now) }
@@ -183,11 +183,11 @@ pub(crate) fn target_of(event: &Event) -> Option<Target>
 
 /// Takes the first event, if its tick is below the horizon, and moves it into the slot. Returns whether it did.
 #[inline(always)]
-pub(crate) fn pop_into(queue: &mut Queue, horizon: u64, index: &mut Least) -> bool
+pub(crate) fn pop_into(queue: &mut Queue, horizon: u64, slot: &mut Least) -> bool
     requires { AreRising (local_events queue.old) }
-    ensures items { local_events queue.old ≡ option_to_list (taken result index.new) ++ local_events queue.new }
-    ensures below { IfSome (taken result index.new) (λ r. r.0.tick < horizon) }
-    ensures none { IfNone (taken result index.new) (BeginsAt horizon (local_events queue.old)) }
+    ensures items { local_events queue.old ≡ option_to_list (taken result slot.new) ++ local_events queue.new }
+    ensures below { IfSome (taken result slot.new) (λ r. r.0.tick < horizon) }
+    ensures none { IfNone (taken result slot.new) (BeginsAt horizon (local_events queue.old)) }
     ensures kept { OnFalse result (queue.new ≡ queue.old) }
 {
     let Some((key, target)) = queue.front() else {
@@ -196,7 +196,7 @@ pub(crate) fn pop_into(queue: &mut Queue, horizon: u64, index: &mut Least) -> bo
     if key.tick >= horizon {
         return false;
     }
-    index.hold_local(key, target);
+    slot.hold_local(key, target);
     queue.drop_first();
     true
 }

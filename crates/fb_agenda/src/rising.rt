@@ -1,18 +1,20 @@
 //! Lists of events in rising order of their keys.
 
-ghost use Rattle.std.specs.Prelude.{◌≡◌, ◌<◌, ◌++◌, [], None, option_to_list, IfSome, IfNone, OnOk, OnErr, length};
+ghost use Rattle.std.specs.Prelude.{◌≡◌, ◌<◌, ◌++◌, [], None, option_to_list, IfSome, IfNone, OnOk, OnErr, length, vec_len};
 ghost use Rattle.std.specs.VecDeque.{deque_len, deque_capacity};
 ghost use Rattle.std.specs.Bool.{OnTrue};
 ghost use Rattle.std.specs.List.{AllByRecursion};
 ghost use Rattle.std.specs.Map.{keys_of, lookup};
 ghost use Rattle.std.specs.BTreeMap.{insert_entry};
 ghost use Rattle.fb_types.specs.Keys.{Precedes, key_cmp, same_key};
+ghost use Rattle.fb_types.specs.declared.run.Event.TheVariants.{Arrival};
 ghost use Rattle.fb_agenda.specs.Agendas.{AreRising, IsFirst};
+ghost use Rattle.fb_agenda.specs.Arrivals.{MovesLast};
 ghost use Rattle.fb_agenda.specs.Calendars.{BeginsAt, IsBetween, IsIndexOf};
-ghost use Rattle.fb_agenda.specs.Indexes.{taken};
+ghost use Rattle.fb_agenda.specs.Slots.{taken};
 
 use crate::least::Least;
-use fb_types::{Event, Key};
+use fb_types::{Event, Key, Message};
 use std::alloc::AllocError;
 use std::cmp::Ordering;
 use std::collections::VecDeque;
@@ -39,6 +41,25 @@ pub(crate) fn insert(
     } else {
         insert_within(events, key, event)
     }
+}
+
+/// Moves the last message of a list to the end of this one, where its key belongs. It leaves its list only when there is
+/// room, so that it moves once.
+#[inline(always)]
+pub(crate) fn push_last(
+    events: &mut VecDeque<(Key, Event)>,
+    key: Key,
+    mail: &mut Vec<Message>,
+) -> Result<(), AllocError>
+    requires past { AllByRecursion (λ j. Precedes j key) (keys_of events.old.items) }
+    requires some { 0 < vec_len mail.old }
+    ensures ok { OnOk result (MovesLast mail.old.items mail.new.items (λ m. events.new.items ≡ insert_entry key_cmp events.old.items key (Arrival m))) }
+    ensures err { OnErr result (events.new.items ≡ events.old.items) }
+{
+    make_room(events)?;
+    let message = mail.pop().unwrap();
+    events.push_back_reserved((key, Event::Arrival(message)));
+    Ok(())
 }
 
 /// Reserves room for one more event, if none is left.
@@ -151,13 +172,13 @@ fn insert_within(
 pub(crate) fn pop_first_into(
     events: &mut VecDeque<(Key, Event)>,
     horizon: u64,
-    index: &mut Least,
+    slot: &mut Least,
 ) -> bool
     requires { AreRising events.old.items }
-    ensures items { events.old.items ≡ option_to_list (taken result index.new) ++ events.new.items }
-    ensures below { IfSome (taken result index.new) (λ r. r.0.tick < horizon) }
-    ensures none { IfNone (taken result index.new) (BeginsAt horizon events.old.items) }
-    ensures kept { IfNone (taken result index.new) (events.new.items ≡ events.old.items) }
+    ensures items { events.old.items ≡ option_to_list (taken result slot.new) ++ events.new.items }
+    ensures below { IfSome (taken result slot.new) (λ r. r.0.tick < horizon) }
+    ensures none { IfNone (taken result slot.new) (BeginsAt horizon events.old.items) }
+    ensures kept { IfNone (taken result slot.new) (events.new.items ≡ events.old.items) }
 {
     // Where it is known that there is a first, the compiler moves it with no `Option` in between.
     let Some((first, _)) = events.front() else {
@@ -166,5 +187,5 @@ pub(crate) fn pop_first_into(
     if first.tick >= horizon {
         return false;
     }
-    index.hold(events.pop_front())
+    slot.hold(events.pop_front())
 }

@@ -5,18 +5,20 @@
 //! So a few events are kept in a sorted row, and also any number of events that come one after the other, as stimuli do.
 //! Only events that belong before the end of a full row go to the map, and those that come while it has any.
 
-ghost use Rattle.std.specs.Prelude.{◌≡◌, ◌<◌, List, [], IfSome, IfNone, OnOk, OnErr, Some, None};
+ghost use Rattle.std.specs.Prelude.{◌≡◌, ◌<◌, List, [], IfSome, IfNone, OnOk, OnErr, Some, None, vec_len};
 ghost use Rattle.std.specs.Bool.{OnFalse, OnTrue};
 ghost use Rattle.std.specs.Map.{lookup};
 ghost use Rattle.fb_types.specs.Keys.{Precedes, same_key};
 ghost use Rattle.fb_types.specs.declared.key.Key as keys;
+ghost use Rattle.fb_types.specs.declared.run.Event.TheVariants.{Arrival};
 ghost use Rattle.fb_agenda.specs.Agendas.{AreRising, IsFirst};
+ghost use Rattle.fb_agenda.specs.Arrivals.{MovesLast};
 ghost use Rattle.fb_agenda.specs.Calendars.{BeginsAt, Leads, Sets};
-ghost use Rattle.fb_agenda.specs.Indexes.{taken};
+ghost use Rattle.fb_agenda.specs.Slots.{taken};
 
 use crate::least::Least;
 use crate::rising;
-use fb_types::{Event, Key};
+use fb_types::{Event, Key, Message};
 use std::alloc::{AllocError, Global};
 use std::collections::{BTreeMap, VecDeque};
 use std::marker::Model;
@@ -108,8 +110,40 @@ impl Store {
         self.insert_aside(key, event)
     }
 
-    /// The same as `insert`, where the map is not empty or gets the event. It is apart since the built program clears its
-    /// locals, which are large.
+    /// Puts the last message of a list under its key, and takes it from the list. It replaces an event that waits there.
+    ///
+    /// # Errors
+    ///
+    /// When memory runs out. The events are then as they were.
+    #[inline(always)]
+    pub(crate) fn insert_last(
+        &mut self,
+        key: Key,
+        mail: &mut Vec<Message>,
+    ) -> Result<(), AllocError>
+        requires { 0 < vec_len mail.old }
+        ensures put { OnOk result (MovesLast mail.old.items mail.new.items (λ m. Sets key (Some (Arrival m)) self.old self.new)) }
+        ensures err { OnErr result (self.new ≡ self.old) }
+    {
+        // Usually all of them are in the row, and the message comes after them.
+        if self.many.is_empty() && rising::is_past(&self.few, &key) {
+            return rising::push_last(&mut self.few, key, mail);
+        }
+        let message = mail.pop().unwrap();
+        self.insert_anywhere(key, Event::Arrival(message))
+    }
+
+    /// The same as `insert`, by a call.
+    #[inline(never)]
+    fn insert_anywhere(&mut self, key: Key, event: Event) -> Result<(), AllocError>
+        ensures put { OnOk result (Sets key (Some event) self.old self.new) }
+        ensures err { OnErr result (self.new ≡ self.old) }
+    {
+        self.insert(key, event)
+    }
+
+    /// The same as `insert`, where the map is not empty or gets the event. It is a function of its own since the built
+    /// program clears its locals, which are large.
     #[inline(never)]
     fn insert_aside(&mut self, key: Key, event: Event) -> Result<(), AllocError>
         ensures put { OnOk result (Sets key (Some event) self.old self.new) }
@@ -202,32 +236,32 @@ impl Store {
 
     /// Moves the event with the first key into the slot, if its tick is below the horizon. Returns whether it did.
     #[inline(always)]
-    pub(crate) fn pop_first_into(&mut self, horizon: u64, index: &mut Least) -> bool
-        ensures value { IfSome (taken result index.new) (λ r. lookup (same_key r.0) self.old ≡ Some r.1) }
-        ensures none_before { IfSome (taken result index.new) (λ r. (j : keys.Key) → Precedes j r.0 → lookup (same_key j) self.old ≡ None) }
-        ensures left { IfSome (taken result index.new) (λ r. Sets r.0 None self.old self.new) }
-        ensures below { IfSome (taken result index.new) (λ r. r.0.tick < horizon) }
-        ensures none { IfNone (taken result index.new) (BeginsAt horizon self.old) }
-        ensures kept { IfNone (taken result index.new) (self.new ≡ self.old) }
+    pub(crate) fn pop_first_into(&mut self, horizon: u64, slot: &mut Least) -> bool
+        ensures value { IfSome (taken result slot.new) (λ r. lookup (same_key r.0) self.old ≡ Some r.1) }
+        ensures none_before { IfSome (taken result slot.new) (λ r. (j : keys.Key) → Precedes j r.0 → lookup (same_key j) self.old ≡ None) }
+        ensures left { IfSome (taken result slot.new) (λ r. Sets r.0 None self.old self.new) }
+        ensures below { IfSome (taken result slot.new) (λ r. r.0.tick < horizon) }
+        ensures none { IfNone (taken result slot.new) (BeginsAt horizon self.old) }
+        ensures kept { IfNone (taken result slot.new) (self.new ≡ self.old) }
     {
         // Usually all of them are in the row.
         if self.many.is_empty() {
-            rising::pop_first_into(&mut self.few, horizon, index)
+            rising::pop_first_into(&mut self.few, horizon, slot)
         } else {
-            self.pop_any_into(horizon, index)
+            self.pop_any_into(horizon, slot)
         }
     }
 
-    /// .. of the row or the map.
+    /// The same as `pop_first_into`, of the row or the map.
     #[inline(never)]
-    fn pop_any_into(&mut self, horizon: u64, index: &mut Least) -> bool
-        ensures value { IfSome (taken result index.new) (λ r. lookup (same_key r.0) self.old ≡ Some r.1) }
-        ensures none_before { IfSome (taken result index.new) (λ r. (j : keys.Key) → Precedes j r.0 → lookup (same_key j) self.old ≡ None) }
-        ensures left { IfSome (taken result index.new) (λ r. Sets r.0 None self.old self.new) }
-        ensures below { IfSome (taken result index.new) (λ r. r.0.tick < horizon) }
-        ensures none { IfNone (taken result index.new) (BeginsAt horizon self.old) }
-        ensures kept { IfNone (taken result index.new) (self.new ≡ self.old) }
+    fn pop_any_into(&mut self, horizon: u64, slot: &mut Least) -> bool
+        ensures value { IfSome (taken result slot.new) (λ r. lookup (same_key r.0) self.old ≡ Some r.1) }
+        ensures none_before { IfSome (taken result slot.new) (λ r. (j : keys.Key) → Precedes j r.0 → lookup (same_key j) self.old ≡ None) }
+        ensures left { IfSome (taken result slot.new) (λ r. Sets r.0 None self.old self.new) }
+        ensures below { IfSome (taken result slot.new) (λ r. r.0.tick < horizon) }
+        ensures none { IfNone (taken result slot.new) (BeginsAt horizon self.old) }
+        ensures kept { IfNone (taken result slot.new) (self.new ≡ self.old) }
     {
-        index.hold(self.pop_below(horizon))
+        slot.hold(self.pop_below(horizon))
     }
 }

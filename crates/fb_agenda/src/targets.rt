@@ -1,7 +1,7 @@
 //! The numbers and the targets of local events, of which the first has a place of its own.
 //!
-//! Mostly one local event waits: the one that is taken raises the next. So the list of one event is no ring, and nothing is
-//! looked up in it.
+//! Mostly one local event waits: the one that is taken raises the next. So the list of one event is no ring, and
+//! nothing is looked up in it.
 
 ghost use Rattle.std.specs.Prelude.{◌≡◌, ◌<◌, ◌-◌, ◌++◌, ◌∷◌, ℕ, [], drop, IfSome, IfNone, OnErr, OnOk, length, slice_set};
 ghost use Rattle.std.specs.Bool.{OnTrue};
@@ -111,7 +111,7 @@ impl Targets {
         Ok(())
     }
 
-    /// .. after the first.
+    /// The same as `push`, after the first.
     #[inline(never)]
     fn push_other(&mut self, number: u128, target: Target) -> Result<(), AllocError>
         requires { 0 < length self.old }

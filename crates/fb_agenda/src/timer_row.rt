@@ -12,7 +12,7 @@ ghost use Rattle.fb_types.specs.Keys.{Precedes, key_cmp, same_key, timer_key};
 ghost use Rattle.fb_types.specs.declared.run.Event.TheVariants.{Timer};
 ghost use Rattle.fb_agenda.specs.Agendas.{AreRising, IsFirst};
 ghost use Rattle.fb_agenda.specs.Calendars.{BeginsAt, Sets};
-ghost use Rattle.fb_agenda.specs.Indexes.{taken};
+ghost use Rattle.fb_agenda.specs.Slots.{taken};
 ghost use Rattle.fb_agenda.specs.Moments.{HasRank};
 ghost use Rattle.fb_agenda.specs.Timing.{timer_event};
 
@@ -112,17 +112,16 @@ impl Timers {
         ensures ok { OnOk result (self.new ≡ insert_entry key_cmp self.old (timer_key tick resource instance) (Timer instance)) }
         ensures err { OnErr result (self.new ≡ self.old) }
     {
-        let timed = Timed {
-            tick,
-            resource,
-            instance,
-        };
-        if self.is_past(&timed.key()) {
+        if self.is_past(&Key::timer(tick, resource, instance)) {
             make_room(&mut self.row)?;
-            self.row.push_back_reserved(timed);
+            self.row.push_back_reserved(Timed {
+                tick,
+                resource,
+                instance,
+            });
             return Ok(());
         }
-        self.set_within(timed)
+        self.set_within(tick, resource, instance)
     }
 
     /// Whether the key comes after all keys of the timers.
@@ -139,11 +138,16 @@ impl Timers {
 
     /// The same as `set`, for a timer that is not after all others.
     #[inline(never)]
-    fn set_within(&mut self, timed: Timed) -> Result<(), AllocError>
+    fn set_within(&mut self, tick: u64, resource: u32, instance: u32) -> Result<(), AllocError>
         requires { AreRising self.old }
-        ensures ok { OnOk result (self.new ≡ insert_entry key_cmp self.old (timer_key timed.tick timed.resource timed.instance) (Timer timed.instance)) }
+        ensures ok { OnOk result (self.new ≡ insert_entry key_cmp self.old (timer_key tick resource instance) (Timer instance)) }
         ensures err { OnErr result (self.new ≡ self.old) }
     {
+        let timed = Timed {
+            tick,
+            resource,
+            instance,
+        };
         match self
             .row
             .binary_search_by_key(&timed.key(), |other| other.key())
@@ -159,8 +163,31 @@ impl Timers {
         }
     }
 
-    /// Removes the timer under a key, if one waits there.
+    /// Removes the timer of an instance, if it waits at this tick. It makes no key unless it searches for it.
     #[inline(always)]
+    pub(crate) fn cancel(&mut self, tick: u64, resource: u32, instance: u32)
+        requires { AreRising self.old }
+        ensures sets { Sets (timer_key tick resource instance) None self.old self.new }
+        ensures rising { AreRising self.new }
+    {
+        // A timer that has gone off is usually before all others.
+        if self.is_before(&Key::timer(tick, resource, instance)) {
+            return;
+        }
+        self.cancel_within(tick, resource, instance);
+    }
+
+    /// The same as `cancel`, for a timer that is not before all others.
+    #[inline(never)]
+    fn cancel_within(&mut self, tick: u64, resource: u32, instance: u32)
+        requires { AreRising self.old }
+        ensures sets { Sets (timer_key tick resource instance) None self.old self.new }
+        ensures rising { AreRising self.new }
+    {
+        self.remove_within(&Key::timer(tick, resource, instance));
+    }
+
+    /// Removes the timer under a key, if one waits there.
     pub(crate) fn remove(&mut self, key: &Key)
         requires { AreRising self.old }
         ensures sets { Sets key.now None self.old self.new }
@@ -214,17 +241,17 @@ impl Timers {
 
     /// Takes the first timer, if its tick is below the horizon, and moves it into the slot. Returns whether it did.
     #[inline(always)]
-    pub(crate) fn pop_into(&mut self, horizon: u64, index: &mut Least) -> bool
+    pub(crate) fn pop_into(&mut self, horizon: u64, slot: &mut Least) -> bool
         requires { AreRising self.old }
-        ensures items { self.old ≡ option_to_list (taken result index.new) ++ self.new }
-        ensures below { IfSome (taken result index.new) (λ r. r.0.tick < horizon) }
-        ensures none { IfNone (taken result index.new) (BeginsAt horizon self.old) }
+        ensures items { self.old ≡ option_to_list (taken result slot.new) ++ self.new }
+        ensures below { IfSome (taken result slot.new) (λ r. r.0.tick < horizon) }
+        ensures none { IfNone (taken result slot.new) (BeginsAt horizon self.old) }
     {
         let Some(first) = self.pop_below(horizon) else {
             return false;
         };
-        index.key = first.key();
-        index.event = Event::Timer(first.instance);
+        slot.key = first.key();
+        slot.event = Event::Timer(first.instance);
         true
     }
 }

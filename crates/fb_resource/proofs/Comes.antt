@@ -1,5 +1,5 @@
 -- A run of one resource, taking by taking.
-use Rattle.std.proofs.Common.{◌≡◌, ℕ, ◌<◌, Some, None, List, [], ◌∷◌, ◌++◌, refl, sym, ap, ◌∙◌, subst, append-nil}
+use Rattle.std.proofs.Common.{◌≡◌, ℕ, ◌<◌, Some, None, List, [], ◌∷◌, ◌++◌, sym, ap, ◌∙◌, subst, append-nil}
 use Rattle.fb_types.specs.Cores.{stop_or, clock_after}
 use Rattle.fb_types.specs.Machines.{Machine, Item, Local, Each, TakesAlone, after, Chain, end, Rests, sent_by, lines_of}
 use Rattle.fb_types.specs.declared.key.Key.{Key}
@@ -9,9 +9,6 @@ use Rattle.fb_resource.specs.Runs.{HasCome, HasEnded}
 use Rattle.fb_laws.proofs.Chains.{chain_append, end_append, sent_append, lines_append, clock_append}
 
 module _ (M : Machine) where
-  pub come_none : (r t : ℕ) (l : Local M) → HasCome M r t l l [] []
-  come_none r t l = record { items = []; chain = tt; below = tt; ends = refl; clock = λ b. refl; lines = refl; sent = refl }
-
   module _ (r t : ℕ) (from to : Local M) (lines : List M.Line) (sent : List (Key × M.Event)) (come : HasCome M r t from to lines sent) (i : Item M) (takes : TakesAlone M r to i) (below : i.key.tick < t) where
     is : List (Item M)
     is = come.items ++ i ∷ []

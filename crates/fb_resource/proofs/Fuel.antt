@@ -13,27 +13,27 @@ less_ticks a b l x y lt small =
     let least : suc a * l ≤ b * l = mul-le-mul_right l lt in
     omega (arith, least, suc-mul a l, small)
 
-pub fuel_falls : (horizon limit t : ℕ) (old new : TickCounts) → new.tick ≡ Some t → suc new.left ≤ (begun limit t (meter_of old)).left → unwrap_or old.tick 0 ≤ t → t < horizon
+pub fuel_falls : (horizon limit t : ℕ) (old new : TickCounts) → new.tick ≡ Some t → suc new.meter.left ≤ (begun limit t (meter_of old)).left → unwrap_or old.tick 0 ≤ t → t < horizon
     → fuel horizon limit new < fuel horizon limit old
 fuel_falls horizon limit t old new tick left later below =
-    subst (λ z. elim z [ None ↦ (horizon + 1) * (limit + 1) | Some u ↦ (horizon - u) * (limit + 1) + new.left ] < fuel horizon limit old) (sym tick) (go old.tick old.left old.locals later left)
+    subst (λ z. elim z [ None ↦ (horizon + 1) * (limit + 1) | Some u ↦ (horizon - u) * (limit + 1) + new.meter.left ] < fuel horizon limit old) (sym tick) (go old.tick old.meter.left old.locals later left)
   where
-    go : (o : Option ℕ) (l n : ℕ) → unwrap_or o 0 ≤ t → suc new.left ≤ (begun limit t (record { tick = o; left = l; locals = n })).left
-        → (horizon - t) * (limit + 1) + new.left < elim o [ None ↦ (horizon + 1) * (limit + 1) | Some u ↦ (horizon - u) * (limit + 1) + l ]
+    go : (o : Option ℕ) (l n : ℕ) → unwrap_or o 0 ≤ t → suc new.meter.left ≤ (begun limit t (record { tick = o; left = l; locals = n })).left
+        → (horizon - t) * (limit + 1) + new.meter.left < elim o [ None ↦ (horizon + 1) * (limit + 1) | Some u ↦ (horizon - u) * (limit + 1) + l ]
     go None l n le h =
-        let less = less_ticks (horizon - t) (horizon + 1) (limit + 1) new.left 0 (omega arith) (omega (arith, h)) in
+        let less = less_ticks (horizon - t) (horizon + 1) (limit + 1) new.meter.left 0 (omega arith) (omega (arith, h)) in
         omega (arith, less)
     go (Some u) l n le h = ⊎_elim same other (eqb_tells u t)
       where
-        steps : (b : Bool) → eqb u t ≡ b → suc new.left ≤ (let r : States.Meter = cond b (record { tick = Some u; left = l; locals = n }) (record { tick = Some t; left = limit; locals = 0 }) in r.left)
-        steps b e = subst (λ z. suc new.left ≤ (let r : States.Meter = cond z (record { tick = Some u; left = l; locals = n }) (record { tick = Some t; left = limit; locals = 0 }) in r.left)) e h
+        steps : (b : Bool) → eqb u t ≡ b → suc new.meter.left ≤ (let r : States.Meter = cond b (record { tick = Some u; left = l; locals = n }) (record { tick = Some t; left = limit; locals = 0 }) in r.left)
+        steps b e = subst (λ z. suc new.meter.left ≤ (let r : States.Meter = cond z (record { tick = Some u; left = l; locals = n }) (record { tick = Some t; left = limit; locals = 0 }) in r.left)) e h
 
-        same : ((eqb u t ≡ true) × (u ≡ t)) → (horizon - t) * (limit + 1) + new.left < (horizon - u) * (limit + 1) + l
+        same : ((eqb u t ≡ true) × (u ≡ t)) → (horizon - t) * (limit + 1) + new.meter.left < (horizon - u) * (limit + 1) + l
         same s =
-            let one : suc new.left ≤ l = steps true s.0 in
+            let one : suc new.meter.left ≤ l = steps true s.0 in
             rw s.1 (omega (arith, one))
 
-        other : ((eqb u t ≡ false) × (u ≢ t)) → (horizon - t) * (limit + 1) + new.left < (horizon - u) * (limit + 1) + l
+        other : ((eqb u t ≡ false) × (u ≢ t)) → (horizon - t) * (limit + 1) + new.meter.left < (horizon - u) * (limit + 1) + l
         other s =
-            let one : suc new.left ≤ limit = steps false s.0 in
-            less_ticks (horizon - t) (horizon - u) (limit + 1) new.left l (omega (arith, le, below, s.1)) (omega (arith, one))
+            let one : suc new.meter.left ≤ limit = steps false s.0 in
+            less_ticks (horizon - t) (horizon - u) (limit + 1) new.meter.left l (omega (arith, le, below, s.1)) (omega (arith, one))

@@ -1,12 +1,14 @@
--- The one local event that was put out, where nothing is asked of a timer.
-use Rattle.std.proofs.Common.{◌≡◌, ◌+◌, ◌<◌, ℕ, Bool, true, false, cond, List, [], ◌∷◌, All, length, map, Option, Some, refl, sym, ap, subst, ◌∙◌, append-nil, arith}
+-- Nothing was put out, or one event, where nothing is asked of a timer.
+use Rattle.std.proofs.Common.{◌≡◌, ◌+◌, ◌<◌, ◌≤◌, ◌++◌, ℕ, Bool, true, false, cond, List, [], ◌∷◌, All, get_or, length, map, Option, Some, None, refl, sym, ap, subst, ◌∙◌, append-nil, arith}
 use Rattle.std.specs.Map.{lookup}
-use Rattle.std.specs.Prelude.{option_map}
+use Rattle.std.specs.Prelude.{IfSome, option_map, slice_index, slice_set}
 use Rattle.std.specs.Global.{Vec}
+use Rattle.std.proofs.lemmas.List.{length-set}
+use Rattle.std.proofs.lemmas.List.Elements.{All-push}
 use Rattle.fb_types.specs.Headline.{Inputs, system_of}
 use Rattle.fb_types.specs.Keys.{changed_to, local_key, or_else, same_key}
 use Rattle.fb_types.specs.Names.{Path}
-use Rattle.fb_types.specs.States.{State}
+use Rattle.fb_types.specs.States.{State, path_of}
 use Rattle.fb_types.specs.States as model
 use Rattle.fb_types.specs.Takes.{Posts, post_all, timer_change}
 use Rattle.fb_types.specs.declared.key.Key.{Key}
@@ -19,19 +21,22 @@ use Rattle.fb_types.specs.declared.run.TimerAsk.{TimerAsk}
 use Rattle.fb_types.specs.declared.run.TimerAsk.TheVariants.{Keep}
 use Rattle.fb_types.specs.declared.value.Reason.{Reason}
 use Rattle.fb_agenda.specs.Agendas.{Contents, waiting}
+use Rattle.fb_agenda.specs.declared.least.Least.{Least}
 use Rattle.fb_net.specs.Events.{event_of}
 use Rattle.fb_net.specs.Outs.{out_of}
 use Rattle.fb_net.specs.declared.outbox.Out.{Out}
 use Rattle.fb_net.specs.declared.outbox.Out.TheVariants as outs
 use Rattle.fb_net.specs.declared.outbox.Outbox.{Outbox}
+use Rattle.fb_net.specs.declared.outbox.OutgoingMessage.{OutgoingMessage}
 use Rattle.fb_net.specs.declared.resource.Forest.{Forest}
 use Rattle.fb_system.specs.Lines.{BelongsTo}
-use Rattle.fb_resource.specs.Posts.{ArePosted, CountsAre, IsPostable, IsPut, arriving}
-use Rattle.fb_resource.specs.Takings.{AreReady, IsEmptied, IsLone, IsSettled, IsTakenHere, with_event, with_next}
+use Rattle.fb_resource.specs.Posts.{ArePosted, CountsAre, IsMessage, IsOneMessage, IsPostable, IsPut, IsSendable, arriving, message_of}
+use Rattle.fb_resource.specs.Takings.{AreReady, IsEmptied, IsLone, IsSettled, IsTakenHere, MaySettle, Settles, with_event, with_next}
 use Rattle.fb_resource.specs.Waiting.{IsInOrder, meaning}
 use Rattle.fb_resource.specs.declared.queues.Queues.{Queues}
 use Rattle.fb_resource.specs.declared.tick_counts.TickCounts.{TickCounts}
-use Rattle.fb_resource.proofs.PostLaws.{local_waits, order_put, posted_local}
+use Rattle.fb_resource.proofs.PostLaws.{local_waits, message_is, one_message, order_put, posted_local}
+use Rattle.fb_resource.proofs.Posted.{none_before, only_of}
 
 -- ---- On an agenda in addition
 
@@ -103,6 +108,120 @@ module _ (i : Inputs) (k : Key) (t : Target) (old new : Contents) (before after 
     none = lone.emptied.none;
     keeps = lone.emptied.keeps;
   }
+
+-- ---- Where nothing was put out, or one message
+
+-- nothing changes
+pub still_settles : (i : Inputs) (l : Least) (n : ℕ) (q : Queues) → MaySettle i l q → q.outbox.outs.items ≡ [] → q.outbox.timer ≡ Keep → Settles i l n q n q
+still_settles i l n q may none keeps = record {
+  settled = λ counts are.
+      let start : Posts = record { locals = n; sent = counts; raised = []; messages = [] } in
+      record {
+        mid = q.agenda;
+        set = λ j. subst (λ (a : TimerAsk). meaning i q.agenda j ≡ changed_to (timer_change (system_of i) l.key.resource (path_of (event_of i l.event)) a j) (meaning i q.agenda j)) (sym keeps) refl;
+        posted =
+            subst (λ (os : List Out). ArePosted i (post_all (system_of i) l.key (map (out_of (system_of i)) os) start) q.agenda q.agenda q.mail.items q.mail.items n q.sent.items) (sym none)
+            (record { agenda = λ j. refl; mail = sym (append-nil (map (arriving i) q.mail.items)); counted = refl; sends = are });
+      };
+  ready = record { order = may.order; due = may.due; counted = may.counted; mail = may.mail; lines = may.lines; none = none; keeps = keeps };
+  later = λ all. all;
+  few = omega arith;
+  lines = refl;
+}
+
+-- the message is posted
+pub message_settles : (i : Inputs) (l : Least) (n link : ℕ) (old : Queues) (sent : Vec ℕ) (mail : Vec Message) (left : Vec Out)
+    → MaySettle i l old → IsOneMessage link old.outbox.outs.items → old.outbox.timer ≡ Keep
+    → ((s : OutgoingMessage) → old.outbox.outs.items ≡ outs.Send s ∷ []
+    → mail.items ≡ old.mail.items ++ message_of (system_of i) l.key s (slice_index old.sent.items link) ∷ [])
+    → sent.items ≡ slice_set old.sent.items link (slice_index old.sent.items link + 1) → l.key.tick < (system_of i).arrival link l.key.tick → left.items ≡ []
+    → Settles i l n old n (record { agenda = old.agenda; sent = sent; mail = mail; outbox = record old.outbox { outs = left } })
+message_settles i l n link old sent mail left may one keeps put counted later none =
+    let sys = system_of i in
+    let k = l.key in
+    let s = one.message in
+    let number = slice_index old.sent.items s.link in
+    let sendable : IsSendable sys k.resource s = subst (All (IsPostable sys k.resource)) one.is may.outs 0 (outs.Send s) (omega arith) in
+    let pushed : mail.items ≡ old.mail.items ++ message_of sys k s number ∷ [] =
+    subst (λ (m : ℕ). mail.items ≡ old.mail.items ++ message_of sys k s (slice_index old.sent.items m) ∷ []) one.over (put s one.is) in
+    let more : sent.items ≡ slice_set old.sent.items s.link (number + 1) =
+    subst (λ (m : ℕ). sent.items ≡ slice_set old.sent.items m (slice_index old.sent.items m + 1)) one.over counted in
+    let after : k.tick < sys.arrival s.link k.tick = subst (λ (m : ℕ). k.tick < sys.arrival m k.tick) one.over later in
+    let there = sendable.there in
+    let counts_are = may.counted in
+    let within : s.link < length old.sent.items = omega (arith, there, counts_are) in
+    record {
+      settled = λ counts are.
+          let start : Posts = record { locals = n; sent = counts; raised = []; messages = [] } in
+          let starting : ArePosted i start old.agenda old.agenda old.mail.items old.mail.items n old.sent.items =
+          record { agenda = λ j. refl; mail = sym (append-nil (map (arriving i) old.mail.items)); counted = refl; sends = are } in
+          record {
+            mid = old.agenda;
+            set = λ j. subst (λ (a : TimerAsk). meaning i old.agenda j ≡ changed_to (timer_change sys k.resource (path_of (event_of i l.event)) a j) (meaning i old.agenda j)) (sym keeps) refl;
+            posted =
+                subst (λ (os : List Out). ArePosted i (post_all sys k (map (out_of sys) os) start) old.agenda old.agenda old.mail.items mail.items n sent.items) (sym one.is)
+                (one_message i k old.agenda old.agenda old.mail.items old.mail.items mail.items start (outs.Send s) n old.sent.items sent.items s refl more starting sendable within pushed);
+          };
+      ready = record {
+        order = may.order;
+        due = may.due;
+        counted = ap length counted ∙ length-set old.sent.items link _ ∙ may.counted;
+        mail = subst (All (IsMessage i)) (sym pushed) (All-push (IsMessage i) old.mail.items (message_of sys k s number) may.mail (message_is i k number s sendable));
+        lines = may.lines;
+        none = none;
+        keeps = keeps;
+      };
+      later = λ all. subst (All (λ m. k.tick < m.arrives)) (sym pushed) (All-push (λ m. k.tick < m.arrives) old.mail.items (message_of sys k s number) all after);
+      few = omega arith;
+      lines = refl;
+    }
+
+-- ---- The only message
+
+module _ (link : ℕ) (os first : List Out) (x : Out) (one : IsOneMessage link os) (popped : os ≡ first ++ x ∷ []) where
+  few : length os ≤ 1
+  few = let count = ap length one.is in omega (arith, count)
+
+  -- it leaves nothing
+  pub left_none : first ≡ []
+  left_none = none_before os first x popped few
+
+  pub not_local : (t : Target) → x ≡ outs.Local t → ⊥
+  not_local t local =
+      let both : outs.Local t ∷ [] ≡ outs.Send one.message ∷ [] = ap (λ z. z ∷ []) (sym local) ∙ sym (only_of os first x popped few) ∙ one.is in
+      cc
+
+pub not_none : (link : ℕ) (os : List Out) → IsOneMessage link os → os ≡ [] → ⊥
+not_none link os one none =
+    let count = ap length (sym none ∙ one.is) in
+    omega (arith, count)
+
+-- it comes after the mail
+pub mailed : (i : Inputs) (k : Key) (link number : ℕ) (os first : List Out) (x : Out) (left s : OutgoingMessage) (old new : List Message)
+    → IsOneMessage link os → os ≡ first ++ x ∷ [] → x ≡ outs.Send left → os ≡ outs.Send s ∷ []
+    → new ≡ old ++ message_of (system_of i) k (record left { link = link }) number ∷ []
+    → new ≡ old ++ message_of (system_of i) k s number ∷ []
+mailed i k link number os first x left s old new one popped came is pushed =
+    let both : outs.Send left ∷ [] ≡ outs.Send s ∷ [] = ap (λ z. z ∷ []) (sym came) ∙ sym (only_of os first x popped (few link os first x one popped)) ∙ is in
+    let same : left ≡ s = cc in
+    let its : outs.Send one.message ∷ [] ≡ outs.Send s ∷ [] = sym one.is ∙ is in
+    let that : one.message ≡ s = cc in
+    let linked : link ≡ s.link = one.over ∙ ap (λ (m : OutgoingMessage). m.link) that in
+    pushed
+    ∙ ap (λ (m : OutgoingMessage). old ++ message_of (system_of i) k (record m { link = link }) number ∷ []) same
+    ∙ ap (λ (l : ℕ). old ++ message_of (system_of i) k (record s { link = l }) number ∷ []) linked
+
+-- what holds anyway holds if there is an element
+pub anyway : {A P : Type 0} (o : Option A) → P → IfSome o (λ x. P)
+anyway None h = tt
+anyway (Some x) h = h
+
+-- of one event that was put out
+pub lone_message : (os : List Out) (x d : Out) (o : Option ℕ) → length os ≡ 1 → x ≡ get_or os 0 d → IfSome o (λ link. IsOneMessage link (x ∷ [])) → IfSome o (λ link. IsOneMessage link os)
+lone_message os x d None one at is = tt
+lone_message [] x d (Some link) one at is = absurd (omega (arith, one))
+lone_message (y ∷ []) x d (Some link) one at is = subst (λ (z : Out). IsOneMessage link (z ∷ [])) at is
+lone_message (y ∷ z ∷ os) x d (Some link) one at is = absurd (omega (arith, one))
 
 -- ---- Put after all
 

@@ -50,7 +50,7 @@ unused_below to k m is below t late = subst (λ o. is_tick o t ≡ false) (sym i
 -- ---- Counts that begin
 
 abbrev pub fresh_counts : TickCounts
-fresh_counts = record { tick = None; left = 0; locals = 0 }
+fresh_counts = record { tick = None; meter = record { left = 0 }; locals = 0 }
 
 pub metered_fresh : (limit : ℕ) (m : TickCounts) → m ≡ fresh_counts → IsMetered limit m
 metered_fresh limit m is = subst (IsMetered limit) (sym is) (record { left = omega arith; locals = omega arith })

@@ -2,7 +2,7 @@
 use Rattle.std.proofs.Common.{◌≡◌, ◌+◌, ◌++◌, ◌∷◌, ◌<◌, ◌≤◌, ℕ, List, [], All, get_or, length, map, Option, Some, None, refl, sym, ap, subst, ◌∙◌, append-nil, arith}
 use Rattle.std.specs.Prelude.{IfSome}
 use Rattle.std.specs.Global.{Vec}
-use Rattle.std.proofs.lemmas.List.{map-append}
+use Rattle.std.proofs.lemmas.List.{length_push, map-append, nil_from_length}
 use Rattle.fb_types.specs.Headline.{Inputs, system_of}
 use Rattle.fb_types.specs.Systems.{System}
 use Rattle.fb_types.specs.Takes.{Posts, post_all}
@@ -118,3 +118,14 @@ lone_local os x d None target one at is = tt
 lone_local [] x d (Some t) target one at is = absurd (omega (arith, one))
 lone_local (y ∷ []) x d (Some t) target one at is = ap (λ z. z ∷ []) (sym at ∙ is)
 lone_local (y ∷ z ∷ os) x d (Some t) target one at is = absurd (omega (arith, one))
+
+-- ---- One event
+
+-- Before the only element there is none.
+pub none_before : {A : Type 0} (all first : List A) (x : A) → all ≡ first ++ x ∷ [] → length all ≤ 1 → first ≡ []
+none_before all first x is few =
+    let count = ap length is in
+    nil_from_length first (omega (arith, count, length_push first x, few))
+
+pub only_of : {A : Type 0} (all first : List A) (x : A) → all ≡ first ++ x ∷ [] → length all ≤ 1 → all ≡ x ∷ []
+only_of all first x is few = is ∙ ap (λ z. z ++ x ∷ []) (none_before all first x is few)

@@ -152,12 +152,12 @@ came_good i k e left after stop tree x before w accepted limits home typed_world
 
 -- ---- Counts
 
-pub metered_after : (limit : ℕ) (m after : TickCounts) (left : ℕ) → IsMetered limit m → m.left ≡ suc left → after.left ≤ left → after.locals ≤ m.locals + 2 ^ 64
+pub metered_after : (limit : ℕ) (m after : TickCounts) (left : ℕ) → IsMetered limit m → m.meter.left ≡ suc left → after.meter.left ≤ left → after.locals ≤ m.locals + 2 ^ 64
     → IsMetered limit after
 metered_after limit m after left is one fewer more = record {
   left = let most = is.left in omega (arith, most, one, fewer);
   locals = let most = is.left in let few = is.locals in
-      let steps : (limit - m.left) + 1 ≤ limit - after.left = omega (arith, most, one, fewer) in
+      let steps : (limit - m.meter.left) + 1 ≤ limit - after.meter.left = omega (arith, most, one, fewer) in
       omega (arith, few, more, steps);
 }
 
@@ -178,3 +178,7 @@ when_ok_both (Err x) p t f = tt
 pub when_ok_three : {A E P R S Q : Type 0} (r : Result A E) → OnOk r P → OnOk r R → OnOk r S → (P → R → S → Q) → OnOk r Q
 when_ok_three (Ok x) p t s f = f p t s
 when_ok_three (Err x) p t s f = tt
+
+pub when_ok_four : {A E P R S T Q : Type 0} (r : Result A E) → OnOk r P → OnOk r R → OnOk r S → OnOk r T → (P → R → S → T → Q) → OnOk r Q
+when_ok_four (Ok x) p t s u f = f p t s u
+when_ok_four (Err x) p t s u f = tt

@@ -2,7 +2,6 @@
 use denote.Param.Send.{IsSend, IsSync, sendable, view_send, recorded_send, recorded_sync, struct_send}
 use denote.Struct.Declared.{shape}
 use Rattle.std.proofs.Crossing.{crosses, Arc-send}
-use Rattle.std.proofs.MapsCrossing as maps
 use Rattle.fb_types.proofs.items.Items.TheSendSync as items
 use Rattle.fb_types.proofs.boxed.Boxed.TheSendSync as boxed
 use Rattle.fb_types.proofs.name.Name.TheSendSync as name
@@ -17,7 +16,6 @@ use Rattle.fb_types.proofs.deploy.Stimulus.TheSendSync as stimulus
 use Rattle.fb_types.proofs.run.Line.TheSendSync as line
 use Rattle.fb_types.proofs.run.Message.TheSendSync as message
 use Rattle.fb_types.proofs.run.StopMark.TheSendSync as mark
-use Rattle.fb_types.proofs.value.Value.TheSendSync as value
 use Rattle.fb_types.proofs.value.Reason.TheSendSync as reason
 use Rattle.fb_types.proofs.text.UnaryOperator.TheSendSync as unary
 use Rattle.fb_types.proofs.text.BinaryOperator.TheSendSync as binary
@@ -31,6 +29,7 @@ use Rattle.fb_st.proofs.frame.Frame.TheSendSync as frame
 use Rattle.fb_st.proofs.layout.Layout.TheSendSync as layout
 use Rattle.fb_ecc.proofs.chart.Chart.TheSendSync as chart
 use Rattle.fb_event.proofs.state.EventState.TheSendSync as event
+use Rattle.fb_net.proofs.held_copies.HeldCopies.TheSendSync as held
 use Rattle.fb_net.proofs.shell.Shell.TheSendSync as shell
 use Rattle.fb_agenda.proofs.agenda.Agenda.TheSendSync as agenda
 use Rattle.fb_types.specs.contracts.text.Expr as Expr
@@ -194,7 +193,7 @@ pub block_send : IsSend (Block.the_field).row
 block_send = search (sendable, crosses, block.crosses, basic_send, event.the_send, items.the_send) depth 40
 
 pub forest_send : IsSend (Forest.the_field).row
-forest_send = search (sendable, crosses, maps.crosses, block_send, shell.the_field_send, items.the_send, value.the_field_send) depth 40
+forest_send = search (sendable, crosses, block_send, shell.the_field_send, held.the_field_send, items.the_send) depth 40
 
 pub tree_send : IsSend Tree.the_row
 tree_send = search (sendable, crosses, forest_send) depth 40

@@ -105,8 +105,8 @@ with_at_here n x f = ap (λ b. cond b x (f n)) (eq-eqb n n refl)
 pub taken_one : (i : Inputs) (limit : ℕ) (s : State) (k : Key) (e : Event) (m meter : counted.TickCounts) (l : ℕ) (stop : Option Reason) (old mid new : Queues) (from : ℕ) (before : Forest) (was : counted.TickCounts) (tree : Forest) (x : Outbox)
     → IsTypedSystem (system_of i) → IsTypedEvent (system_of i) (event_of i e)
     → IsHere i s k.resource from before was → CountsAre old.sent.items s.sent
-    → begun limit k.tick (s.meters k.resource) ≡ meter_of m → m.left ≡ suc l
-    → CameTo i k e (only_lines (map (line_of (system_of i)) old.outbox.lines.items)) l stop tree meter.left x (world_of s k.resource)
+    → begun limit k.tick (s.meters k.resource) ≡ meter_of m → m.meter.left ≡ suc l
+    → CameTo i k e (only_lines (map (line_of (system_of i)) old.outbox.lines.items)) l stop tree meter.meter.left x (world_of s k.resource)
     → mid ≡ record old { outbox = x }
     → ((counts : ℕ → ℕ) → CountsAre mid.sent.items counts
     → IsSettled i k (path_of (event_of i e)) x.timer (post_all (system_of i) k (map (out_of (system_of i)) x.outs.items) (record { locals = m.locals; sent = counts; raised = []; messages = [] })) mid new meter.locals)
@@ -175,7 +175,7 @@ taken_one i limit s k e m meter l stop old mid new from before was tree x sound 
         with_at_here k.resource _ s.meters
         ∙ ap (λ t. record { tick = t; left = o.left; locals = posts.locals }) (sym tick)
         ∙ ap (λ z. record { tick = meter.tick; left = z; locals = posts.locals }) came.leaves
-        ∙ ap (λ z. record { tick = meter.tick; left = meter.left; locals = z }) (sym its.posted.counted)
+        ∙ ap (λ z. record { tick = meter.tick; left = meter.meter.left; locals = z }) (sym its.posted.counted)
 
     config : IsTypedConfig sys sound (record { state = state; agenda = agenda_after k no_keys effect })
     config = takes-typed sys sound limit k event s no_keys effect at.typed (λ j. holds_none (IsTypedEvent sys)) typed takes

@@ -36,7 +36,7 @@ pub record MayPost (p : Posting) : Type 0 where
   pub counted : length p.sent.now.items ≡ (system_in p).links
   pub mail : All (IsMessage p.system.now) p.mail.now.items
 
--- .. and what is put out may: it goes to a port, or over a link, of the resource of the key.
+-- What is put out may be posted: it goes to a port, or over a link, of the resource of the key.
 abbrev pub MayPut : Posting → Out → Type 0
 MayPut p = IsPostable (system_in p) p.key.now.resource
 

@@ -1,5 +1,5 @@
 -- What a taking puts on the agenda of its resource, and the messages that it gives (this project's profile).
-use Rattle.std.specs.Prelude.{◌≡◌, ◌<◌, ◌++◌, ℕ, List, All, map, Some, if◌then◌else◌, slice_get}
+use Rattle.std.specs.Prelude.{◌≡◌, ◌<◌, ◌++◌, ◌∷◌, [], ℕ, List, All, map, Some, if◌then◌else◌, slice_get}
 use Rattle.fb_types.specs.Headline.{Inputs, system_of}
 use Rattle.fb_types.specs.Keys.{or_else, found, same_key}
 use Rattle.fb_types.specs.Names.{Port}
@@ -54,6 +54,12 @@ pub record IsSendable (sys : System) (r : ℕ) (s : OutgoingMessage) : Type 0 wh
 abbrev pub IsPostable : System → (resource : ℕ) → Out → Type 0
 IsPostable sys r (Local t) = IsLocal sys r t
 IsPostable sys r (Send s) = IsSendable sys r s
+
+-- One message over this link was put out, and nothing else.
+pub record IsOneMessage (link : ℕ) (os : List Out) : Type 0 where
+  pub message : OutgoingMessage
+  pub is : os ≡ Send message ∷ []
+  pub over : link ≡ message.link
 
 -- the counts of the messages of the links
 abbrev pub CountsAre : List ℕ → (ℕ → ℕ) → Type 0

@@ -115,7 +115,7 @@ AreSettled i k e before old new after =
     → IsSettled i k (path_of (event_of i e)) old.outbox.timer
     (post_all (system_of i) k (map (out_of (system_of i)) old.outbox.outs.items) (record { locals = before; sent = counts; raised = []; messages = [] })) old new after
 
--- .. and events may be taken again. The messages arrive later than the event, at most 2^64 local events were counted, and the
+-- The event is settled, and events may be taken again. The messages arrive later than the event, at most 2^64 local events were counted, and the
 -- lines stay.
 pub record Settles (i : Inputs) (l : Least) (before : ℕ) (old : Queues) (after : ℕ) (new : Queues) : Type 0 where
   pub settled : AreSettled i l.key l.event before old new after
@@ -145,12 +145,12 @@ pub record IsLone (k : Key) (t : Target) (old new : Contents) (before after : �
 abbrev pub with_event : Key → waiting.Event → Contents → Contents
 with_event k e a = record a { running = (k, e) ∷ a.running }
 
--- .. the event in the slot, if it was raised
+-- an agenda on which the event in the slot waits too, if it was raised
 abbrev pub with_next : Bool → Key → waiting.Event → Contents → Contents
 with_next true k e a = with_event k e a
 with_next false k e a = a
 
--- .. on the agenda of queues
+-- queues on whose agenda the event in the slot waits too, if it was raised
 abbrev pub with_slot : Bool → Least → Queues → Queues
 with_slot b l q = record q { agenda = with_next b l.key l.event q.agenda }
 

@@ -2,8 +2,8 @@
 
 ghost use Rattle.fb_laws.specs.ResourceLaw.{HasSimulation, HasRisingKeys, OfEach};
 
-/// Accepted inputs have a simulation, to each horizon and with each limit on steps. `fb_types::laws::one_simulation` says
-/// that it is the only one.
+/// Accepted inputs have a simulation, to each horizon and with each limit on steps. `fb_types::laws::one_simulation`
+/// says that it is the only one.
 ///
 /// This function does nothing when it runs, and no program calls it: it is there for its contract.
 pub fn simulation_exists()

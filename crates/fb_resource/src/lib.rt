@@ -6,10 +6,10 @@
 //! opening on the agendas (`IsOpened`). A `Resource` runs by itself below a tick, takes messages in between, and answers
 //! when its next event is. What it does is what the resource of the definitions does, so the laws here hold of it.
 //!
-//! Read in this order: `tick_counts`, what is counted in a tick; `queues`, where events come from and go to; `one_taking`,
-//! the taking; `posting`, what a taking puts out; `opening`, the agendas before the first event. Then `laws` and
-//! `determined`, what holds of the definitions; `resource`, what a resource holds, with `open`, how it begins, `run`, its
-//! run below a tick, and `receive`, how it gets messages.
+//! Read in this order: `tick_counts`, what is counted in a tick; `queues`, where events come from and go to; `taken` and
+//! `one_taking`, the taking; `posting`, what a taking puts out; `next`, the event that is taken next; `opening`, the
+//! agendas before the first event. Then `laws` and `determined`, what holds of the definitions; `resource`, what a
+//! resource holds, with `open`, how it begins, `run`, its run below a tick, and `receive`, how it gets messages.
 #![tactic(auto)]
 
 pub mod determined;

@@ -27,8 +27,8 @@ pub fn put_next(agenda: &mut Agenda, raised: bool, least: &mut Least) -> Result<
     }
 }
 
-/// Whether an event of this key, whose tick is below the horizon, would be taken before all that wait. It is known where no
-/// event waits at its tick and resource, nor before.
+/// Whether an event of this key, whose tick is below the horizon, would be taken before all that wait. It is known
+/// where no event waits at its tick and resource, nor before.
 #[inline(always)]
 fn is_next(agenda: &mut Agenda, horizon: u64, key: &Key) -> bool
     ensures below { OnTrue result (key.now.tick < horizon) }
@@ -41,9 +41,9 @@ fn is_next(agenda: &mut Agenda, horizon: u64, key: &Key) -> bool
     agenda.is_clear(key.tick, key.resource)
 }
 
-/// Takes the event with the least key, if its tick is below the horizon (in milliseconds), and moves it into the slot. Returns
-/// whether it did. The event in the slot is one of those that wait, if it was raised. Mostly it is the least: then it
-/// stays in the slot, and never goes onto the agenda.
+/// Takes the event with the least key, if its tick is below the horizon (in milliseconds), and moves it into the slot.
+/// Returns whether it did. The event in the slot is one of those that wait, if it was raised. Mostly it is the least:
+/// then it stays in the slot, and never goes onto the agenda.
 ///
 /// # Errors
 /// When memory runs out.

@@ -12,7 +12,7 @@ ghost use Rattle.fb_resource.specs.Counts.{IsMetered, meter_of};
 ghost use Rattle.fb_resource.specs.Posts.{CountsAre};
 ghost use Rattle.fb_resource.specs.Takings.{AreReady, IsHere, IsRaised, IsTakenHere, MaySettle, MayTake, Settles, with_slot};
 
-use crate::posting::{Posting, count_lone, lone_of};
+use crate::posting::{Posting, count_lone, is_still, lone_link_of, lone_of, post_lone};
 use crate::queues::Queues;
 use crate::taken::Taken;
 use crate::tick_counts::TickCounts;
@@ -23,25 +23,23 @@ use fb_system::System;
 use fb_types::{Halt, Reason};
 use std::alloc::AllocError;
 
-/// Takes the event in the slot in the tree of its resource, which has this many steps left after that of the event. `Some` is
-/// the reason for which the resource stops.
+/// Takes the event in the slot in the tree of its resource. The meter has the steps that are left after that of the
+/// event. `Some` is the reason for which the resource stops.
 #[inline(always)]
 fn take_in(
     tree: &mut Tree,
-    left: &mut u64,
+    meter: &mut Meter,
     outbox: &mut Outbox,
     system: &System,
     least: &Least,
 ) -> Result<Option<Reason>, AllocError>
     requires { MayTake system.now least.now tree.old outbox.old }
-    ensures came { IfOk result (λ stop. CameAlone system.now least.now.key least.now.event tree.old outbox.old left.old stop tree.new left.new outbox.new) }
+    ensures came { IfOk result (λ stop. CameAlone system.now least.now.key least.now.event tree.old outbox.old meter.old.left stop tree.new meter.new.left outbox.new) }
     ensures outs { OnOk result (AreOuts system.now tree.new.resource outbox.new) }
-    ensures fewer { left.new ≤ left.old }
+    ensures fewer { meter.new.left ≤ meter.old.left }
     ensures resource { tree.new.resource ≡ tree.old.resource }
 {
-    let mut steps = Meter { left: *left };
-    let taken = tree.take_waiting(system, &least.event, &least.key, &mut steps, outbox);
-    *left = steps.left;
+    let taken = tree.take_waiting(system, &least.event, &least.key, meter, outbox);
     match taken {
         Ok(()) => Ok(None),
         Err(Halt::Stop(reason)) => Ok(Some(reason)),
@@ -49,13 +47,13 @@ fn take_in(
     }
 }
 
-/// Sets the timer and posts what was put out, as the taking of the event in the slot asks. It is apart because a function
-/// clears its locals where it begins, and after most events no `Posting` is made.
+/// Sets the timer and posts what was put out, as the taking of the event in the slot asks, whatever that is. A function
+/// of its own, because a `Posting` lies in memory, and after most events none is made.
 ///
 /// # Errors
 /// When memory runs out, or a link has carried 2^128 messages.
-#[inline(always)]
-fn settle(
+#[inline(never)]
+fn settle_all(
     queues: &mut Queues,
     locals: &mut u128,
     system: &System,
@@ -77,9 +75,45 @@ fn settle(
     posting.settle(&mut queues.outbox, &least.event)
 }
 
-/// Takes the event in the slot, which has left the agenda, at most `limit` steps in each tick of its resource. What was put
-/// out before a stop is kept, and posted, except one local event alone: that one moves into the slot. Messages are put after
-/// the mail, and lines after those in the outbox.
+/// The same as `settle_all`. Mostly the resource goes on, nothing was put out or one message, and nothing is asked of the
+/// timer: then nothing is called.
+///
+/// # Errors
+/// As `settle_all`.
+#[inline(always)]
+fn settle(
+    queues: &mut Queues,
+    locals: &mut u128,
+    system: &System,
+    least: &Least,
+    stops: bool,
+) -> Result<(), AllocError>
+    requires may { MaySettle system.now least.now queues.old }
+    requires room { locals.old < 2 ^ 100 }
+    ensures { OnOk result (Settles system.now least.now locals.old queues.old locals.new queues.new) }
+{
+    if stops {
+        return settle_all(queues, locals, system, least);
+    }
+    if is_still(&queues.outbox) {
+        return Ok(());
+    }
+    let Some(link) = lone_link_of(&queues.outbox) else {
+        return settle_all(queues, locals, system, least);
+    };
+    post_lone(
+        &mut queues.outbox.outs,
+        &mut queues.mail,
+        &mut queues.sent,
+        system,
+        &least.key,
+        link,
+    )
+}
+
+/// Takes the event in the slot, which has left the agenda, at most `limit` steps in each tick of its resource. What was
+/// put out is posted, also before a stop, except one local event alone: where the resource goes on, that one moves into
+/// the slot. Messages are put after the mail, and lines after those in the outbox.
 ///
 /// The counts may also be those of a meter that is older than the tick: then the resource counts afresh.
 ///
@@ -111,7 +145,7 @@ pub fn take(
     ensures later { OnOk result (All (λ m. least.old.key.tick < m.arrives) queues.old.mail.items → All (λ m. least.old.key.tick < m.arrives) queues.new.mail.items) }
     ensures counts { OnOk result (IsMetered limit counts.new) }
     ensures tick { OnOk result (unwrap_or counts.new.tick 0 ≤ max (unwrap_or counts.old.tick 0) least.old.key.tick) }
-    ensures spent { IfOk result (λ t. t.stop ≡ None → (counts.new.tick ≡ Some least.old.key.tick) × (suc counts.new.left ≤ (begun limit least.old.key.tick (meter_of counts.old)).left)) }
+    ensures spent { IfOk result (λ t. t.stop ≡ None → (counts.new.tick ≡ Some least.old.key.tick) × (suc counts.new.meter.left ≤ (begun limit least.old.key.tick (meter_of counts.old)).left)) }
     ensures tree { tree.new.resource ≡ tree.old.resource }
     ensures raised { IfOk result (λ t. OnTrue t.raised (IsRaised least.new.key least.new.event)) }
     ensures alone { IfOk result (λ t. OnTrue t.raised ((queues.new.agenda ≡ queues.old.agenda) × (queues.new.mail ≡ queues.old.mail))) }
@@ -123,15 +157,16 @@ pub fn take(
             raised: false,
         });
     }
-    let stop = take_in(tree, &mut counts.left, &mut queues.outbox, system, least)?;
+    let stop = take_in(tree, &mut counts.meter, &mut queues.outbox, system, least)?;
     system.facts();
-    // A reaction that stops posts what it had put out before. Mostly that is one local event.
-    if let Some(target) = lone_of(&queues.outbox) {
+    // A reaction that stops posts what it had put out before.
+    let stops = stop.is_some();
+    if let Some(target) = lone_of(&queues.outbox, stops) {
         least.follow(counts.locals, target);
         count_lone(&mut counts.locals, &mut queues.outbox);
         return Ok(Taken { stop, raised: true });
     }
-    settle(queues, &mut counts.locals, system, least)?;
+    settle(queues, &mut counts.locals, system, least, stops)?;
     Ok(Taken {
         stop,
         raised: false,

@@ -1,6 +1,7 @@
 //! Posting what taking an event puts out: the timer, local events onto the agenda, messages after the mail.
 
-ghost use Rattle.std.specs.Prelude.{◌≡◌, ◌+◌, ◌<◌, ◌≤◌, ◌^◌, ◌++◌, ◌∷◌, ℕ, [], length, All, IfSome, OnOk, slice_index, slice_set};
+ghost use Rattle.std.specs.Prelude.{◌≡◌, ◌+◌, ◌<◌, ◌≤◌, ◌^◌, ◌++◌, ◌∷◌, ℕ, [], length, All, IfOk, IfSome, OnOk, slice_index, slice_set};
+ghost use Rattle.std.specs.Bool.{OnTrue};
 ghost use Rattle.fb_types.specs.Keys.{local_key};
 ghost use Rattle.fb_types.specs.States.{path_of};
 ghost use Rattle.fb_types.specs.declared.run.Event.TheVariants.{Local};
@@ -9,7 +10,8 @@ ghost use Rattle.fb_types.specs.OfSystem.{IsInstance, IsResource, link_count, pa
 ghost use Rattle.fb_system.specs.OfSystem.{arrival_over, number_at};
 ghost use Rattle.fb_net.specs.Events.{IsEventIn, IsNumbered, event_of};
 ghost use Rattle.fb_net.specs.declared.outbox.Out.TheVariants as put_out;
-ghost use Rattle.fb_resource.specs.Posts.{IsPut};
+ghost use Rattle.fb_net.specs.declared.outbox.OutgoingMessage.{OutgoingMessage};
+ghost use Rattle.fb_resource.specs.Posts.{IsOneMessage, IsPut};
 ghost use Rattle.fb_resource.specs.Takings.{IsEmptied, IsLater};
 ghost use Rattle.fb_resource.specs.OfSystem.{message_of};
 
@@ -39,6 +41,21 @@ fn post_local(
     Ok(())
 }
 
+/// The number of the next message of a link, which is counted.
+///
+/// # Errors
+/// When the link has carried 2^128 messages.
+#[inline(always)]
+fn count_message(sent: &mut Vec<u128>, link: u32) -> Result<u128, AllocError>
+    requires { link < length sent.old.items }
+    ensures number { IfOk result (λ number. number ≡ slice_index sent.old.items link) }
+    ensures counted { OnOk result (sent.new.items ≡ slice_set sent.old.items link (slice_index sent.old.items link + 1)) }
+{
+    let number = sent[link as usize];
+    sent[link as usize] = number.checked_add(1).ok_or(AllocError)?;
+    Ok(number)
+}
+
 /// Puts a message after the mail, with the tick of its arrival and its number on the link.
 ///
 /// # Errors
@@ -58,10 +75,8 @@ fn post_message(
     ensures counted { OnOk result (sent.new.items ≡ slice_set sent.old.items sending.link (slice_index sent.old.items sending.link + 1)) }
     ensures later { OnOk result (key.now.tick < arrival_over system.now sending.link key.now.tick) }
 {
-    let number = sent[sending.link as usize];
-    let next = number.checked_add(1).ok_or(AllocError)?;
+    let number = count_message(sent, sending.link)?;
     let arrives = arrival(system, sending.link, key.tick);
-    sent[sending.link as usize] = next;
     mail.reserve(1)?;
     mail.push_reserved(Message {
         number,
@@ -109,20 +124,115 @@ fn lone_target(outs: &[Out]) -> Option<&Target>
     }
 }
 
-/// The target of the local event that was put out, if nothing else was and nothing is asked of the timer, as mostly.
+/// The target of the local event that was put out, if nothing else was, nothing is asked of the timer and the resource
+/// goes on, as mostly.
 #[inline(always)]
-pub(crate) fn lone_of(outbox: &Outbox) -> Option<&Target>
+pub(crate) fn lone_of(outbox: &Outbox, stops: bool) -> Option<&Target>
     ensures alone { IfSome result (λ target. outbox.now.outs.items ≡ put_out.Local target.now ∷ []) }
     ensures keeps { IfSome result (λ target. outbox.now.timer ≡ Keep) }
 {
+    if stops {
+        return None;
+    }
     match outbox.timer {
         TimerAsk::Keep => lone_target(outbox.outs.as_slice()),
         _ => None,
     }
 }
 
-/// Counts the local event that was put out, where nothing else was and nothing is asked of the timer. It has moved to where
-/// it goes.
+/// Whether nothing was put out, and nothing is asked of the timer.
+#[inline(always)]
+pub(crate) fn is_still(outbox: &Outbox) -> bool
+    ensures none { OnTrue result (outbox.now.outs.items ≡ []) }
+    ensures keeps { OnTrue result (outbox.now.timer ≡ Keep) }
+{
+    match outbox.timer {
+        TimerAsk::Keep => outbox.outs.is_empty(),
+        _ => false,
+    }
+}
+
+/// The link of an event that was put out, if it goes to another resource.
+#[inline(always)]
+fn link_of(out: &Out) -> Option<u32>
+    ensures { IfSome result (λ link. IsOneMessage link (out.now ∷ [])) }
+{
+    match out {
+        Out::Local(_) => None,
+        Out::Send(sending) => Some(sending.link),
+    }
+}
+
+/// The link of the message that was put out, if nothing else was.
+#[inline(always)]
+fn lone_link(outs: &[Out]) -> Option<u32>
+    ensures { IfSome result (λ link. IsOneMessage link outs.now) }
+{
+    match outs {
+        [only] => link_of(only),
+        _ => None,
+    }
+}
+
+/// The link of the message that was put out, if nothing else was and nothing is asked of the timer.
+#[inline(always)]
+pub(crate) fn lone_link_of(outbox: &Outbox) -> Option<u32>
+    ensures alone { IfSome result (λ link. IsOneMessage link outbox.now.outs.items) }
+    ensures keeps { IfSome result (λ link. outbox.now.timer ≡ Keep) }
+{
+    match outbox.timer {
+        TimerAsk::Keep => lone_link(outbox.outs.as_slice()),
+        _ => None,
+    }
+}
+
+/// Posts the message that was put out, where nothing else was. All else is known before the message leaves the list: so
+/// it moves once, straight to its place.
+///
+/// # Errors
+/// When memory runs out, or a link has carried 2^128 messages.
+#[inline(always)]
+pub(crate) fn post_lone(
+    outs: &mut Vec<Out>,
+    mail: &mut Vec<Message>,
+    sent: &mut Vec<u128>,
+    system: &System,
+    key: &Key,
+    link: u32,
+) -> Result<(), AllocError>
+    requires alone { IsOneMessage link outs.old.items }
+    requires link { link < link_count system.now }
+    requires counted { length sent.old.items ≡ link_count system.now }
+    requires early { key.now.tick ≤ 10 ^ 12 }
+    ensures put { OnOk result ((s : OutgoingMessage) → outs.old.items ≡ put_out.Send s ∷ []
+        → mail.new.items ≡ mail.old.items ++ message_of system.now key.now s (slice_index sent.old.items link) ∷ []) }
+    ensures counted { OnOk result (sent.new.items ≡ slice_set sent.old.items link (slice_index sent.old.items link + 1)) }
+    ensures later { OnOk result (key.now.tick < arrival_over system.now link key.now.tick) }
+    ensures none { OnOk result (outs.new.items ≡ []) }
+{
+    let number = count_message(sent, link)?;
+    let arrives = arrival(system, link, key.tick);
+    mail.reserve(1)?;
+    let Some(only) = outs.pop() else {
+        return Ok(());
+    };
+    match only {
+        Out::Send(sending) => {
+            mail.push_reserved(Message {
+                number,
+                arrives,
+                link,
+                target: sending.target,
+                values: sending.values,
+            });
+            Ok(())
+        }
+        Out::Local(_) => Ok(()),
+    }
+}
+
+/// Counts the local event that was put out, where nothing else was and nothing is asked of the timer. It has moved to
+/// where it goes.
 #[inline(always)]
 pub(crate) fn count_lone(locals: &mut u128, outbox: &mut Outbox)
     requires alone { length outbox.old.outs.items ≡ 1 }
@@ -179,10 +289,11 @@ impl Posting<'_> {
         }
     }
 
-    /// Posts events that were put out, in their order. The room that they took is kept.
+    /// The same as `post_all`, for any number of events.
     ///
     /// # Errors
     /// As `post_one`.
+    #[inline(never)]
     fn post_others(&mut self, outs: &mut Vec<Out>) -> Result<(), AllocError>
         requires may { MayPost self.old }
         requires outs { All (MayPut self.old) outs.old.items }
@@ -215,12 +326,14 @@ impl Posting<'_> {
         ensures none { OnOk result (outs.new.items ≡ []) }
         ensures same { IsSame self.old self.new }
     {
-        let Some(last) = outs.pop() else {
+        // Mostly it is one message. No call follows while it is on its way.
+        if outs.len() > 1 {
+            return self.post_others(outs);
+        }
+        let Some(only) = outs.pop() else {
             return Ok(());
         };
-        // Mostly it is one message, and there is nothing to walk over before it.
-        self.post_others(outs)?;
-        self.post_one(last)
+        self.post_one(only)
     }
 
     /// Sets the timer of the instance at which an event came, as its reaction asks.
@@ -243,11 +356,11 @@ impl Posting<'_> {
         }
     }
 
-    /// .. whatever it asks.
+    /// The same as `set_timer`, whatever the reaction asks.
     ///
     /// # Errors
     /// When memory runs out.
-    #[inline(never)]
+    #[inline(always)]
     fn change_timer(&mut self, ask: &TimerAsk, event: &Event) -> Result<(), AllocError>
         requires may { MayPost self.old }
         requires event { IsEventIn self.old.system.now self.old.key.now.resource event.now }

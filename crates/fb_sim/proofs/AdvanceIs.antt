@@ -1,5 +1,5 @@
 -- What advancing a simulation has written, and what it answers.
-use Rattle.std.proofs.Common.{◌≡◌, ℕ, ◌<◌, List, ◌++◌, Option, Result, Ok, Err, inl, refl, sym, ap, ◌∙◌, subst, arith, append_assoc, append-nil}
+use Rattle.std.proofs.Common.{◌≡◌, ℕ, ◌<◌, List, ◌++◌, Option, Result, Ok, Err, refl, sym, ap, ◌∙◌, subst, arith, append_assoc, append-nil}
 use Rattle.std.specs.Result.{IsErrAnd}
 use Rattle.std.specs.Io.KnownBytes.{Appends}
 use Rattle.std.proofs.KnownBytes.{Appends-trans}
@@ -163,10 +163,6 @@ fails_on v s same failed to old new e h r is =
 
 pub goes_on : (v s t : Session) → v ≡ s → (to : ℕ) (old new : Option (List ℕ)) (o : Outcome) (w : Written) → RunsTo (record v { stage = going.Running }) t to old new (Ok (o, w)) → RunsTo (record s { stage = going.Running }) t to old new (Ok (o, w))
 goes_on v s t same to old new o w h = subst (λ (x : Session). RunsTo (record x { stage = going.Running }) t to old new (Ok (o, w))) same h
-
--- what running on to a later tick says of advancing
-pub goes_so : (s t : Session) (to : ℕ) (old new : Option (List ℕ)) (o : Outcome) (w : Written) → RunsTo s t to old new (Ok (o, w)) → AdvancesOn s t to old new (Ok o)
-goes_so s t to old new o w h = inl h.0
 
 -- the error of the last line
 pub unfinished : (v s : Session) → v ≡ s → v.stage ≡ going.Running → (old new : Option (List ℕ)) (e : RunError) → IsShort old new (last_line (system_of v.inputs) (AtHorizon v.to)) 0 e

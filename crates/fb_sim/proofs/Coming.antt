@@ -5,7 +5,6 @@ use Rattle.std.specs.Io.KnownBytes.{Appends}
 use Rattle.std.proofs.KnownBytes.{Appends-nil, Appends-trans}
 use Rattle.fb_types.specs.Headline.{Inputs, IsTrace, system_of, stimuli_of}
 use Rattle.fb_types.specs.Simulation.{Taken, IsSimulation, Ending, AtHorizon, AtStop, ending_of, lines_of}
-use Rattle.fb_types.specs.States.{Line}
 use Rattle.fb_types.specs.Text.{lines_text, last_line}
 use Rattle.fb_types.specs.declared.value.Reason.{Reason}
 use Rattle.fb_types.specs.declared.run.StopMark.{StopMark}
@@ -28,9 +27,6 @@ use Rattle.fb_sim.specs.declared.with_progress.ReportTally.{ReportTally}
 use Rattle.fb_sim.proofs.Simulations.{horizon_is, later_begins, stop_is_early, stopped_later, stops}
 
 module _ (i : Inputs) (o : Options) where
-  text_of : List Line → List ℕ
-  text_of ls = lines_text o.form (system_of i) ls
-
   abbrev pub come_first : HasCome i o 0 []
   come_first = record {
     takings = [];

@@ -21,7 +21,7 @@ use Rattle.fb_sim.specs.declared.one_agenda.machine.Machine.{Machine}
 
 -- a meter of a resource that took nothing yet
 abbrev fresh : TickCounts
-fresh = record { tick = None; left = 0; locals = 0 }
+fresh = record { tick = None; meter = record { left = 0 }; locals = 0 }
 
 pub at_opened : (i : Inputs) (m : Machine) (n : ℕ) → AreAccepted i → AreOpened i n m.trees.items → m.meters.items ≡ replicate n fresh
     → CountsAre m.queues.sent.items (opening_state (system_of i)).sent → IsOpened i None m.queues.agenda

@@ -116,9 +116,6 @@ module _ (i : Inputs) (good : AreGood i) (limit horizon : ℕ) (es : List (CoreS
   clock_same : (r : ℕ) → (d r).clock ≡ (e r).clock
   clock_same r = ap (λ (z : Core M). (z r).clock) round.comes_to
 
-  stop_same : (r : ℕ) → (d r).state.stop ≡ (e r).state.stop
-  stop_same r = ap (λ (z : Core M). (z r).state.stop) round.comes_to
-
   rest : (r : ℕ) → turns r ≡ None → e r ≡ c r
   rest r none = ap (λ o. turned M (c r) o) none
 

@@ -12,4 +12,4 @@ pub record IsSpent (limit : ℕ) (k : Key) (old new : List TickCounts) : Type 0 
   pub after : TickCounts
   pub now : new ≡ slice_set old k.resource after
   pub tick : after.tick ≡ Some k.tick
-  pub left : suc after.left ≤ (begun limit k.tick (meter_of before)).left
+  pub left : suc after.meter.left ≤ (begun limit k.tick (meter_of before)).left

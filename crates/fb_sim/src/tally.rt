@@ -93,7 +93,7 @@ pub(crate) struct RoundPlan {
 
 impl Tally {
     /// Whether its window had little to do.
-    fn is_thin(&self) -> bool {
+    fn is_light(&self) -> bool {
         self.busy < 2 || self.lines < MANY_LINES
     }
 
@@ -104,14 +104,14 @@ impl Tally {
         ensures some { 1 ≤ result }
         ensures few { result ≤ 64 }
     {
-        if self.is_thin() { 1 } else { most }
+        if self.is_light() { 1 } else { most }
     }
 
     /// How many turns of single resources go before the window of the next round, at most.
     pub(crate) fn turns(&self) -> u64
         ensures few { result ≤ 256 }
     {
-        if self.is_thin() { TURNS } else { 0 }
+        if self.is_light() { TURNS } else { 0 }
     }
 
     /// How many bytes the next round will mostly write at most.

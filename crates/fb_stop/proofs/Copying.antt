@@ -1,6 +1,5 @@
 -- Lists of copies.
-use Rattle.std.proofs.Common.{◌≡◌, ℕ, zero, suc, ◌+◌, Bool, true, false, cond, List, [], ◌∷◌, ◌++◌, length, length-append, take, Option, Some, refl, sym, ap, subst, ◌∙◌, arith}
-use Rattle.std.specs.List.{filter}
+use Rattle.std.proofs.Common.{◌≡◌, ℕ, ◌+◌, List, [], ◌∷◌, ◌++◌, length, length-append, Option, Some, refl, sym, ap, subst, ◌∙◌}
 use Rattle.std.specs.Prelude.{slice_get, slice_set}
 use Rattle.fb_types.specs.Blocks.{Basic}
 use Rattle.fb_types.specs.Headline.{Inputs, system_of}
@@ -57,20 +56,3 @@ module _ (i : Inputs) (t : Target) (left : ℕ) (line : Line) (copies : List (Op
   is_followed place steps lines port is first =
       subst (λ (z : EventSite). IsFollowed i z steps lines copies (slice_set copies t.instance after)) (sym port)
       (subst (λ (z : Option ℕ). IsFollowed i (AtPort t) z lines copies (slice_set copies t.instance after)) (sym is) (followed_in lines first))
-
--- ---- How many of the first elements pass a test
-
-pub count_more : {A : Type 0} (p : A → Bool) (xs : List A) (k : ℕ) (x : A) → slice_get xs k ≡ Some x
-    → length (filter p (take (suc k) xs)) ≡ length (filter p (take k xs)) + cond (p x) 1 0
-count_more p [] k x at = absurd (cc)
-count_more p (y ∷ xs) zero x at = let e : y ≡ x = cc in ap (λ z. length (filter p (z ∷ []))) e ∙ go (p x)
-  where
-    go : (b : Bool) → length (cond b (x ∷ []) []) ≡ 0 + cond b 1 0
-    go true = refl
-    go false = refl
-count_more p (y ∷ xs) (suc k) x at = go (p y) (count_more p xs k x at)
-  where
-    go : (b : Bool) → length (filter p (take (suc k) xs)) ≡ length (filter p (take k xs)) + cond (p x) 1 0
-        → length (cond b (y ∷ filter p (take (suc k) xs)) (filter p (take (suc k) xs))) ≡ length (cond b (y ∷ filter p (take k xs)) (filter p (take k xs))) + cond (p x) 1 0
-    go true rest = omega (arith, rest)
-    go false rest = rest

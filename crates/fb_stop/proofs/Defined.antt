@@ -40,9 +40,6 @@ pub in_either : (b : Bool) (R R' : Running) (S S' : bodies.Running) → Plain R 
 in_either true R R' S S' h h' p e q run = h p e q run
 in_either false R R' S S' h h' p e q run = h' p e q run
 
-pub in_ends : (how : End) (f : Point → Point) → Plain (λ p e q. Ends (f p) how e q) (λ p e q. bodies.Ends (f p) (plain how) e q)
-in_ends how f p e q run = (ap plain run.0, run.1)
-
 pub in_assigns : (T : Types) (n : ℕ) (v : Name) (x : Value) → Plain (Assigns T n v x) (bodies.Assigns T v x)
 in_assigns T n v x =
     in_with n (bodies.assigned (T v) x) (λ w p e q. Ends (record p { vars = with_value v w p.vars }) Went e q) (λ w p e q. bodies.Ends (record p { vars = with_value v w p.vars }) bodies.Went e q)

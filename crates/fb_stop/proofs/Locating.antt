@@ -1,5 +1,5 @@
 -- The site at which the reaction of a copy stops.
-use Rattle.std.proofs.Common.{◌≡◌, ℕ, ◌<◌, List, ◌∷◌, length, Option, Some, None, sym, ap, subst, ◌∙◌}
+use Rattle.std.proofs.Common.{◌≡◌, ℕ, ◌<◌, List, length, Option, Some, None, sym, ap, subst, ◌∙◌}
 use Rattle.std.specs.Prelude.{slice_get}
 use Rattle.std.proofs.lemmas.Option.{same_Some, slice_get_within}
 use Rattle.fb_types.specs.Blocks.{Basic}
@@ -9,7 +9,7 @@ use Rattle.fb_types.specs.declared.library.BasicType.{BasicType}
 use Rattle.fb_types.specs.declared.run.Line.{Line}
 use Rattle.fb_types.specs.declared.run.Target.{Target}
 use Rattle.fb_ecc.specs.declared.state.BasicState.{BasicState}
-use Rattle.fb_stop.specs.Copies.{HasLocated, IsLocated, IsWhole, Stopping}
+use Rattle.fb_stop.specs.Copies.{HasLocated, IsLocated, Stopping}
 use Rattle.fb_stop.specs.declared.found.EventSite.{EventSite}
 use Rattle.fb_stop.specs.declared.found.EventSite.TheVariants.{Port as AtPort}
 use Rattle.fb_stop.specs.declared.site.ReactionStop.{ReactionStop}
@@ -17,9 +17,6 @@ use Rattle.fb_stop.proofs.Copying.{first_of}
 
 same_port : (t u : Target) → AtPort t ≡ AtPort u → t ≡ u
 same_port t u e = cc
-
-same_line : (xs ys : List Line) (x y : Line) → x ∷ xs ≡ y ∷ ys → x ≡ y
-same_line xs ys x y e = cc
 
 module _ (i : Inputs) (at : EventSite) (left : ℕ) (lines : List Line) (copies : List (Option BasicState)) (h : Stopping i at left lines copies) (t : Target) (port : at ≡ AtPort t) where
   target_is : h.target ≡ t
@@ -31,33 +28,16 @@ module _ (i : Inputs) (at : EventSite) (left : ℕ) (lines : List Line) (copies 
   copy_is : slice_get copies t.instance ≡ Some h.here.copy
   copy_is = subst (λ (u : Target). slice_get copies u.instance ≡ Some h.here.copy) target_is h.here.at
 
-  pub is_basic : ((b : BasicType) → ¬ ((system_of i).kind (path_at (system_of i) t.instance) ≡ Some (Basic b))) → ⊥
-  is_basic none = none h.block kind_is
-
-  pub instance_within : t.instance < length (system_of i).paths
-  instance_within = subst (λ (u : Target). u.instance < length (system_of i).paths) target_is h.instance
-
   pub copy_within : t.instance < length copies
   copy_within = slice_get_within copies t.instance h.here.copy copy_is
-
-  pub has_line : slice_get lines 0 ≡ None → ⊥
-  has_line none = let e : None ≡ Some h.line = sym none ∙ ap (λ (l : List Line). slice_get l 0) h.lines_are in cc
 
   module _ (block : BasicType) (kind : (system_of i).kind (path_at (system_of i) t.instance) ≡ Some (Basic block)) where
     block_is : h.block ≡ block
     block_is = let e : Some (Basic h.block) ≡ Some (Basic block) = sym kind_is ∙ kind in cc
 
-    pub event_within : t.event < length block.ports.event_inputs
-    event_within =
-        subst (λ (b : BasicType). t.event < length b.ports.event_inputs) block_is
-        (subst (λ (u : Target). u.event < length h.block.ports.event_inputs) target_is h.event)
-
     module _ (copy : Option BasicState) (there : slice_get copies t.instance ≡ Some copy) where
       same_copy : h.here.copy ≡ copy
       same_copy = same_Some h.here.copy copy (sym copy_is ∙ there)
-
-      pub copy_whole : IsWhole block copy
-      copy_whole = subst (λ (b : BasicType). IsWhole b copy) block_is (subst (λ (c : Option BasicState). IsWhole h.block c) same_copy h.whole)
 
       module _ (line : Line) (first : slice_get lines 0 ≡ Some line) where
         line_is : h.line ≡ line

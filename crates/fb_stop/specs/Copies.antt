@@ -43,7 +43,7 @@ pub record AreCopies (i : Inputs) (count : ℕ) (s : State) (copies : List (Opti
   pub counted : length copies ≡ count
   pub each : (k : ℕ) (copy : Option BasicState) → slice_get copies k ≡ Some copy → IsCopy i k (s.blocks (path_at (system_of i) k)) copy
 
--- .. of all instances
+-- The copies are those of all instances.
 abbrev pub AreAllCopies : Inputs → State → List (Option BasicState) → Type 0
 AreAllCopies i s copies = AreCopies i (length (system_of i).paths) s copies
 

@@ -23,7 +23,7 @@ abbrev mutual
   after (While c body) n = after_all body (next n)
   after (Repeat body c) n = after_all body (next n)
 
-  -- .. statements, of which the first has it
+  -- the number after statements, of which the first has this number
   pub after_all : Stmts → ℕ → ℕ
   after_all no_stmt n = n
   after_all (then_stmts s rest) n = after_all rest (after s n)

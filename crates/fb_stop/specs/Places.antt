@@ -44,7 +44,7 @@ part_from index n Beginning = part.Statement index n
 part_from index n (Elsif k) = part.Clause index n k
 part_from index n Until = part.Clause index n 1
 
--- .. the statement if no operation is said
+-- the part at an operation, or at the statement if no operation is given
 abbrev pub part_with : (index statement : ℕ) → Option Placed → BasicPart
 part_with index n None = part.Statement index n
 part_with index n (Some x) = part_from index n x.anchor
@@ -66,7 +66,7 @@ pub record IsAlgorithmPart (t : BasicType) (n : Name) (inside : Option Inside) (
   pub there : IsAlgorithmAt t n index
   pub is : IsShown inside index x
 
--- .. of the action at an index of a state, or its event, if it has no algorithm
+-- The part is in the algorithm of the action at an index of a state, or is its event, if it has no algorithm.
 abbrev pub IsPartOf : BasicType → (state index : ℕ) → Option Inside → Option Name → BasicPart → Type 0
 IsPartOf t s j inside None x = x ≡ part.OutputAlone s j
 IsPartOf t s j inside (Some n) x = IsAlgorithmPart t n inside x

@@ -33,7 +33,7 @@ pub record IsShownAmong (text : Text) (tokens : List Located) (begin : ℕ) (ope
   pub last_start : ℕ
   pub last : IsNext (drop (begin + (operation.end - 1)) tokens) text last_start x.end
 
--- .. from the token at the position
+-- The tokens are those of the operation, from the token at the position.
 pub record IsShownIn (text : Text) (library : Library) (position : Position) (operation : Operation) (x : Shown) : Type 0 where
   pub span : Span
   pub at : IsAt text library position span

@@ -67,7 +67,7 @@ pub record StopsInStatements (types : Types) (body : Body) (vars : Values) (left
 abbrev pub AreOtherwise : Types → Body → Values → (left : ℕ) → Reason → Type 0
 AreOtherwise types body vars left r = (rest : ℕ) (q : Point) → left ≡ suc rest → RunsBody types (body_of body) (record { vars = vars; left = rest }) (bodies.Stopped r) q → ⊥
 
--- .. of the algorithm of the action
+-- The reason stops the algorithm of the action.
 pub record StopsInBody (t : BasicType) (a : Action) (vars : Values) (left : ℕ) (r : Reason) (x : Inside) : Type 0 where
   pub algorithm : Name
   pub named : a.algorithm ≡ Some algorithm

@@ -31,11 +31,11 @@ pub record Charges (instance used : ℕ) (old new : List ℕ) : Type 0 where
   pub was : slice_get old instance ≡ Some before
   pub is : new ≡ slice_set old instance (min (before + used) (2 ^ 64 - 1))
 
--- .. to those of the instance at which an event arrives
+-- Steps are charged to the instance at which an event arrives.
 abbrev pub ChargesEvent : System → Event → (used : ℕ) → (old new : List ℕ) → Type 0
 ChargesEvent sys e used old new = (at : EventSite) × ArrivesAt sys e at × Charges (instance_of at) used old new
 
--- .. if the event is one of the tick and the resource
+-- Steps are charged if the event is one of the tick and the resource.
 abbrev pub ChargesIf : Bool → System → Event → (used : ℕ) → (old new : List ℕ) → Type 0
 ChargesIf true sys e used old new = ChargesEvent sys e used old new
 ChargesIf false sys e used old new = new ≡ old

@@ -41,7 +41,7 @@ pub record HasOwn (vars : Values) (r : Reason) (s : read.Stmt) (x : Placed) : Ty
   pub is : IsExpression s x.anchor first expression
   pub fault : FaultIn vars r expression first x.operation
 
--- .. in a condition of IF, and in a bound of FOR
+-- The fault is in a condition of IF, or in a bound of FOR.
 pub record IsOfChoices (vars : Values) (r : Reason) (cs : List Choice) (x : Placed) : Type 0 where
   pub index : ℕ
   pub choice : Choice
@@ -109,7 +109,7 @@ pub record IsInBranches (vars : Values) (r : Reason) (bs : List Branch) (others 
 abbrev pub IsOwnOtherwise : Values → Reason → read.Stmt → Type 0
 IsOwnOtherwise vars r s = (a : Anchor) (n : ℕ) (e : Expr) → IsExpression s a n e → IsOtherwise vars r e
 
--- .. each condition of IF, and the bounds of FOR
+-- Each condition of IF has a value, or none for another reason; so have the bounds of FOR.
 abbrev pub AreOtherwise : Values → Reason → List Choice → Type 0
 AreOtherwise vars r cs = (k : ℕ) (c : Choice) → slice_get cs k ≡ Some c → IsOtherwise vars r (out-Choice c).condition
 

@@ -9,7 +9,7 @@ abbrev pub past_each : List (ℕ → ℕ) → ℕ → ℕ
 past_each [] n = n
 past_each (a ∷ others) n = past_each others (next (a n))
 
--- .. and after a call without arguments, the parenthesis
+-- the index after the arguments of a call, or after its parenthesis where it has none
 abbrev pub past_call : List (ℕ → ℕ) → ℕ → ℕ
 past_call [] n = next n
 past_call (a ∷ others) n = past_each (a ∷ others) n

@@ -68,7 +68,7 @@ fn steps_left(counts: TickCounts, limit: u64, tick: u64) -> Option<u64>
 {
     let mut counts = counts;
     if counts.step(limit, tick) {
-        Some(counts.left)
+        Some(counts.meter.left)
     } else {
         None
     }

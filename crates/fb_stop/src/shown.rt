@@ -24,9 +24,9 @@ use std::alloc::{AllocError, Global};
 pub struct Shown {
     /// Its operator, or the name of the function.
     pub operator: Span,
-    /// From its first token ..
+    /// The offset of its first token.
     pub start: usize,
-    /// .. to its last one.
+    /// The offset of its last token.
     pub end: usize,
 }
 

@@ -38,7 +38,7 @@ fn left_at(counts: &TickCounts, limit: u64, tick: u64) -> u64
     ensures { result ≡ (begun limit tick (meter_of counts.now)).left }
 {
     match counts.tick {
-        Some(at) => { if at == tick { counts.left } else { limit } }
+        Some(at) => { if at == tick { counts.meter.left } else { limit } }
         None => limit,
     }
 }

@@ -1,6 +1,6 @@
 -- The bounds of a core at the resources that represent it.
-use Rattle.std.proofs.Common.{◌≡◌, ℕ, ◌^◌, ◌<◌, ◌≤◌, min, Option, None, List, length, sym, ap, ◌∙◌, ⊎_elim, arith}
-use Rattle.std.specs.Prelude.{slice_index_or, option_map}
+use Rattle.std.proofs.Common.{◌≡◌, ℕ, ◌^◌, ◌<◌, ◌≤◌, Option, None, List, sym, ap, ◌∙◌, ⊎_elim, arith}
+use Rattle.std.specs.Prelude.{option_map}
 use Rattle.std.proofs.lemmas.Bool.{cases_lt}
 use Rattle.std.proofs.lemmas.Option.{slice_get_within}
 use Rattle.fb_types.specs.Headline.{Inputs, system_of, stimuli_of}
@@ -8,8 +8,7 @@ use Rattle.fb_types.specs.Machines.{Machine}
 use Rattle.fb_types.specs.Parts.{machine, count_of}
 use Rattle.fb_types.specs.Simulation.{opening}
 use Rattle.fb_types.specs.Cores.{Core, CoreStep, opening_core}
-use Rattle.fb_types.specs.Schedules.{IsSchedule, IsLeastStop}
-use Rattle.fb_types.specs.declared.value.Reason.{Reason}
+use Rattle.fb_types.specs.Schedules.{IsSchedule}
 use Rattle.fb_types.proofs.Lookups.{none_some, none_since}
 use Rattle.fb_laws.specs.Sound.{AreGood, IsSound}
 use Rattle.fb_laws.proofs.Accepting.{sound_of}
@@ -20,20 +19,19 @@ use Rattle.fb_laws.proofs.Bridge.{world_of}
 use Rattle.fb_laws.proofs.Opening.{is_opening}
 use Rattle.fb_laws.specs.Worlds.{World}
 use Rattle.fb_window.specs.Bounding.{AreGreatest}
-use Rattle.fb_laws.specs.Finality.{core_of, IsLeastTick}
+use Rattle.fb_laws.specs.Finality.{core_of}
 use Rattle.fb_window.specs.Reached.{KeepHorizon}
 use Rattle.fb_window.specs.Standing.{IsAt}
 use Rattle.fb_window.specs.Jobs.{MayLeave}
 use Rattle.fb_laws.specs.Phases.{Turn, IsPhase}
 use Rattle.fb_window.specs.Leaving.{AreLegal}
-use Rattle.fb_window.specs.Settling.{AreTurns, HasRisen, after_phase}
+use Rattle.fb_window.specs.Settling.{AreTurns}
 use Rattle.fb_laws.proofs.AtHome.{clock_legal, clock_in_range}
 use Rattle.fb_types.proofs.ByIndex.{element_at}
-use Rattle.fb_window.proofs.Bounding.{IsCoreOf, AreComputed, greatest, least_floor, least_most}
-use Rattle.fb_window.proofs.Passes.{clock_of, stop_of, Rests, IsLeastOf, least_cut}
+use Rattle.fb_window.proofs.Bounding.{IsCoreOf, AreComputed, greatest}
+use Rattle.fb_window.proofs.Passes.{clock_of, stop_of, Rests}
 use Rattle.fb_laws.proofs.Keeps.{Inv}
 use Rattle.fb_laws.proofs.Phasing.{IsRound, is_round}
-use Rattle.fb_laws.proofs.FloorsRise.{rises}
 use Rattle.fb_laws.proofs.Reached.{inv_after, runs_after}
 
 module _ (i : Inputs) (limit : ℕ) (c : Core (machine (system_of i) limit)) (xs : List Resource) (at : IsAt i limit c xs) where
@@ -55,15 +53,6 @@ module _ (i : Inputs) (limit : ℕ) (c : Core (machine (system_of i) limit)) (xs
 
   pub home : (r : ℕ) → (c r).out ≡ None
   home r = ⊎_elim (λ b. let e = at.counted in let s = element_at xs r (omega arith) in (at.each r s.0 s.1).home) (λ b. (at.others r b).home) (cases_lt r (count_of (system_of i)))
-
-  -- the least tick of all agendas is the greatest that no event precedes
-  pub is_least : (horizon m : ℕ) → IsLeastOf xs (length xs) horizon m → IsLeastTick (machine (system_of i) limit) horizon c m
-  is_least horizon m h =
-      let cut = least_cut xs horizon m h in
-      record {
-        is_floor = least_floor clock_of stop_of Rests (system_of i) limit c xs core_is horizon m cut;
-        most = λ n fl. least_most clock_of stop_of Rests (system_of i) limit c xs core_is horizon m cut n (min n horizon) fl (omega arith) (omega arith);
-      }
 
 module _ (i : Inputs) (good : AreGood i) (limit horizon : ℕ) (es : List (CoreStep (machine (system_of i) limit)))
     (sc : IsSchedule (machine (system_of i) limit) horizon (opening_core (system_of i) (stimuli_of i) limit) es) where
@@ -130,21 +119,3 @@ module _ (i : Inputs) (good : AreGood i) (limit horizon : ℕ) (es : List (CoreS
         → IsRound (machine (system_of i) limit) horizon (opening_core (system_of i) (stimuli_of i) limit) es fs turns
     is_round_of bounds workers turns t fs phase =
         is_round M (lawful (system_of i) sound limit) horizon w (opening_core (system_of i) (stimuli_of i) limit) es fs (runs_after M es) turns sc kept_by at_home t.may phase
-
-    -- Where each bound is past the least event of all, that has risen while the run goes on.
-    pub has_risen : (bounds : List ℕ) (workers : ℕ → ℕ) (turns : ℕ → Option (Turn (machine (system_of i) limit))) → AreTurns i limit horizon (core_of i limit es) bounds workers turns
-        → (fs : List (CoreStep (machine (system_of i) limit))) → IsPhase (machine (system_of i) limit) turns fs
-        → ((s : ℕ) (reason : Reason) → IsLeastStop (machine (system_of i) limit) (count_of (system_of i)) (core_of i limit (after_phase i limit es fs)) s reason → ⊥)
-        → HasRisen i limit (core_of i limit es) (core_of i limit (after_phase i limit es fs)) bounds
-    has_risen bounds workers turns t fs phase goes m floor past =
-        rises M (lawful (system_of i) sound limit) horizon (count_of (system_of i)) w es fs turns (is_opening (system_of i) sound limit (stimuli_of i))
-        (λ k sent a. let b : (system_of i).receiver k.a < count_of (system_of i) = sound.receivers k.a a.link in let e = a.resource in omega arith)
-        kept_by (is_round_of bounds workers turns t fs phase) t.may m floor
-        (record {
-          over = λ r b live. let x = t.live r b live in (record { worker = workers r; bound = slice_index_or bounds r 0; run = x.0 }, x.1, past r b live);
-          stopped = t.stopped;
-          others = t.others;
-          live = λ r b. (at.others r b).live;
-          quiet = λ r b. (at.others r b).waits;
-        })
-        goes

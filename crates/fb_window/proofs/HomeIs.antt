@@ -84,10 +84,6 @@ awaits_first r rs ks ds a = go a.resources a.is a.counted a.done
           done = done;
         }
 
--- there are lines for each that is awaited
-pub lines_awaited : (r : Option Resource) (rs : List (Option Resource)) (ds : List WindowDone) → AreAwaited (r ∷ rs) [] ds → ⊥
-lines_awaited r rs ds a = let f = awaits_first r rs [] ds a in let n = f.counted in omega (arith, n)
-
 -- and a done value for each that has not rested
 pub done_awaited : (rs : List (Option Resource)) (ks : List (Vec Line)) → AreAwaited (None ∷ rs) ks [] → ⊥
 done_awaited rs ks a =

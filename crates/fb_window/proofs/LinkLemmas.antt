@@ -1,5 +1,5 @@
 -- Rows of links, one after another.
-use Rattle.std.proofs.Common.{◌≡◌, ℕ, ◌+◌, ◌<◌, ◌≤◌, Some, None, List, [], ◌∷◌, ◌++◌, refl, subst, ⊎_elim, arith}
+use Rattle.std.proofs.Common.{◌≡◌, ℕ, ◌+◌, ◌<◌, ◌≤◌, Some, List, [], ◌∷◌, ◌++◌, subst, ⊎_elim, arith}
 use Rattle.std.specs.Prelude.{slice_get}
 use Rattle.std.proofs.lemmas.Bool.{cases_lt}
 use Rattle.fb_types.specs.Headline.{Inputs, system_of}
@@ -10,10 +10,6 @@ use Rattle.fb_laws.proofs.Indexes.{has_at, is_at, one_at, push_before, push_coun
 use Rattle.fb_window.specs.LinkRows.{AreLinksOf, AreRowsOf, IsLink}
 use Rattle.fb_window.specs.declared.links.LinkRow.{LinkRow}
 use Rattle.fb_window.proofs.Passes.{few_resources}
-
-pub rows_none : (sys : System) (rows : List LinkRow) → rows ≡ [] → AreRowsOf sys 0 rows
-rows_none sys [] e = record { counted = refl; each = λ link row at. absurd (let f : None ≡ Some row = at in cc) }
-rows_none sys (x ∷ xs) e = absurd (let f : x ∷ xs ≡ [] = e in cc)
 
 -- one link more
 pub rows_more : (sys : System) (count : ℕ) (rows : List LinkRow) (row : LinkRow) → AreRowsOf sys count rows → IsLink sys count row → AreRowsOf sys (count + 1) (rows ++ row ∷ [])

@@ -33,9 +33,6 @@ pub record IsLeastOf (xs : List Resource) (count horizon m : ℕ) : Type 0 where
   pub low : (r : ℕ) (x : Resource) (j : Key) → r < count → slice_get xs r ≡ Some x → j.tick < m → waiting x.agenda j ≡ None
   pub there : m < horizon → (r : ℕ) × (x : Resource) × (slice_get xs r ≡ Some x) × IsNext x.agenda m
 
-pub least_none : (xs : List Resource) (horizon : ℕ) → IsLeastOf xs 0 horizon horizon
-least_none xs horizon = record { cap = omega arith; low = λ r x j b s t. absurd (omega arith); there = λ b. absurd (omega arith) }
-
 -- one resource more
 least_more : (xs : List Resource) (count horizon m less : ℕ) (x : Resource) → slice_get xs count ≡ Some x → IsLeastOf xs count horizon m → less ≤ m → Rests x less
     → (less < m → IsNext x.agenda less) → IsLeastOf xs (count + 1) horizon less
@@ -100,9 +97,6 @@ pub record AreRaised (xs : List Resource) (count : ℕ) (before all : List ℕ) 
   pub long : length all ≡ length before
   pub raised : (r : ℕ) (x : Resource) → r < count → slice_get xs r ≡ Some x → slice_index all r ≡ max (slice_index before r) x.clock
   pub kept : (r : ℕ) → count ≤ r → slice_index all r ≡ slice_index before r
-
-pub raised_none : (xs : List Resource) (all : List ℕ) → AreRaised xs 0 all all
-raised_none xs all = record { long = refl; raised = λ r x b s. absurd (omega arith); kept = λ r b. refl }
 
 pub raised_more : (xs : List Resource) (count : ℕ) (before all : List ℕ) (x : Resource) → slice_get xs count ≡ Some x → count < length all → AreRaised xs count before all
     → AreRaised xs (count + 1) before (set all count (max (slice_index all count) x.clock))

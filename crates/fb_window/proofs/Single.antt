@@ -320,9 +320,6 @@ module _ (i : Inputs) (good : AreGood i) (limit horizon : ℕ) (es : List (CoreS
   more_at : (q : ℕ) → q ≡ r → more q ≡ new.items
   more_at q e = cond-true (q == r) new.items [] (eq-eqb q r e)
 
-  more_here : more r ≡ new.items
-  more_here = more_at r refl
-
   more_other : (q : ℕ) → q ≢ r → more q ≡ []
   more_other q n = cond-false (q == r) new.items [] (ne_eqb q r n)
 

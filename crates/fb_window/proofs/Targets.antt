@@ -2,7 +2,6 @@
 use Rattle.std.proofs.Common.{◌≡◌, ℕ, suc, ◌<◌, Some, List, [], ◌∷◌, ◌++◌, length, refl, sym, subst, ⊎_elim, arith, All}
 use Rattle.std.specs.Global.{Vec}
 use Rattle.std.specs.Prelude.{slice_get}
-use Rattle.std.specs.List.Sorted.{IsPermutation}
 use Rattle.std.proofs.lemmas.List.Elements.{All-nil, All-cons, All-head, All-tail, All-append, All-weaker}
 use Rattle.fb_types.specs.Headline.{Inputs, system_of}
 use Rattle.fb_types.specs.declared.run.Line.{Line}
@@ -11,7 +10,6 @@ use Rattle.fb_types.proofs.Lookups.{option_cases}
 use Rattle.fb_system.specs.Lines.{BelongsTo}
 use Rattle.fb_resource.specs.Posts.{IsMessage}
 use Rattle.fb_resource.specs.declared.resource.Resource.{Resource}
-use Rattle.fb_trace.specs.Merging.{flat}
 use Rattle.fb_trace.proofs.Together.{kept}
 use Rattle.fb_window.specs.Frontiers.{AreCut}
 use Rattle.fb_laws.specs.Finality.{Edge}
@@ -81,6 +79,3 @@ module _ (P : Line → Type 0) (e : Edge) (lists fronts rests : List (Vec Line))
       let s = cut.each r q.0 q.1 in
       subst (λ (z : Vec Line). All P z.items) (one_at fronts r s.0 p s.2 f)
       (all_front P s.0.items s.1.items (subst (All P) s.4.parts (all_at (λ (z : Vec Line). All P z.items) lists r q.0 all q.1))))
-
-  pub merged_in : (out : List Line) → IsPermutation (flat fronts) out → All P out
-  merged_in out moved = kept fronts out moved P fronts_in

@@ -28,9 +28,6 @@ use Rattle.fb_laws.proofs.Indexes.{is_at, one_at, push_before, push_counted, pus
 -- ---- The frontier
 
 module _ (m : ℕ) (xs : List Resource) where
-  pub frontier_none : (e : Edge) → IsFrontierTo m xs 0 e
-  frontier_none e = record { least = λ r x b f. absurd (omega arith); there = λ b. absurd (omega arith) }
-
   -- the next resource has the least floor
   pub frontier_new : (n : ℕ) (e new : Edge) (x : Resource) → slice_get xs n ≡ Some x → IsFrontierTo m xs n e → (n ≡ 0) ⊎ (floor_at m x < e.tick)
       → new.tick ≡ floor_at m x → new.resource ≡ n → new.within ≡ is_some x.stopped → IsFrontierTo m xs (n + 1) new
@@ -138,10 +135,6 @@ module _ (xs : List Resource) where
   none_found n None b f = λ r x e. let h = is_at xs r x e in f r x (omega arith) e
   none_found n (Some m) b f = tt
 
-  -- and none is the least stop where nobody has
-  pub live_open : AreLive xs → (m : StopMark) → IsFirstStop xs (length xs) m → ⊥
-  live_open h m f = let t = f.there in none_some _ _ (h m.resource t.0 t.1) t.2
-
 -- ---- Lines
 
 -- Where ticks do not fall, and the first ones are below the tick, and the next is not, this is the cut.
@@ -235,9 +228,6 @@ pub record AreCutTo (e : Edge) (lists : List (Vec Line)) (n : ℕ) (befores from
   pub each : (r : ℕ) (list : Vec Line) → r < n → slice_get lists r ≡ Some list
       → (before : Vec Line) × (from : Vec Line) × (slice_get befores r ≡ Some before) × (slice_get froms r ≡ Some from) × IsSplit (until e r) list.items before.items from.items
 
-pub cut_none : (e : Edge) (lists : List (Vec Line)) → AreCutTo e lists 0 [] []
-cut_none e lists = record { fronts = refl; rests = refl; each = λ r list b f. absurd (omega arith) }
-
 pub cut_more : (e : Edge) (lists : List (Vec Line)) (n : ℕ) (befores froms news others : List (Vec Line)) (list before from : Vec Line) → AreCutTo e lists n befores froms → slice_get lists n ≡ Some list
     → IsSplit (until e n) list.items before.items from.items → news ≡ befores ++ before ∷ [] → others ≡ froms ++ from ∷ [] → AreCutTo e lists (n + 1) news others
 cut_more e lists n befores froms news others list before from h at split p q = record {
@@ -276,9 +266,6 @@ pub record AreDeliveredTo (xs : List Resource) (boxes : List (Vec Message)) (n :
   pub counted : length ys ≡ n
   pub each : (r : ℕ) (x : Resource) → r < n → slice_get xs r ≡ Some x
       → (box : Vec Message) × (y : Resource) × (slice_get boxes r ≡ Some box) × (slice_get ys r ≡ Some y) × HasReceived box.items x y
-
-pub delivered_none : (xs : List Resource) (boxes : List (Vec Message)) → AreDeliveredTo xs boxes 0 []
-delivered_none xs boxes = record { counted = refl; each = λ r x b f. absurd (omega arith) }
 
 pub delivered_more : (xs : List Resource) (boxes : List (Vec Message)) (n : ℕ) (ys news : List Resource) (x y : Resource) (box : Vec Message) → AreDeliveredTo xs boxes n ys → slice_get xs n ≡ Some x
     → slice_get boxes n ≡ Some box → HasReceived box.items x y → news ≡ ys ++ y ∷ [] → AreDeliveredTo xs boxes (n + 1) news

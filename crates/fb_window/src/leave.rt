@@ -41,8 +41,8 @@ fn leave(
 }
 
 impl CoreState {
-    /// Sends each resource out with the bound at its index, or lets it rest. What has left is lent here, so that no exit of
-    /// the loop drops it.
+    /// Sends each resource out with the bound at its index, or lets it rest. What has left is lent here, so that no
+    /// exit of the loop drops it.
     fn leave_all(
         jobs: &mut Vec<Job>,
         resting: &mut Vec<Option<Resource>>,

@@ -6,13 +6,12 @@
 //! knows nothing of this code, says what the rounds lead to.
 //!
 //! Read in this order: `laws`; `cores`, `links` and `open`, what a core is; `bounds`; `leave` and `job`; `settle`, with
-//! `home`, `post`, `frontier`, `cut`, `ends` and `paired`; `walk`, with `nexts`; `discarding`.
+//! `home`, `post`, `frontier`, `cut`, `ends` and `paired`; `walk`, with `nexts`.
 #![tactic(auto)]
 
 pub mod bounds;
 pub mod cores;
 mod cut;
-pub mod discarding;
 mod ends;
 mod frontier;
 mod home;
@@ -28,6 +27,5 @@ pub mod settle;
 mod walk;
 
 pub use cores::{Away, AwayState, Bounds, Core, CoreState, Failed, Reach, Settled};
-pub use discarding::{discard_jobs, discard_resource, discard_system};
 pub use job::Job;
 pub use links::{LinkRow, SystemLinks};

@@ -40,8 +40,8 @@ fn deliver_next(
     }
 }
 
-/// Puts messages on the agendas of the resources, for each those in the next list. What is delivered is lent here, so that
-/// no exit of the loop drops it.
+/// Puts messages on the agendas of the resources, for each those in the next list. What is delivered is lent here, so
+/// that no exit of the loop drops it.
 fn deliver_each(
     delivered: &mut Vec<Resource>,
     resources: Vec<Resource>,

@@ -103,8 +103,8 @@ impl Walk<'_> {
         Ok(output.stop)
     }
 
-    /// Up to `most` turns, each of the first resource that has the least event of all, where no resource has stopped. What
-    /// the core holds is lent here, so that no exit of the loop drops it.
+    /// Up to `most` turns, each of the first resource that has the least event of all, where no resource has stopped.
+    /// What the core holds is lent here, so that no exit of the loop drops it.
     fn take_turns(&mut self, most: u64) -> Result<(), AllocError>
         requires may { MayTurn self.old }
         requires come { HasCome self.old }

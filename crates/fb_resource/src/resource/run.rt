@@ -18,8 +18,9 @@ use std::alloc::{AllocError, Global};
 use std::mem;
 
 impl Resource {
-    /// Takes all events of its queues below a tick, least key first, or up to the stop, which is returned. The lines and the
-    /// messages gather in the queues. Every event of a later run has a later tick, so that each run counts afresh.
+    /// Takes all events of its queues below a tick, least key first, or up to the stop, which is returned. The lines
+    /// and the messages gather in the queues. Every event of a later run has a later tick, so that each run counts
+    /// afresh.
     ///
     /// # Errors
     /// When memory runs out, or a link has carried 2^128 messages.
@@ -92,9 +93,9 @@ impl Resource {
     /// };
     /// assert!(rt; resource.clock() == 8 && resource.next() == Some(9));
     /// assert!(rt; lines.len() == 4 && sent.is_empty() && stop.is_none());
-    /// discard_resource(resource);
+    /// drop(resource);
     /// forget((lines, sent));
-    /// discard_system(system);
+    /// drop(system);
     /// ```
     pub fn run_to(mut self, alloc: Global, system: &System, to: u64, steps: u64) -> WindowDone
         requires of { IsOf system.now self }
@@ -115,7 +116,8 @@ impl Resource {
         }
     }
 
-    /// Takes all events below a tick, in milliseconds, or up to its stop, where it is. In each tick it has the given number of steps.
+    /// Takes all events below a tick, in milliseconds, or up to its stop, where it is. In each tick it has the given
+    /// number of steps.
     ///
     /// # Errors
     /// When memory runs out, or a link has carried 2^128 messages. Then nothing is said of the resource.

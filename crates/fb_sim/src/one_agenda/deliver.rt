@@ -22,7 +22,8 @@ fn key_of_message(system: &System, message: &Message) -> Key
     Key::arrival(message.arrives, receiver, message.link, message.number)
 }
 
-/// The same as `deliver`, one message after another. `deliver` calls it for all but the last.
+/// The same as `deliver`, for any number of messages.
+#[inline(never)]
 fn deliver_each(
     agenda: &mut Agenda,
     mail: &mut Vec<Message>,
@@ -44,11 +45,14 @@ fn deliver_each(
     Ok(())
 }
 
-/// Puts the messages of the mail on the agenda, each under its key. The memory of the mail is kept.
+/// Puts the messages of the mail on the agenda, each under its key. The memory of the mail is kept. Where their resource
+/// `stops`, or there are several, a function is called: so whether it stops is known, and not kept, on the other way.
+#[inline(always)]
 pub(crate) fn deliver(
     agenda: &mut Agenda,
     mail: &mut Vec<Message>,
     system: &System,
+    stops: bool,
 ) -> Result<(), AllocError>
     requires { All (IsMessage system.now) mail.old.items }
     ensures put { OnOk result ((j : keys.Key) → meaning system.now agenda.new j ≡ or_else (found j (map (arriving system.now) mail.old.items)) (meaning system.now agenda.old j)) }
@@ -56,11 +60,16 @@ pub(crate) fn deliver(
     ensures due { OnOk result (agenda.new.due ≡ agenda.old.due) }
     ensures none { OnOk result (mail.new.items ≡ []) }
 {
-    let Some(last) = mail.pop() else {
-        return Ok(());
-    };
-    // Mostly there is one message, and the loop has nothing to do.
-    deliver_each(agenda, mail, system)?;
+    if stops {
+        return deliver_each(agenda, mail, system);
+    }
+    if mail.len() > 1 {
+        return deliver_each(agenda, mail, system);
+    }
     system.facts();
-    agenda.put(key_of_message(system, &last), Event::Arrival(last))
+    // Mostly there is one message. It moves once, from the mail straight to its place.
+    match mail.as_slice().first() {
+        Some(only) => agenda.put_last(key_of_message(system, only), mail),
+        None => Ok(()),
+    }
 }

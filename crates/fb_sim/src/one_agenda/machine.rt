@@ -77,7 +77,12 @@ impl Machine {
         if taken.raised {
             return Ok(taken);
         }
-        deliver(&mut self.queues.agenda, &mut self.queues.mail, system)?;
+        deliver(
+            &mut self.queues.agenda,
+            &mut self.queues.mail,
+            system,
+            taken.stop.is_some(),
+        )?;
         Ok(taken)
     }
 

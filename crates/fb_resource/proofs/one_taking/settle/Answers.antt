@@ -1,41 +1,23 @@
-use Rattle.std.proofs.Common.{◌≡◌, ℕ, All, sym, subst, rules}
-use Rattle.std.specs.Prelude.{OnOk}
+use Rattle.std.proofs.Common.{All, subst, arith}
 use Rattle.fb_types.specs.Headline.{system_of}
-use Rattle.fb_system.specs.Lines.{BelongsTo}
-use Rattle.fb_resource.specs.Takings.{Settles}
-use Rattle.fb_resource.specs.declared.queues.Queues.{Queues}
-use Rattle.fb_resource.proofs.Posted.{ready_again}
-use Rattle.fb_resource.proofs.ReadyIs.{when_ok_three}
+use Rattle.fb_net.specs.declared.outbox.Out.TheVariants.{Send}
+use Rattle.fb_resource.specs.Posts.{IsPostable, IsSendable}
+use Rattle.fb_resource.proofs.Lone.{message_settles, still_settles}
+use Rattle.fb_resource.proofs.ReadyIs.{when_ok_four}
 use Rattle.fb_resource.proofs.one_taking.settle.Goals as goal
 
-pub settle-requires-clause-may : goal.settle-requires-clause-may
-settle-requires-clause-may c =
-    let may = c.requires.may in
-    record { order = may.order; due = may.due; counted = may.counted; mail = may.mail }
+pub returns-then-is_still : goal.returns-then-is_still
+returns-then-is_still c = still_settles c.args.system.now c.args.least.now c.args.locals.now c.args.queues.now c.requires.may c.if-is_still.ensures.none c.if-is_still.ensures.keeps
 
-pub settle-requires-clause-event : goal.settle-requires-clause-event
-settle-requires-clause-event c = c.requires.may.event
-
-pub settle-requires-clause-later : goal.settle-requires-clause-later
-settle-requires-clause-later c = c.requires.may.later
-
-pub settle-requires-clause-outs : goal.settle-requires-clause-outs
-settle-requires-clause-outs c = c.requires.may.outs
+pub post_lone-requires-clause-link : goal.post_lone-requires-clause-link
+post_lone-requires-clause-link c =
+    let sys = system_of c.args.system.now in
+    let r = c.args.least.now.key.resource in
+    let one = c.in-Some.ensures.alone in
+    let sendable : IsSendable sys r one.message = subst (All (IsPostable sys r)) one.is c.requires.may.outs 0 (Send one.message) (omega arith) in
+    rw one.over sendable.there
 
 pub returns : goal.returns
-returns c =
-    let i = c.args.system.now in
-    let l = c.args.least.now in
-    let now = c.settle.new.self in
-    let new : Queues = record { agenda = now.agenda.now; sent = now.sent.now; mail = now.mail.now; outbox = c.settle.new.outbox } in
-    let locals : now.locals.now ≡ c.locals-1.given.0 = search rules in
-    subst (λ (n : ℕ). OnOk c.settle.result (Settles i l c.args.locals.now c.args.queues.now n new)) locals
-    (when_ok_three c.settle.result c.settle.ensures.settled c.settle.ensures.grown c.settle.ensures.emptied
-    (λ settled grown emptied. record {
-      settled = settled;
-      ready = ready_again _ now c.settle.new.outbox c.settle.ensures.same grown.may
-          (subst (All (BelongsTo (system_of i))) (sym emptied.lines) c.requires.may.lines) emptied.none emptied.keeps;
-      later = grown.later;
-      few = grown.few;
-      lines = emptied.lines;
-    }))
+returns c = when_ok_four c.post_lone.result c.post_lone.ensures.put c.post_lone.ensures.counted c.post_lone.ensures.later c.post_lone.ensures.none
+    (message_settles c.args.system.now c.args.least.now c.args.locals.now c.in-Some.link c.args.queues.now c.post_lone.new.sent c.post_lone.new.mail c.post_lone.new.outs
+    c.requires.may c.in-Some.ensures.alone c.in-Some.ensures.keeps)

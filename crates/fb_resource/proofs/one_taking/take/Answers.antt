@@ -133,7 +133,7 @@ returns-in-Some-clause-taken c s from le here counts =
     let mid : Queues = record old { outbox = x } in
     let new : Queues = record old { agenda = a; outbox = y } in
     let lone = raised_lone k t old.agenda m.locals c.count_lone.new.locals x y c.in-Some.ensures.alone c.in-Some.ensures.keeps c.count_lone.ensures.counted c.count_lone.ensures.emptied in
-    let n : TickCounts = record { tick = c.step.new.self.tick; left = c.take_in.new.left; locals = c.count_lone.new.locals } in
+    let n : TickCounts = record { tick = c.step.new.self.tick; meter = c.take_in.new.meter; locals = c.count_lone.new.locals } in
     subst (λ (j : Key). IsTakenHere i c.args.limit s k (event_of i c.args.least.now.event) c.in_ok-stop.stop from c.take_in.new.tree n old
     (record old { agenda = with_event j z.event old.agenda; outbox = y })) (sym c.follow.ensures.key)
     (subst (λ (e : Event). IsTakenHere i c.args.limit s k (event_of i c.args.least.now.event) c.in_ok-stop.stop from c.take_in.new.tree n old

@@ -9,8 +9,8 @@ returns-then-key-eq-TIMER-clause-absent c = err_known c.insert_aside.result (λ 
 pub invariant_of-self : goal.invariant_of-self
 invariant_of-self c =
     let i = c.self.inside in
-    put_kept i.timers i.others i.has_timer i.quiet c.self.invariant c.args.key c.args.event c.insert.new.self c.earlier-self-inside.result c.of.result (λ timer. omega (arith, timer, c.if-key-eq-TIMER.false))
-    c.earlier-self-inside.ensures.first c.earlier-self-inside.ensures.second c.of.ensures.tick c.of.ensures.resource c.insert.result c.insert.ensures.put c.insert.ensures.err
+    put_kept i.timers i.others i.has_timer i.quiet c.self.invariant c.args.key c.args.event c.insert.new.self c.lower.new.self c.of.result (λ timer. omega (arith, timer, c.if-key-eq-TIMER.false))
+    c.lower.ensures.first c.lower.ensures.second c.of.ensures.tick c.of.ensures.resource c.insert.result c.insert.ensures.put c.insert.ensures.err
 
 pub returns-clause-put : goal.returns-clause-put
 returns-clause-put c =

@@ -11,8 +11,8 @@ use Rattle.fb_agenda.proofs.calendar.Calendar.set_timer.Goals as goal
 pub invariant_of-self : goal.invariant_of-self
 invariant_of-self c =
     let i = c.self.inside in
-    let r = c.earlier-self-inside.result in
-    subst (λ ts. AreKept ts i.others i.has_timer r) (sym c.in_err-set.ensures.err) (quieter i.timers i.others i.has_timer i.quiet c.self.invariant (timer_key c.args.tick c.args.resource c.args.instance) r c.earlier-self-inside.ensures.first)
+    let r = c.lower.new.self in
+    subst (λ ts. AreKept ts i.others i.has_timer r) (sym c.in_err-set.ensures.err) (quieter i.timers i.others i.has_timer i.quiet c.self.invariant (timer_key c.args.tick c.args.resource c.args.instance) r c.lower.ensures.first)
 
 pub invariant_of-self-then-self : goal.invariant_of-self-then-self
 invariant_of-self-then-self c =
@@ -22,7 +22,7 @@ invariant_of-self-then-self c =
     let m : Moment = record { tick = c.args.tick; resource = c.args.resource } in
     let is = c.in_ok-set.ensures.ok in
     let gone : Sets k None i.others c.clear.new.self = subst (λ (z : Key). Sets z None i.others c.clear.new.self) c.timer.ensures c.clear.ensures in
-    set_kept i.timers i.others i.has_timer i.quiet c.self.invariant k e c.set.new.self c.clear.new.self c.earlier-self-inside.result m refl c.earlier-self-inside.ensures.first c.earlier-self-inside.ensures.second refl refl
+    set_kept i.timers i.others i.has_timer i.quiet c.self.invariant k e c.set.new.self c.clear.new.self c.lower.new.self m refl c.lower.ensures.first c.lower.ensures.second refl refl
     (put_sets i.timers c.set.new.self k e is) (put_rises i.timers c.set.new.self k e c.self.invariant.split.rising is) gone
 
 pub invariant_of-self-else-self : goal.invariant_of-self-else-self
@@ -32,7 +32,7 @@ invariant_of-self-else-self c =
     let e = Timer c.args.instance in
     let m : Moment = record { tick = c.args.tick; resource = c.args.resource } in
     let is = c.in_ok-set.ensures.ok in
-    set_kept i.timers i.others i.has_timer i.quiet c.self.invariant k e c.set.new.self i.others c.earlier-self-inside.result m refl c.earlier-self-inside.ensures.first c.earlier-self-inside.ensures.second refl refl
+    set_kept i.timers i.others i.has_timer i.quiet c.self.invariant k e c.set.new.self i.others c.lower.new.self m refl c.lower.ensures.first c.lower.ensures.second refl refl
     (put_sets i.timers c.set.new.self k e is) (put_rises i.timers c.set.new.self k e c.self.invariant.split.rising is) (no_other i.timers i.others i.has_timer i.quiet c.self.invariant k c.if-self.false refl)
 
 pub returns-then-self-clause-put : goal.returns-then-self-clause-put

@@ -10,4 +10,4 @@ returns-then-is_past-clause-ok c =
     let t : Timed = record { tick = c.args.tick; resource = c.args.resource; instance = c.args.instance } in
     let is = c.push_back_reserved.ensures.items ∙ ap (λ ts. ts ++ t ∷ []) c.in_ok-make_room.ensures.items in
     timer_pushed c.self.inside.row.items c.push_back_reserved.new.self.items t c.args.self.now c.self.view_is is
-    (subst (λ (k : Key). AllBefore k c.args.self.now) c.key.ensures c.if-is_past.ensures)
+    (subst (λ (k : Key). AllBefore k c.args.self.now) c.timer.ensures c.if-is_past.ensures)

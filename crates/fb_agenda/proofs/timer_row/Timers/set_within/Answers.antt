@@ -14,7 +14,7 @@ use Rattle.fb_agenda.proofs.timer_row.Timers.set_within.Goals as goal
 pub returns-in-Ok-clause-ok : goal.returns-in-Ok-clause-ok
 returns-in-Ok-clause-ok c =
     let ts = c.self.inside.row.items in
-    let t = c.args.timed in
+    let t : Timed = record { tick = c.args.tick; resource = c.args.resource; instance = c.args.instance } in
     let k = c.key.result in
     let rising : AreRising (timer_events ts) = subst (λ es. AreRising es) (sym c.self.view_is) c.requires in
     let found = c.in-Ok.ensures.position (λ (z : Timed). (timer_event z).0) (answers_always _ _ _ (λ f a r g called. search rules)) in
@@ -25,7 +25,7 @@ returns-in-Ok-clause-ok c =
 pub returns-in_ok-insert-in-Err-clause-ok : goal.returns-in_ok-insert-in-Err-clause-ok
 returns-in_ok-insert-in-Err-clause-ok c =
     let ts = c.self.inside.row.items in
-    let t = c.args.timed in
+    let t : Timed = record { tick = c.args.tick; resource = c.args.resource; instance = c.args.instance } in
     let k = c.key.result in
     let rising : AreRising (timer_events ts) = subst (λ es. AreRising es) (sym c.self.view_is) c.requires in
     let parted = c.in-Err.ensures.position (λ (z : Timed). (timer_event z).0) (answers_always _ _ _ (λ f a r g called. search rules)) (timers_searchable k ts rising) in

@@ -26,7 +26,7 @@ events-init c =
     let empty = c.requires.empty in
     let q = c.args.queues.now in
     let is = c.take_least_into-found.ensures in
-    let slot = c.take_least_into-found.new.index in
+    let slot = c.take_least_into-found.new.slot in
     record {
       was = q.agenda;
       finds = finds_taken c.args.to q.agenda c.take_least_into-found.new.self c.take_least_into-found.result slot.key slot.event is.found is.below is.least is.left is.none is.kept;

@@ -19,7 +19,7 @@ use Rattle.fb_sim.proofs.one_agenda.machine.Machine.go_on.Goals as goal
 pub events-init : goal.events-init
 events-init c =
     let is = c.take_least_into-found.ensures in
-    let slot = c.take_least_into-found.new.index in
+    let slot = c.take_least_into-found.new.slot in
     let was = c.args.self.now.queues.agenda in
     record {
       was = was;

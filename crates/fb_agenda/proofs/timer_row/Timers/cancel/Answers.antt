@@ -1,0 +1,10 @@
+use Rattle.std.proofs.Common.{None, subst}
+use Rattle.fb_types.specs.declared.key.Key.{Key}
+use Rattle.fb_agenda.specs.Calendars.{Sets}
+use Rattle.fb_agenda.proofs.Timing.{none_sets}
+use Rattle.fb_agenda.proofs.timer_row.Timers.cancel.Goals as goal
+
+pub returns-then-is_before-clause-sets : goal.returns-then-is_before-clause-sets
+returns-then-is_before-clause-sets c =
+    let es = c.args.self.now in
+    subst (λ (k : Key). Sets k None es es) c.timer.ensures (none_sets c.timer.result es c.if-is_before.ensures)
