@@ -9,10 +9,6 @@ use Rattle.fb_read.specs.Located.{IsEnd}
 pub end-whole : (z : Text) → IsEnd z z
 end-whole z = record { before = []; joined = refl }
 
-pub end-empty : (z : Text) → IsEnd [] z
-end-empty [] = record { before = []; joined = refl }
-end-empty (b ∷ z) = let w = end-empty z in record { before = b ∷ w.before; joined = ap (λ (y : Text). b ∷ y) w.joined }
-
 pub end-more : (b : ℕ) (end z : Text) → IsEnd end z → IsEnd end (b ∷ z)
 end-more b end z w = record { before = b ∷ w.before; joined = ap (λ (y : Text). b ∷ y) w.joined }
 

@@ -10,7 +10,6 @@ pub mod Turns
 pub mod Joins
 pub mod Adding
 pub mod Turning
-pub mod Paired
 pub mod Pairs
 pub mod Options
 pub mod Steps

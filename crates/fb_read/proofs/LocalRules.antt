@@ -36,10 +36,6 @@ pub none-name : IsNoneAtEnd name
 unfolding name
 none-name = refl
 
-pub none-expect : (k : Mark) → IsNoneAtEnd (expect k)
-unfolding expect
-none-expect k = refl
-
 -- what is read, and a mark
 pub local-ended : {A : Type 0} (k : Mark) (x : A) → Local (expect k >>= (λ _. pure x))
 local-ended k x = local-bind (expect k) _ (local-expect k) (λ _. local-pure x)

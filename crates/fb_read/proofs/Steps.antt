@@ -18,11 +18,6 @@ pub chosen : {A : Type 0} (b : Bool) (x y z : A) → cond b x y ≡ z → ((b �
 chosen true x y z e = inl (refl, e)
 chosen false x y z e = inr (refl, e)
 
--- which way a rule went
-pub went : {A : Type 0} (b : Bool) (p q : Parser A) (ts : Tokens) (z : A × Tokens) → (cond b p q) ts ≡ Ok z → ((b ≡ true) × (p ts ≡ Ok z)) ⊎ ((b ≡ false) × (q ts ≡ Ok z))
-went true p q ts z e = inl (refl, e)
-went false p q ts z e = inr (refl, e)
-
 -- two steps that did not fail
 pub both_ok : {A B : Type 0} (r : Outcome A) (f : A → Parser B) (y : B × Tokens) → and_then r f ≡ Ok y → (x : A) × (mid : Tokens) × (r ≡ Ok (x, mid)) × (f x mid ≡ Ok y)
 both_ok (Ok p) f y e = (p.0, p.1, refl, e)

@@ -8,7 +8,6 @@ pub mod Front
 pub mod Tokens
 pub mod Nodes
 pub mod Parser
-pub mod Paired
 pub mod Added
 pub mod Operators
 pub mod Nesting

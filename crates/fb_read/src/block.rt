@@ -7,7 +7,7 @@ use crate::chart::{algorithms, states, transitions};
 use crate::cursor::Cursor;
 use crate::fault::ParseFault;
 use crate::ports::variables;
-use crate::rule::{Rule, ended, paired, run_after};
+use crate::rule::{Rule, ended, run_after};
 use crate::token::Mark;
 use fb_types::{
     Application, BasicType, BlockType, CompositeType, Items, Library, Name, Network, Ports,
@@ -18,12 +18,10 @@ use fb_types::{
 fn basic(cursor: &mut Cursor<'_>, name: Name, ports: Ports) -> Result<BlockType, ParseFault>
     ensures { Reads (spec.basic name ports cursor.old) result cursor.new }
 {
-    let interface = (name, ports);
-    let (interface, internals) = paired(interface, variables(cursor, Mark::Var))?;
-    let (declared, states) = paired((interface, internals), states(cursor))?;
-    let (charted, transitions) = paired((declared, states), transitions(cursor))?;
-    let (found, algorithms) = paired((charted, transitions), algorithms(cursor))?;
-    let ((((name, ports), internals), states), transitions) = found;
+    let internals = variables(cursor, Mark::Var)?;
+    let states = states(cursor)?;
+    let transitions = transitions(cursor)?;
+    let algorithms = algorithms(cursor)?;
     Ok(BlockType::Basic(BasicType {
         name,
         ports,
@@ -39,8 +37,7 @@ fn basic(cursor: &mut Cursor<'_>, name: Name, ports: Ports) -> Result<BlockType,
 fn composite(cursor: &mut Cursor<'_>, name: Name, ports: Ports) -> Result<BlockType, ParseFault>
     ensures { Reads (spec.composite name ports cursor.old) result cursor.new }
 {
-    let (interface, network) = paired((name, ports), Network::read(cursor))?;
-    let (name, ports) = interface;
+    let network = Network::read(cursor)?;
     Ok(BlockType::Composite(CompositeType {
         name,
         ports,
@@ -80,9 +77,8 @@ impl Rule for Library {
     fn read(cursor: &mut Cursor<'_>) -> Result<Library, ParseFault> {
         let none = cursor.no_items();
         let before = run_after::<BlockType>(cursor, Mark::FunctionBlock, none)?;
-        let (before, application) = paired(before, Application::read(cursor))?;
-        let blocks = run_after(cursor, Mark::FunctionBlock, before);
-        let (application, blocks) = paired(application, blocks)?;
+        let application = Application::read(cursor)?;
+        let blocks = run_after(cursor, Mark::FunctionBlock, before)?;
         Ok(Library {
             blocks,
             application,

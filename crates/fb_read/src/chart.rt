@@ -5,9 +5,7 @@ ghost use Rattle.fb_read.specs.Charts as spec;
 
 use crate::cursor::Cursor;
 use crate::fault::ParseFault;
-use crate::rule::{
-    Rule, added, ended, listed, many_after, pair, paired, run_after, section, then_read,
-};
+use crate::rule::{Rule, added, ended, listed, many_after, pair, run_after, section, then_read};
 use crate::statement::body;
 use crate::token::Mark;
 use fb_types::{Action, Algorithm, Body, Condition, Expr, Items, Name, State, Transition};
@@ -19,7 +17,7 @@ impl Rule for Action {
     fn read(cursor: &mut Cursor<'_>) -> Result<Action, ParseFault> {
         let algorithm = cursor.name_if()?;
         if cursor.eat(Mark::Arrow) {
-            let (algorithm, output) = paired(algorithm, Name::read(cursor))?;
+            let output = Name::read(cursor)?;
             Ok(Action {
                 algorithm,
                 output: Some(output),
@@ -75,21 +73,17 @@ impl Rule for Condition {
     #[tactic(auto, unfolding(crate::specs::Charts::condition))]
     fn read(cursor: &mut Cursor<'_>) -> Result<Condition, ParseFault> {
         let event = cursor.name_if()?;
-        let (event, guard) = paired(event, guard(cursor))?;
-        let found = Condition { event, guard };
-        if found.event.is_none() && found.guard.is_none() {
-            let (found, _) = paired(found, cursor.one())?;
-            Ok(found)
-        } else {
-            Ok(found)
+        let guard = guard(cursor)?;
+        if event.is_none() && guard.is_none() {
+            cursor.one()?;
         }
+        Ok(Condition { event, guard })
     }
 }
 
 impl Rule for Transition {
     ghost parser = { spec.transition };
 
-    #[tactic(auto, using(crate::proofs::Pairs::transition_is))]
     fn read(cursor: &mut Cursor<'_>) -> Result<Transition, ParseFault> {
         let both = pair::<Name, Name>(cursor, Mark::To)?;
         let (both, condition) = then_read::<(Name, Name), Condition>(cursor, both, Mark::Assign)?;

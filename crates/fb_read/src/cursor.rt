@@ -202,23 +202,15 @@ impl<'a> Cursor<'a> {
     pub fn name_if(&mut self) -> Result<Option<Name>, ParseFault>
         ensures { Reads (spec.name_if self.old) result self.new }
     {
-        match self.rest {
-            [first, rest @ ..] => match &first.token {
-                Token::Name(name) => {
-                    let name = name.try_clone(self.alloc)?;
-                    self.rest = rest;
-                    Ok(Some(name))
-                }
-                _ => {
-                    self.miss(Sought::Name);
-                    Ok(None)
-                }
-            },
-            [] => {
-                self.miss(Sought::Name);
-                Ok(None)
-            }
+        if let [first, rest @ ..] = self.rest
+            && let Token::Name(name) = &first.token
+        {
+            let name = name.try_clone(self.alloc)?;
+            self.rest = rest;
+            return Ok(Some(name));
         }
+        self.miss(Sought::Name);
+        Ok(None)
     }
 
     /// Takes the name with this spelling, in upper case. Any other token is refused.
@@ -226,20 +218,14 @@ impl<'a> Cursor<'a> {
     pub fn word(&mut self, text: &[u8]) -> Result<(), ParseFault>
         ensures { Reads (spec.word text.now self.old) result self.new }
     {
-        match self.rest {
-            [first, rest @ ..] => match &first.token {
-                Token::Name(name) => {
-                    if name.as_bytes() == text {
-                        self.rest = rest;
-                        Ok(())
-                    } else {
-                        Err(self.refusal(sought_word(text)))
-                    }
-                }
-                _ => Err(self.refusal(sought_word(text))),
-            },
-            [] => Err(self.refusal(sought_word(text))),
+        if let [first, rest @ ..] = self.rest
+            && let Token::Name(name) = &first.token
+            && name.as_bytes() == text
+        {
+            self.rest = rest;
+            return Ok(());
         }
+        Err(self.refusal(sought_word(text)))
     }
 
     /// Takes a whole literal. Any other token is refused.
@@ -247,16 +233,13 @@ impl<'a> Cursor<'a> {
     pub fn whole(&mut self) -> Result<Magnitude, ParseFault>
         ensures { Reads (spec.whole self.old) result self.new }
     {
-        match self.rest {
-            [first, rest @ ..] => match &first.token {
-                Token::Whole(value) => {
-                    self.rest = rest;
-                    Ok(value.copied())
-                }
-                _ => Err(self.refusal(Sought::Whole)),
-            },
-            [] => Err(self.refusal(Sought::Whole)),
+        if let [first, rest @ ..] = self.rest
+            && let Token::Whole(value) = &first.token
+        {
+            self.rest = rest;
+            return Ok(value.copied());
         }
+        Err(self.refusal(Sought::Whole))
     }
 
     /// Takes a whole literal whose value is 1. Any other token is refused.
@@ -264,20 +247,14 @@ impl<'a> Cursor<'a> {
     pub fn one(&mut self) -> Result<(), ParseFault>
         ensures { Reads (spec.one self.old) result self.new }
     {
-        match self.rest {
-            [first, rest @ ..] => match &first.token {
-                Token::Whole(value) => {
-                    if value.positive() == 1 {
-                        self.rest = rest;
-                        Ok(())
-                    } else {
-                        Err(self.refusal(Sought::Whole))
-                    }
-                }
-                _ => Err(self.refusal(Sought::Whole)),
-            },
-            [] => Err(self.refusal(Sought::Whole)),
+        if let [first, rest @ ..] = self.rest
+            && let Token::Whole(value) = &first.token
+            && value.positive() == 1
+        {
+            self.rest = rest;
+            return Ok(());
         }
+        Err(self.refusal(Sought::Whole))
     }
 
     /// Takes a whole or a time literal. Any other token is refused.
@@ -444,17 +421,14 @@ impl Rule for Name {
 
     #[tactic(auto, unfolding(crate::specs::Parser::name))]
     fn read(cursor: &mut Cursor<'_>) -> Result<Name, ParseFault> {
-        match cursor.rest {
-            [first, rest @ ..] => match &first.token {
-                Token::Name(name) => {
-                    let name = name.try_clone(cursor.alloc)?;
-                    cursor.rest = rest;
-                    Ok(name)
-                }
-                _ => Err(cursor.refusal(Sought::Name)),
-            },
-            [] => Err(cursor.refusal(Sought::Name)),
+        if let [first, rest @ ..] = cursor.rest
+            && let Token::Name(name) = &first.token
+        {
+            let name = name.try_clone(cursor.alloc)?;
+            cursor.rest = rest;
+            return Ok(name);
         }
+        Err(cursor.refusal(Sought::Name))
     }
 }
 

@@ -2,8 +2,8 @@
 
 use fb_types::Library;
 
-/// Frees a library. Each crate that drops one proves the destructors of all its parts once more, so other crates call
-/// this function.
+/// Frees a library. Each crate that drops one proves the destructors of all its parts again, so other crates call this
+/// function.
 pub fn discard(library: Library) {
     drop(library);
 }

@@ -103,8 +103,8 @@ fn spellings() -> &'static [(Mark, &'static str)] {
     &SPELLINGS
 }
 
-/// The bits of the kinds of tokens that are no marks, in the order in which they are listed. The words `IN` and `ST` are
-/// names that the grammar asks for by their spelling.
+/// The bits of the kinds of tokens that are no marks, in the order in which they are listed. The words `IN` and `ST`
+/// are names that the grammar asks for by their spelling.
 const NAME: u128 = 1;
 
 const WHOLE: u128 = 2;
@@ -288,7 +288,8 @@ fn watch(alloc: Global, tokens: &[Located], left: usize) -> Result<Watched, Allo
     })
 }
 
-/// Watches a mark after the last of these tokens, which end there. Loops of the rules make no test where no token is left.
+/// Watches a mark after the last of these tokens, which end there. Loops of the rules make no test where no token is
+/// left.
 fn watch_after(
     alloc: Global,
     tokens: &mut Vec<Located>,

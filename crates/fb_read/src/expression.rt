@@ -7,13 +7,13 @@ ghost use Rattle.fb_read.specs.Nests.{Nests};
 
 use crate::cursor::Cursor;
 use crate::fault::ParseFault;
-use crate::rule::{Rule, ended, paired};
+use crate::rule::{Rule, ended};
 use crate::token::Mark;
 use fb_types::{BinaryOperator, Boxed, Expr, Items, MOST_NESTING, Name, Reference, UnaryOperator};
 use std::alloc::{AllocError, Global};
 
 /// The level of the operators that bind loosest.
-const LOOSEST: u8 = 7;
+pub(crate) const LOOSEST: u8 = 7;
 
 /// An expression, and how deep it nests.
 #[derive(Drop)]
@@ -48,8 +48,8 @@ fn around(below: u32, depth: u32, expr: Expr, cursor: &Cursor<'_>) -> Result<Nes
     }
 }
 
-/// Moves two values to the heap. They have a type parameter, since `?` is between them: see [`paired`].
-fn both_boxed<T: Drop>(alloc: Global, x: T, y: T) -> Result<(Boxed<T>, Boxed<T>), AllocError>
+/// Moves two expressions to the heap.
+fn both_boxed(alloc: Global, x: Expr, y: Expr) -> Result<(Boxed<Expr>, Boxed<Expr>), AllocError>
     ensures { IfOk result (λ both. both ≡ (x, y)) }
 {
     Ok((Boxed::new(alloc, x)?, Boxed::new(alloc, y)?))
@@ -210,7 +210,7 @@ impl<F: Fn(&mut Cursor<'_>, u32, u8) -> Result<Nested, ParseFault>> ExpressionRu
             drop(left);
             return Err(ParseFault::Nesting);
         }
-        let (left, right) = paired(left, self.part(cursor, level - 1))?;
+        let right = self.part(cursor, level - 1)?;
         let depth = left.nesting.max(right.nesting);
         let (x, y) = both_boxed(cursor.alloc(), left.expr, right.expr)?;
         around(self.below, depth, Expr::Binary(operator, x, y), cursor)

@@ -48,14 +48,14 @@ pub fn declares_one()
     ensures { DeclaresOne }
 {}
 
-/// What is read as an expression is one by the grammar, and nests at most 64 deep. Each such expression is read, and one
-/// that nests deeper is refused for its nesting.
+/// What is read as an expression is one by the grammar, and nests at most 64 deep. Each such expression is read, and
+/// one that nests deeper is refused for its nesting.
 pub fn reads_expressions()
     ensures { ReadsExpressions }
 {}
 
-/// What is read as the statements of an algorithm is so by the grammar, with statements and expressions that nest at most
-/// 64 deep. Such statements are read, and those that nest deeper are refused for their nesting.
+/// What is read as the statements of an algorithm is so by the grammar, with statements and expressions that nest at
+/// most 64 deep. Such statements are read, and those that nest deeper are refused for their nesting.
 pub fn reads_bodies()
     ensures { ReadsBodies }
 {}

@@ -4,12 +4,12 @@
 //! grammar, or the fault for which the text is refused. If it is refused for anything but memory, the text declares no
 //! library. A text declares at most one library (`laws`).
 //!
-//! Read in this order: `read`, the entry, and `error`. From bytes to tokens: `token`, `tokens` and `front`, with `blank`,
-//! `word`, `keyword`, `number` and `time`. The rules: `cursor`, `rule` and `fault`, how a rule reads; `block`, `ports`,
-//! `network`, `chart`, `operator`, `expression` and `statement`. Then `refused`, where a text is refused; `expected`, what
-//! could be there instead; `nesting`, where the search for a nesting begins; `laws`; `discarding`, which frees what was
-//! read. The modules from tokens to rules are public for `fb_read_positions`, which reads a text once more up to a
-//! position.
+//! Read in this order: `read`, the entry, and `error`. From bytes to tokens: `token`, `tokens` and `front`, with
+//! `blank`, `word`, `keyword`, `number` and `time`. The rules: `cursor`, `rule` and `fault`, how a rule reads; `block`,
+//! `ports`, `network`, `chart`, `operator`, `expression` and `statement`. Then `refused`, where a text is refused;
+//! `expected`, what could be there instead; `nesting`, where the search for a nesting begins; `laws`; `discarding`,
+//! which frees what was read. The modules from tokens to rules are public for `fb_read_positions`, which reads a text
+//! again up to a position.
 #![tactic(auto)]
 
 mod blank;

@@ -7,7 +7,7 @@ ghost use Rattle.fb_read.specs.declared.token.Mark.TheVariants as mark;
 
 use crate::cursor::Cursor;
 use crate::fault::ParseFault;
-use crate::rule::{Rule, ended, many, pair, paired, section, separated};
+use crate::rule::{Rule, ended, many, pair, section, separated};
 use crate::token::Mark;
 use fb_types::{
     Application, Connection, Instance, Items, Name, Network, Numbered, Parameter, PortName, Value,
@@ -37,7 +37,6 @@ impl Rule for PortName {
 impl Rule for Connection {
     ghost parser = { spec.connection };
 
-    #[tactic(auto, using(crate::proofs::Pairs::connection_is))]
     fn read(cursor: &mut Cursor<'_>) -> Result<Connection, ParseFault> {
         let (from, to) = pair::<PortName, PortName>(cursor, Mark::To)?;
         ended(cursor, Mark::Semicolon, Connection { from, to })
@@ -65,7 +64,6 @@ impl Rule for Value {
 impl Rule for Parameter {
     ghost parser = { spec.parameter };
 
-    #[tactic(auto, using(crate::proofs::Pairs::parameter_is))]
     fn read(cursor: &mut Cursor<'_>) -> Result<Parameter, ParseFault> {
         let (name, value) = pair::<Name, Value>(cursor, Mark::Assign)?;
         Ok(Parameter { name, value })
@@ -87,11 +85,9 @@ fn parameters(cursor: &mut Cursor<'_>) -> Result<Items<Parameter>, ParseFault>
 impl Rule for Instance {
     ghost parser = { spec.instance };
 
-    #[tactic(auto, using(crate::proofs::Pairs::instance_is))]
     fn read(cursor: &mut Cursor<'_>) -> Result<Instance, ParseFault> {
-        let both = pair::<Name, Name>(cursor, Mark::Colon)?;
-        let (both, parameters) = paired(both, parameters(cursor))?;
-        let (name, block_type) = both;
+        let (name, block_type) = pair::<Name, Name>(cursor, Mark::Colon)?;
+        let parameters = parameters(cursor)?;
         let found = Instance {
             name,
             block_type,
@@ -142,7 +138,7 @@ impl Rule for Application {
     fn read(cursor: &mut Cursor<'_>) -> Result<Application, ParseFault> {
         cursor.expect(Mark::Application)?;
         let name = Name::read(cursor)?;
-        let (name, network) = paired(name, Network::read(cursor))?;
+        let network = Network::read(cursor)?;
         ended(cursor, Mark::EndApplication, Application { name, network })
     }
 }

@@ -29,8 +29,8 @@ fn with_digit(base: u8, value: u128, digit: u8) -> Option<u128>
     if longer <= MOST { Some(longer) } else { None }
 }
 
-/// The number of digits in this base, with single underscores between them. `None` if they are not such digits, or if the
-/// number is too large.
+/// The number of digits in this base, with single underscores between them. `None` if they are not such digits, or if
+/// the number is too large.
 #[tactic(auto, unfolding(crate::specs::Numbers::number))]
 pub fn number(base: u8, digits: &[u8]) -> Option<u128>
     requires low { 2 ≤ base }

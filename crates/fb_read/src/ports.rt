@@ -8,7 +8,7 @@ ghost use Rattle.fb_read.specs.declared.token.Mark.TheVariants as mark;
 
 use crate::cursor::Cursor;
 use crate::fault::ParseFault;
-use crate::rule::{Rule, ended, listed, optional, paired, section, separated, then_read};
+use crate::rule::{Rule, ended, listed, optional, section, separated, then_read};
 use crate::token::Mark;
 use fb_types::{EventPort, Items, Name, Numbered, Ports, Ty, Value, Variable};
 use std::alloc::{AllocError, Global};
@@ -35,12 +35,10 @@ impl Rule for EventPort {
 impl Rule for Declaration {
     ghost parser = { spec.declaration };
 
-    #[tactic(auto, using(crate::proofs::Pairs::declaration_is))]
     fn read(cursor: &mut Cursor<'_>) -> Result<Declaration, ParseFault> {
         let names = separated::<Name>(cursor)?;
-        let both = then_read::<Items<Name>, Ty>(cursor, names, Mark::Colon)?;
-        let (both, initial) = paired(both, optional::<Value>(cursor, Mark::Assign))?;
-        let (names, ty) = both;
+        let (names, ty) = then_read::<Items<Name>, Ty>(cursor, names, Mark::Colon)?;
+        let initial = optional::<Value>(cursor, Mark::Assign)?;
         ended(cursor, Mark::Semicolon, Declaration { names, ty, initial })
     }
 }

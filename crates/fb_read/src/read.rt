@@ -172,8 +172,8 @@ fn deep_len(alloc: Global, tokens: &[Located], left: usize) -> Result<usize, All
     Ok(most)
 }
 
-/// The refusal of tokens of which this many first ones nest too deep, where a rule that refuses those leaves this number of
-/// them.
+/// The refusal of tokens of which this many first ones nest too deep, where a rule that refuses those leaves this
+/// number of them.
 fn refused_nesting(
     alloc: Global,
     text: &[u8],
@@ -289,8 +289,8 @@ fn tokens_in(alloc: Global, text: &[u8]) -> Result<Items<Located>, ReadFault>
     lex(alloc, text)
 }
 
-/// A refusal, for a syntax fault with what was expected in place of the bytes at which it shows. They are the bytes of one
-/// of these tokens, or the end of their text.
+/// A refusal, for a syntax fault with what was expected in place of the bytes at which it shows. They are the bytes of
+/// one of these tokens, or the end of their text.
 fn with_expected(alloc: Global, tokens: Items<Located>, refusal: Refusal) -> ReadFault
     requires { length tokens ≤ most_bytes }
     ensures { IsSameFault refusal result }
@@ -319,8 +319,8 @@ fn with_expected(alloc: Global, tokens: Items<Located>, refusal: Refusal) -> Rea
     }
 }
 
-/// Reads the library that a declaration text declares. A syntax fault comes with what was expected, for which the tokens
-/// are read once or twice more.
+/// Reads the library that a declaration text declares. A syntax fault comes with what was expected, for which the
+/// tokens are read once or twice more.
 ///
 /// # Errors
 ///
@@ -341,8 +341,8 @@ pub fn read_located(alloc: Global, text: &[u8]) -> Result<Library, ReadFault>
     }
 }
 
-/// Reads the library that a declaration text declares. Neither what was expected in place of a syntax fault nor the place of
-/// a nesting is searched.
+/// Reads the library that a declaration text declares. Neither what was expected in place of a syntax fault nor the
+/// place of a nesting is searched.
 fn read_unplaced(alloc: Global, text: &[u8]) -> Result<Library, Unread>
     ensures declared { IfOk result (λ library. IsLibraryText text.now library) }
     ensures refused { IfErr result (λ e. IsUnread text.now e) }

@@ -1,8 +1,7 @@
 //! Rules of the grammar, and lists of what they read.
 
-ghost use Rattle.std.specs.Prelude.{◌≡◌, Ok, IfOk};
+ghost use Rattle.std.specs.Prelude.{◌≡◌};
 ghost use Rattle.fb_read.specs.Parser.{Parser, Reads};
-ghost use Rattle.fb_read.specs.Paired.{second_of};
 ghost use Rattle.fb_read.specs.Added.{Adds};
 ghost use Rattle.fb_read.specs.Parser as spec;
 
@@ -20,17 +19,6 @@ pub trait Rule: Drop {
         ensures { Reads (parser cursor.old) result cursor.new };
 }
 
-/// Returns `found` with what was read after it.
-///
-/// `?` writes out the drop of every owned value in scope at each exit, and each drop is proved there. A value of a type
-/// parameter is dropped by one call. So owned values of several types pass through this function.
-pub fn paired<A: Drop, B: Drop>(found: A, read: Result<B, ParseFault>) -> Result<(A, B), ParseFault>
-    ensures found { IfOk result (λ both. both.0 ≡ found) }
-    ensures read { read ≡ second_of result }
-{
-    Ok((found, read?))
-}
-
 /// Returns `found` with what a rule reads after this mark.
 #[tactic(auto, unfolding(crate::specs::Parser::then_read))]
 pub fn then_read<A: Drop, B: Rule>(
@@ -40,8 +28,9 @@ pub fn then_read<A: Drop, B: Rule>(
 ) -> Result<(A, B), ParseFault>
     ensures { Reads (spec.then_read found between B.parser cursor.old) result cursor.new }
 {
-    let found = ended(cursor, between, found)?;
-    paired(found, B::read(cursor))
+    cursor.expect(between)?;
+    let read = B::read(cursor)?;
+    Ok((found, read))
 }
 
 /// What two rules read, with this mark between them.

@@ -7,7 +7,7 @@ ghost use Rattle.fb_read.specs.StatementNests.{StatementNests};
 
 use crate::cursor::Cursor;
 use crate::fault::ParseFault;
-use crate::rule::{Rule, added, ended, finished, optional, pair, paired, separated, then_read};
+use crate::rule::{Rule, added, ended, finished, optional, pair, separated, then_read};
 use crate::token::Mark;
 use fb_types::{Body, Branch, Choice, Expr, Items, Label, MOST_NESTING, Name, Reference, Stmt};
 
@@ -38,7 +38,6 @@ impl Rule for Label {
     }
 }
 
-#[tactic(auto, using(crate::proofs::Pairs::assignment_is))]
 fn assignment(cursor: &mut Cursor<'_>) -> Result<Stmt, ParseFault>
     ensures { Reads (spec.assignment cursor.old) result cursor.new }
 {
@@ -48,13 +47,14 @@ fn assignment(cursor: &mut Cursor<'_>) -> Result<Stmt, ParseFault>
 }
 
 /// The end of a FOR and its step, from TO on.
-#[tactic(auto, unfolding(crate::specs::Statements::for_end))]
+#[tactic(auto, unfolding(crate::specs::Statements::for_end, crate::specs::Statements::step, crate::specs::Parser::optional))]
 fn for_end(cursor: &mut Cursor<'_>) -> Result<(Expr, Option<Expr>), ParseFault>
     ensures { Reads (spec.for_end cursor.old) result cursor.new }
 {
     cursor.expect(Mark::To)?;
     let end = Expr::read(cursor)?;
-    paired(end, optional::<Expr>(cursor, Mark::By))
+    let step = optional::<Expr>(cursor, Mark::By)?;
+    Ok((end, step))
 }
 
 /// A statement without inner statements.
@@ -112,8 +112,8 @@ impl<F: Fn(&mut Cursor<'_>, u32) -> Result<Stmt, ParseFault>> StatementRules<F> 
         ensures { Reads (spec.choice (spec.nested_statement self.now.below) cursor.old) result cursor.new }
     {
         let condition = Expr::read(cursor)?;
-        let condition = ended(cursor, Mark::Then, condition)?;
-        let (condition, body) = paired(condition, self.block(cursor))?;
+        cursor.expect(Mark::Then)?;
+        let body = self.block(cursor)?;
         Ok(Choice { condition, body })
     }
 
@@ -191,8 +191,8 @@ impl<F: Fn(&mut Cursor<'_>, u32) -> Result<Stmt, ParseFault>> StatementRules<F> 
     {
         cursor.expect(Mark::Of)?;
         let branches = self.branches(cursor)?;
-        let both = paired(branches, self.others(cursor))?;
-        finished(cursor, Mark::EndCase, both)
+        let others = self.others(cursor)?;
+        finished(cursor, Mark::EndCase, (branches, others))
     }
 
     /// What follows CASE.
@@ -202,8 +202,7 @@ impl<F: Fn(&mut Cursor<'_>, u32) -> Result<Stmt, ParseFault>> StatementRules<F> 
         ensures { Reads (spec.case_statement (spec.nested_statement self.now.below) cursor.old) result cursor.new }
     {
         let selector = Expr::read(cursor)?;
-        let (selector, cases) = paired(selector, self.case_body(cursor))?;
-        let (branches, others) = cases;
+        let (branches, others) = self.case_body(cursor)?;
         Ok(Stmt::Case(selector, branches, others))
     }
 
@@ -229,14 +228,12 @@ impl<F: Fn(&mut Cursor<'_>, u32) -> Result<Stmt, ParseFault>> StatementRules<F> 
         requires { StatementNests self.now.below (F.pre self.now.inner) (F.post self.now.inner) }
         ensures { Reads (spec.for_to (spec.nested_statement self.now.below) variable start cursor.old) result cursor.new }
     {
-        let (first, bounds) = paired((variable, start), for_end(cursor))?;
-        let (all, body) = paired((first, bounds), self.loop_body(cursor, Mark::EndFor))?;
-        let ((variable, start), (end, step)) = all;
+        let (end, step) = for_end(cursor)?;
+        let body = self.loop_body(cursor, Mark::EndFor)?;
         Ok(Stmt::For(variable, start, end, step, body))
     }
 
     /// What follows FOR.
-    #[tactic(auto, using(crate::proofs::Pairs::for_statement_is))]
     fn for_statement(&self, cursor: &mut Cursor<'_>) -> Result<Stmt, ParseFault>
         requires { StatementNests self.now.below (F.pre self.now.inner) (F.post self.now.inner) }
         ensures { Reads (spec.for_statement (spec.nested_statement self.now.below) cursor.old) result cursor.new }
@@ -252,12 +249,11 @@ impl<F: Fn(&mut Cursor<'_>, u32) -> Result<Stmt, ParseFault>> StatementRules<F> 
         ensures { Reads (spec.while_statement (spec.nested_statement self.now.below) cursor.old) result cursor.new }
     {
         let condition = Expr::read(cursor)?;
-        let (condition, body) = paired(condition, self.loop_body(cursor, Mark::EndWhile))?;
+        let body = self.loop_body(cursor, Mark::EndWhile)?;
         Ok(Stmt::While(condition, body))
     }
 
     /// What follows REPEAT.
-    #[tactic(auto, using(crate::proofs::Pairs::repeat_is))]
     fn repeat_statement(&self, cursor: &mut Cursor<'_>) -> Result<Stmt, ParseFault>
         requires { StatementNests self.now.below (F.pre self.now.inner) (F.post self.now.inner) }
         ensures { Reads (spec.repeat_statement (spec.nested_statement self.now.below) cursor.old) result cursor.new }
@@ -304,8 +300,8 @@ fn nested_statement(cursor: &mut Cursor<'_>, depth: u32) -> Result<Stmt, ParseFa
     .statement(cursor)
 }
 
-/// The statements of an algorithm, each of which nests at most 64 deep, including END_ALGORITHM. The cursor is left after
-/// it, or at the token that is refused.
+/// The statements of an algorithm, each of which nests at most 64 deep, including END_ALGORITHM. The cursor is left
+/// after it, or at the token that is refused.
 #[tactic(auto, unfolding(crate::specs::Statements::body))]
 pub fn body(cursor: &mut Cursor<'_>) -> Result<Body, ParseFault>
     ensures { Reads (spec.body cursor.old) result cursor.new }

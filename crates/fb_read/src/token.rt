@@ -109,7 +109,8 @@ pub struct Located {
     pub index: usize,
 }
 
-/// The bytes of a token in a text: from `start` up to `end`, both offsets in bytes. There are none at the end of the text.
+/// The bytes of a token in a text: from `start` up to `end`, both offsets in bytes. There are none at the end of the
+/// text.
 #[derive(Clone, Copy)]
 pub struct Span {
     /// The offset of the first byte.

@@ -8,20 +8,20 @@ use Rattle.fb_read.proofs.rule.run_after.Goals as goal
 
 pub loop-turn-init : goal.loop-turn-init
 unfolding run_after
-loop-turn-init g c = first_of (search rules, grind (arith, common_steps))
+loop-turn-init g c = grind (arith, common_steps)
 
 pub returns-then-not-sees : goal.returns-then-not-sees
 unfolding run_from
 returns-then-not-sees g c =
     let e = one_more (λ n. run_from g.T.Rule.parser c.args.begin n c.loop-turn.found c.loop-turn.cursor) _ c.loop-turn._turn c.loop-turn-test.true c.loop-turn.invariant in
-    first_of (search rules, grind (arith, common_steps))
+    grind (arith, common_steps)
 
 pub returns-in_err-found : goal.returns-in_err-found
 unfolding run_from
 returns-in_err-found g c =
     let e = one_more (λ n. run_from g.T.Rule.parser c.args.begin n c.loop-turn.found c.loop-turn.cursor) _ c.loop-turn._turn c.loop-turn-test.true c.loop-turn.invariant in
     let r = fault_of _ _ _ c.loop-turn.found _ c.read.ensures c.in_err-found.ensures in
-    first_of (search rules, grind (arith, common_steps))
+    grind (arith, common_steps)
 
 pub loop-turn-preserved : goal.loop-turn-preserved
 loop-turn-preserved g c =

@@ -1,4 +1,4 @@
-use Rattle.std.proofs.Common.{rules, arith}
+use Rattle.std.proofs.Common.{arith}
 use Rattle.std.proofs.lemmas.Grind.{common_steps}
 use Rattle.fb_read.specs.Parser.{separated, separated_from}
 use Rattle.fb_read.proofs.Turns.{one_more, no_more}
@@ -7,7 +7,7 @@ use Rattle.fb_read.proofs.rule.separated.Goals as goal
 
 pub loop-turn-init : goal.loop-turn-init
 unfolding separated
-loop-turn-init g c = first_of (search rules, grind (arith, common_steps))
+loop-turn-init g c = grind (arith, common_steps)
 
 pub returns-then-not-eat : goal.returns-then-not-eat
 unfolding separated_from
@@ -16,14 +16,14 @@ returns-then-not-eat g c =
     let i = item_of _ _ _ _ _ c.read.ensures c.in_ok-found.ensures in
     let is = i.1 in
     let more = i.2 in
-    first_of (search rules, grind (arith, common_steps))
+    grind (arith, common_steps)
 
 pub returns-in_err-found : goal.returns-in_err-found
 unfolding separated_from
 returns-in_err-found g c =
     let e = one_more (λ n. separated_from g.T.Rule.parser n c.loop-turn.found c.loop-turn.cursor) _ c.loop-turn._turn c.loop-turn-test.true c.loop-turn.invariant in
     let r = fault_of _ _ _ c.loop-turn.found _ c.read.ensures c.in_err-found.ensures in
-    first_of (search rules, grind (arith, common_steps))
+    grind (arith, common_steps)
 
 pub loop-turn-preserved : goal.loop-turn-preserved
 unfolding separated_from
@@ -32,10 +32,10 @@ loop-turn-preserved g c =
     let i = item_of _ _ _ _ _ c.read.ensures c.in_ok-found.ensures in
     let is = i.1 in
     let more = i.2 in
-    first_of (search rules, grind (arith, common_steps))
+    grind (arith, common_steps)
 
 pub returns : goal.returns
 unfolding separated_from
 returns g c =
     let e = no_more (λ n. separated_from g.T.Rule.parser n c.loop-turn.found c.loop-turn.cursor) _ c.loop-turn._turn c.loop-turn-test.false c.loop-turn.invariant in
-    first_of (search rules, grind (arith, common_steps))
+    grind (arith, common_steps)

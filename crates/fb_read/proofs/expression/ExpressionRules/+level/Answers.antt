@@ -23,33 +23,33 @@ returns-then-level-eq0 g t c = let none : c.args.level ≡ 0 = omega arith in rw
 pub returns-in_err-left : goal.returns-in_err-left
 returns-in_err-left g t c =
     let e = level_above c.args.self.now.below (nested_expression c.args.self.now.below) c.args.level c.args.cursor.now (omega arith) in
-    first_of (search rules, grind (arith, common_steps))
+    grind (arith, common_steps)
 
 pub loop-turn-init : goal.loop-turn-init
 loop-turn-init g t c =
     let e = level_above c.args.self.now.below (nested_expression c.args.self.now.below) c.args.level c.args.cursor.now (omega arith) in
-    first_of (search rules, grind (arith, common_steps))
+    grind (arith, common_steps)
 
 pub returns-in_default : goal.returns-in_default
 unfolding climb
 returns-in_default g t c =
     let e = one_more (λ n. climb c.args.self.now.below (nested_expression c.args.self.now.below) c.args.level (nested_expression c.args.self.now.below (c.args.level - 1)) n c.loop-turn.left c.loop-turn.cursor) _ c.loop-turn._turn c.loop-turn-test.true c.loop-turn.invariant in
-    first_of (search rules, grind (arith, common_steps))
+    grind (arith, common_steps)
 
 pub returns-in_err-left-2 : goal.returns-in_err-left-2
 returns-in_err-left-2 g t c =
     let o : next_operator c.args.level c.loop-turn.cursor ≡ Some c.in-Some.operator = search rules in
     let e = joined_more c.args.self.now.below (nested_expression c.args.self.now.below) c.args.level (nested_expression c.args.self.now.below (c.args.level - 1)) c.loop-turn.left c.in-Some.operator c.loop-turn.cursor _ c.loop-turn._turn c.loop-turn-test.true c.loop-turn.invariant o in
-    first_of (search rules, grind (arith, common_steps))
+    grind (arith, common_steps)
 
 pub loop-turn-preserved : goal.loop-turn-preserved
 loop-turn-preserved g t c =
     let o : next_operator c.args.level c.loop-turn.cursor ≡ Some c.in-Some.operator = search rules in
     let e = joined_more c.args.self.now.below (nested_expression c.args.self.now.below) c.args.level (nested_expression c.args.self.now.below (c.args.level - 1)) c.loop-turn.left c.in-Some.operator c.loop-turn.cursor _ c.loop-turn._turn c.loop-turn-test.true c.loop-turn.invariant o in
-    first_of (search rules, grind (arith, common_steps))
+    grind (arith, common_steps)
 
 pub returns : goal.returns
 unfolding climb
 returns g t c =
     let e = no_more (λ n. climb c.args.self.now.below (nested_expression c.args.self.now.below) c.args.level (nested_expression c.args.self.now.below (c.args.level - 1)) n c.loop-turn.left c.loop-turn.cursor) _ c.loop-turn._turn c.loop-turn-test.false c.loop-turn.invariant in
-    first_of (search rules, grind (arith, common_steps))
+    grind (arith, common_steps)

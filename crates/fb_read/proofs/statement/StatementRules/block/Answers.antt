@@ -8,7 +8,7 @@ use Rattle.fb_read.proofs.statement.StatementRules.block.Goals as goal
 
 pub loop-turn-init : goal.loop-turn-init
 unfolding block several
-loop-turn-init g c = first_of (search rules, grind (arith, common_steps))
+loop-turn-init g c = grind (arith, common_steps)
 
 pub returns-then-not-begins_statement : goal.returns-then-not-begins_statement
 returns-then-not-begins_statement g c =
@@ -21,7 +21,7 @@ unfolding several_from
 returns-in_err-found g c =
     let e = one_more (λ n. several_from begins_statement (nested_statement c.args.self.now.below) n c.loop-turn.found c.loop-turn.cursor) _ c.loop-turn._turn c.loop-turn-test.true c.loop-turn.invariant in
     let r = fault_of _ _ _ c.loop-turn.found _ c.part.ensures c.in_err-found.ensures in
-    first_of (search rules, grind (arith, common_steps))
+    grind (arith, common_steps)
 
 pub loop-turn-preserved : goal.loop-turn-preserved
 loop-turn-preserved g c =

@@ -10,7 +10,7 @@ pub returns-in_err-found : goal.returns-in_err-found
 unfolding branches
 returns-in_err-found g c =
     let r = fault_of _ _ _ [] _ c.branch-self.ensures c.in_err-found.ensures in
-    first_of (search rules, grind (arith, common_steps))
+    grind (arith, common_steps)
 
 pub loop-turn-init : goal.loop-turn-init
 unfolding branches several
@@ -18,7 +18,7 @@ loop-turn-init g c =
     let i = item_of _ _ _ _ _ c.branch-self.ensures c.in_ok-found.ensures in
     let is = i.1 in
     let more = i.2 in
-    first_of (search rules, grind (arith, common_steps))
+    grind (arith, common_steps)
 
 pub returns-then-not-begins_label : goal.returns-then-not-begins_label
 returns-then-not-begins_label g c =
@@ -31,7 +31,7 @@ unfolding several_from
 returns-in_err-found-2 g c =
     let e = one_more (λ n. several_from begins_label (branch (nested_statement c.args.self.now.below)) n c.loop-turn.found c.loop-turn.cursor) _ c.loop-turn._turn c.loop-turn-test.true c.loop-turn.invariant in
     let r = fault_of _ _ _ c.loop-turn.found _ c.branch-self-in-loop-turn.ensures c.in_err-found-2.ensures in
-    first_of (search rules, grind (arith, common_steps))
+    grind (arith, common_steps)
 
 pub loop-turn-preserved : goal.loop-turn-preserved
 loop-turn-preserved g c =

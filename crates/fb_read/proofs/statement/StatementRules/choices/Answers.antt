@@ -13,7 +13,7 @@ pub returns-in_err-found : goal.returns-in_err-found
 unfolding choices
 returns-in_err-found g c =
     let r = fault_of _ _ _ [] _ c.choice.ensures c.in_err-found.ensures in
-    first_of (search rules, grind (arith, common_steps))
+    grind (arith, common_steps)
 
 pub loop-turn-init : goal.loop-turn-init
 unfolding choices several
@@ -21,7 +21,7 @@ loop-turn-init g c =
     let i = item_of _ _ _ _ _ c.choice.ensures c.in_ok-found.ensures in
     let is = i.1 in
     let more = i.2 in
-    first_of (search rules, grind (arith, common_steps))
+    grind (arith, common_steps)
 
 pub returns-then-not-eat : goal.returns-then-not-eat
 returns-then-not-eat g c =
@@ -36,7 +36,7 @@ returns-in_err-found-2 g c =
     let begun : sees mark.Elsif c.loop-turn.cursor ≡ true = search rules in
     let e = one_more (λ n. several_from (sees mark.Elsif) (elsif (nested_statement c.args.self.now.below)) n c.loop-turn.found c.loop-turn.cursor) _ c.loop-turn._turn c.loop-turn-test.true c.loop-turn.invariant in
     let r = fault_of _ _ _ c.loop-turn.found _ (elsif_reads _ c.loop-turn.cursor _ _ _ begun c.eat.ensures.after c.choice-in-loop-turn.ensures) c.in_err-found-2.ensures in
-    first_of (search rules, grind (arith, common_steps))
+    grind (arith, common_steps)
 
 pub loop-turn-preserved : goal.loop-turn-preserved
 loop-turn-preserved g c =
