@@ -1,43 +1,31 @@
 -- Walks that go on where an earlier one has been.
-use Rattle.std.proofs.Common.{◌≡◌, ◌-◌, ◌+◌, ◌≤◌, ℕ, zero, suc, Bool, true, false, cond, List, [], ◌∷◌, ◌++◌, map, length, drop, Option, Some, None, Result, Ok, Err, refl, sym, ◌∙◌, ap, subst, arith}
+use Rattle.std.proofs.Common.{◌≡◌, ◌-◌, ◌+◌, ℕ, zero, suc, Bool, true, false, cond, List, [], ◌∷◌, ◌++◌, map, length, drop, Option, Some, None, Result, Ok, Err, refl, sym, ◌∙◌, ap, subst, arith}
 use Rattle.std.specs.Prelude.{◌&&◌, IfOk, IfSome}
 use Rattle.std.proofs.lemmas.List.{length-append, length-map}
-use Rattle.fb_read.specs.Blocks.{block}
-use Rattle.fb_read.specs.Charts.{action, algorithm, state, transition}
-use Rattle.fb_read.specs.Network.{connection, instance, parameter}
-use Rattle.fb_read.specs.Parser.{Outcome, Parser, Reads, ◌>>◌, expect, name, pure}
-use Rattle.fb_read.specs.Ports.{event}
+use Rattle.fb_read.specs.Parser.{Outcome, Reads, ◌>>◌, pure}
 use Rattle.fb_read.specs.Statements.{begins_statement}
 use Rattle.fb_read.specs.declared.fault.ParseFault.{ParseFault}
 use Rattle.fb_read.specs.Tokens.{Tokens, tokens_of}
 use Rattle.fb_read.specs.declared.token.Located.{Located}
-use Rattle.fb_read.specs.declared.token.Mark.TheVariants as mark
 use Rattle.fb_read.specs.declared.token.Token.{Token}
 use Rattle.fb_read.specs.declared.token.Token.TheVariants as token
 use Rattle.fb_read.proofs.Steps.{both_ok}
-use Rattle.fb_read_positions.specs.Lists.{inner, item_of, outer}
+use Rattle.fb_read_positions.specs.Lists.{item_of, owner_of}
 use Rattle.fb_read_positions.specs.Resumed.{IsAhead, IsListed, IsReached, IsStop, Leaves}
-use Rattle.fb_read_positions.specs.Walks.{Walk, begins_clause, by_way_of, depth_after, depth_at, from_item, opens, pass, pass_blocks, pass_in_basic, pass_in_network, pass_in_ports, pass_inner, pass_items, pass_outer, pass_separated, pass_variables, past_application, past_variable, skip, to_application, to_clause, to_first, to_inner, to_item, to_name, to_outer, to_owner, to_position, to_statement}
-use Rattle.fb_read_positions.specs.declared.lists.BasicList.{BasicList}
-use Rattle.fb_read_positions.specs.declared.lists.BasicList.TheVariants as basic_list
+use Rattle.fb_read_positions.specs.Walks.{Walk, begins_clause, depth_after, depth_at, opens, pass, pass_inner, pass_items, past_outer, take_all, to_clause, to_first, to_inner, to_item, to_item_if, to_name, to_outer, to_owner, to_part, to_position, to_statement}
 use Rattle.fb_read_positions.specs.declared.lists.InnerList.{InnerList}
 use Rattle.fb_read_positions.specs.declared.lists.InnerList.TheVariants as inner_list
 use Rattle.fb_read_positions.specs.declared.lists.Item.{Item}
 use Rattle.fb_read_positions.specs.declared.lists.ItemList.{ItemList}
 use Rattle.fb_read_positions.specs.declared.lists.ItemList.TheVariants as item_list
-use Rattle.fb_read_positions.specs.declared.lists.NetworkList.{NetworkList}
-use Rattle.fb_read_positions.specs.declared.lists.NetworkList.TheVariants as network_list
-use Rattle.fb_read_positions.specs.declared.lists.OuterList.{OuterList}
 use Rattle.fb_read_positions.specs.declared.lists.OuterList.TheVariants as outer_list
-use Rattle.fb_read_positions.specs.declared.lists.PortList.{PortList}
-use Rattle.fb_read_positions.specs.declared.lists.PortList.TheVariants as port_list
 use Rattle.fb_read_positions.specs.declared.position.Position.{Position}
 use Rattle.fb_read_positions.specs.declared.resume.Listed.{Listed}
-use Rattle.fb_read_positions.specs.declared.resume.Reached.{Reached}
 use Rattle.fb_read_positions.specs.declared.resume.Stop.{Stop}
+use Rattle.fb_read_positions.specs.declared.step.Step.{Step}
 use Rattle.fb_read_positions.proofs.ClauseSteps.{depth_there}
-use Rattle.fb_read_positions.proofs.Leaving.{Ends, ends-first, ends-item, ends-owner, nothing_read}
-use Rattle.fb_read_positions.proofs.Steps.{at_clause, at_statement, blocks_more, pass_more, past_no_clause, past_token, separated_more, then_on, variables_more}
+use Rattle.fb_read_positions.proofs.Leaving.{Ends, ends-first, ends-item, ends-item_if, ends-owner, nothing_read}
+use Rattle.fb_read_positions.proofs.Steps.{at_clause, at_statement, pass_more, past_no_clause, past_token, then_on}
 
 -- ---- The tokens that are left
 
@@ -78,35 +66,12 @@ from_zero w m ts mid same = ap (λ n. w n ts) (let n : 0 + m ≡ m = omega arith
 from_more : (w : ℕ → Walk) (j m : ℕ) (ts : Tokens) → w (suc j + m) ts ≡ w (suc (j + m)) ts
 from_more w j m ts = ap (λ n. w n ts) (let n : suc j + m ≡ suc (j + m) = omega arith in n)
 
-blocks_further : (j m : ℕ) (ts mid : Tokens) → pass_blocks j ts ≡ Ok (tt, mid) → pass_blocks (j + m) ts ≡ pass_blocks m mid
-unfolding pass_blocks
-blocks_further zero m ts mid e = from_zero pass_blocks m ts mid (nothing_read ts mid tt e)
-blocks_further (suc j) m ts mid e =
-    let w = both_ok (past_application ts) (λ x. skip block >> pass_blocks j) (tt, mid) e in
-    let v = both_ok (skip block w.1) (λ x. pass_blocks j) (tt, mid) w.3 in
-    from_more pass_blocks j m ts ∙ blocks_more (j + m) ts w.1 v.1 w.2 v.2 ∙ blocks_further j m v.1 mid v.3
-
-pass_further : {A : Type 0} (item : Parser A) (j m : ℕ) (ts mid : Tokens) → pass item j ts ≡ Ok (tt, mid) → pass item (j + m) ts ≡ pass item m mid
+pass_further : (steps : List Step) (j m : ℕ) (ts mid : Tokens) → pass steps j ts ≡ Ok (tt, mid) → pass steps (j + m) ts ≡ pass steps m mid
 unfolding pass
-pass_further item zero m ts mid e = from_zero (pass item) m ts mid (nothing_read ts mid tt e)
-pass_further item (suc j) m ts mid e =
-    let w = both_ok (skip item ts) (λ x. pass item j) (tt, mid) e in
-    from_more (pass item) j m ts ∙ pass_more item (j + m) ts w.1 w.2 ∙ pass_further item j m w.1 mid w.3
-
-separated_further : {A : Type 0} (item : Parser A) (j m : ℕ) (ts mid : Tokens) → pass_separated item j ts ≡ Ok (tt, mid) → pass_separated item (j + m) ts ≡ pass_separated item m mid
-unfolding pass_separated
-separated_further item zero m ts mid e = from_zero (pass_separated item) m ts mid (nothing_read ts mid tt e)
-separated_further item (suc j) m ts mid e =
-    let w = both_ok (skip item ts) (λ x. expect mark.Comma >> pass_separated item j) (tt, mid) e in
-    let v = both_ok (expect mark.Comma w.1) (λ x. pass_separated item j) (tt, mid) w.3 in
-    from_more (pass_separated item) j m ts ∙ separated_more item (j + m) ts w.1 v.1 w.2 v.2 ∙ separated_further item j m v.1 mid v.3
-
-variables_further : (j m : ℕ) (ts mid : Tokens) → pass_variables j ts ≡ Ok (tt, mid) → pass_variables (j + m) ts ≡ pass_variables m mid
-unfolding pass_variables
-variables_further zero m ts mid e = from_zero pass_variables m ts mid (nothing_read ts mid tt e)
-variables_further (suc j) m ts mid e =
-    let w = both_ok (past_variable ts) (λ x. pass_variables j) (tt, mid) e in
-    from_more pass_variables j m ts ∙ variables_more (j + m) ts w.1 w.2 ∙ variables_further j m w.1 mid w.3
+pass_further steps zero m ts mid e = from_zero (pass steps) m ts mid (nothing_read ts mid tt e)
+pass_further steps (suc j) m ts mid e =
+    let w = both_ok (take_all steps ts) (λ x. pass steps j) (tt, mid) e in
+    from_more (pass steps) j m ts ∙ pass_more steps (j + m) ts w.1 w.2 ∙ pass_further steps j m w.1 mid w.3
 
 names_further : (ts mid : Tokens) (j m : ℕ) → to_name ts j ≡ Ok (tt, mid) → to_name ts (j + m) ≡ to_name mid m
 unfolding to_name
@@ -169,40 +134,16 @@ clauses_further (t ∷ ts) mid depth (suc j) m e =
     ∙ ap (λ n. to_clause ts (depth_after (t ∷ ts) depth) n) (one_fewer b j m)
     ∙ clauses_further ts mid (depth_after (t ∷ ts) depth) (cond b j (suc j)) m e
 
-network_further : (l : NetworkList) (j m : ℕ) (ts mid : Tokens) → pass_in_network l j ts ≡ Ok (tt, mid) → pass_in_network l (j + m) ts ≡ pass_in_network l m mid
-network_further network_list.Instances j m ts mid e = pass_further instance j m ts mid e
-network_further network_list.EventConnections j m ts mid e = pass_further connection j m ts mid e
-network_further network_list.DataConnections j m ts mid e = pass_further connection j m ts mid e
-
-ports_further : (l : PortList) (j m : ℕ) (ts mid : Tokens) → pass_in_ports l j ts ≡ Ok (tt, mid) → pass_in_ports l (j + m) ts ≡ pass_in_ports l m mid
-ports_further port_list.EventInputs j m ts mid e = pass_further event j m ts mid e
-ports_further port_list.EventOutputs j m ts mid e = pass_further event j m ts mid e
-ports_further port_list.Inputs j m ts mid e = variables_further j m ts mid e
-ports_further port_list.Outputs j m ts mid e = variables_further j m ts mid e
-
-basic_further : (l : BasicList) (j m : ℕ) (ts mid : Tokens) → pass_in_basic l j ts ≡ Ok (tt, mid) → pass_in_basic l (j + m) ts ≡ pass_in_basic l m mid
-basic_further basic_list.Internals j m ts mid e = variables_further j m ts mid e
-basic_further basic_list.States j m ts mid e = pass_further state j m ts mid e
-basic_further basic_list.Transitions j m ts mid e = pass_further transition j m ts mid e
-basic_further basic_list.Algorithms j m ts mid e = pass_further algorithm j m ts mid e
-
 inner_further : (l : InnerList) (j m : ℕ) (ts mid : Tokens) → pass_inner l j ts ≡ Ok (tt, mid) → pass_inner l (j + m) ts ≡ pass_inner l m mid
-inner_further inner_list.With j m ts mid e = separated_further name j m ts mid e
-inner_further inner_list.Parameters j m ts mid e = separated_further parameter j m ts mid e
-inner_further inner_list.Actions j m ts mid e = separated_further action j m ts mid e
+inner_further inner_list.With j m ts mid e = pass_further _ j m ts mid e
+inner_further inner_list.Parameters j m ts mid e = pass_further _ j m ts mid e
+inner_further inner_list.Actions j m ts mid e = pass_further _ j m ts mid e
 inner_further inner_list.Statements j m ts mid e = statements_further ts mid true j m e
 inner_further inner_list.Mentions j m ts mid e = names_further ts mid j m e
 inner_further inner_list.GuardMentions j m ts mid e = names_further ts mid j m e
 
-outer_further : (l : OuterList) (j m : ℕ) (ts mid : Tokens) → pass_outer l j ts ≡ Ok (tt, mid) → pass_outer l (j + m) ts ≡ pass_outer l m mid
-outer_further outer_list.Blocks j m ts mid e = blocks_further j m ts mid e
-outer_further (outer_list.InApplication l) j m ts mid e = network_further l j m ts mid e
-outer_further (outer_list.InPorts k l) j m ts mid e = ports_further l j m ts mid e
-outer_further (outer_list.InBasic k l) j m ts mid e = basic_further l j m ts mid e
-outer_further (outer_list.InComposite k l) j m ts mid e = network_further l j m ts mid e
-
 items_further : (l : ItemList) (j m : ℕ) (ts mid : Tokens) → pass_items l j ts ≡ Ok (tt, mid) → pass_items l (j + m) ts ≡ pass_items l m mid
-items_further (item_list.Outer l) j m ts mid e = outer_further l j m ts mid e
+items_further (item_list.Outer l) j m ts mid e = pass_further (past_outer l) j m ts mid e
 items_further (item_list.Inner l n inside) j m ts mid e = inner_further inside j m ts mid e
 items_further (item_list.Clauses l n k) j m ts mid e = clauses_further ts mid (depth_at ts) j m e
 
@@ -263,31 +204,23 @@ stop_at_start ps w s none all reached =
     let f : Located → Token = λ p. p.token in
     record { at = subst (λ (v : Walk). Leaves v ps s.left) (sym none) (tokens_of ps, refl, length-map ps f ∙ sym all); reached = reached }
 
--- the item of a list that is in no item
-pub outer_item : (l : OuterList) (n : ℕ) → to_item (outer l n) ≡ to_outer l n
-unfolding to_item to_outer
-outer_item l n = refl
-
--- the item of a list of an item
-pub inner_item : (l : OuterList) (n : ℕ) (inside : InnerList) (k : ℕ) → to_item (inner l n inside k) ≡ to_inner l n inside k
-unfolding to_item to_inner
-inner_item l n inside k = refl
-
-pub block_item : (k : ℕ) → to_item (outer outer_list.Blocks k) ≡ pass_blocks k
-unfolding to_item
-block_item k = refl
+-- the item that has a list
+pub owner_is : (l : ItemList) → to_owner l ≡ to_item_if (owner_of l)
+unfolding to_item to_outer to_inner take_all
+owner_is (item_list.Outer outer_list.Blocks) = refl
+owner_is (item_list.Outer (outer_list.InApplication l)) = refl
+owner_is (item_list.Outer (outer_list.InPorts k l)) = refl
+owner_is (item_list.Outer (outer_list.InBasic k l)) = refl
+owner_is (item_list.Outer (outer_list.InComposite k l)) = refl
+owner_is (item_list.Inner l n inside) = refl
+owner_is (item_list.Clauses l n k) = refl
 
 -- ---- Up to a position
 
 pub at_position :
-    (ps : List Located) (p : Position) (i : Item) (n : ℕ) (ts here : Tokens) → item_of p ≡ Some i → Leaves (to_item i) ps n → ts ≡ tokens_of (drop (length ps - n) ps)
-    → from_item p ts ≡ Ok (tt, here) → to_position p (tokens_of ps) ≡ Ok (tt, here)
+    (ps : List Located) (p : Position) (n : ℕ) (ts here : Tokens) → Leaves (to_item_if (item_of p)) ps n → ts ≡ tokens_of (drop (length ps - n) ps)
+    → take_all (to_part p) ts ≡ Ok (tt, here) → to_position p (tokens_of ps) ≡ Ok (tt, here)
 unfolding to_position
-at_position ps p i n ts here is there given e =
-    ap (λ (o : Option Item). by_way_of o (from_item p) (tokens_of ps)) is
-    ∙ then_on (to_item i (tokens_of ps)) (λ x. from_item p) tt there.0 there.1
-    ∙ ap (from_item p) (sym (from_left (to_item i) ps n ts (ends-item i) there given)) ∙ e
-
-pub at_application : (p : Position) → item_of p ≡ None → to_position p ≡ to_application
-unfolding to_position
-at_application p none = ap (λ (o : Option Item). by_way_of o (from_item p)) none
+at_position ps p n ts here there given e =
+    then_on (to_item_if (item_of p) (tokens_of ps)) (λ x. take_all (to_part p)) tt there.0 there.1
+    ∙ ap (take_all (to_part p)) (sym (from_left (to_item_if (item_of p)) ps n ts (ends-item_if (item_of p)) there given)) ∙ e

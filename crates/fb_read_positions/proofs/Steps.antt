@@ -1,14 +1,13 @@
 -- One turn of a loop that reads up to a position.
-use Rattle.std.proofs.Common.{◌≡◌, ◌≤◌, ℕ, zero, suc, Bool, true, false, cond, eqb, ◌||◌, [], ◌∷◌, Ok, Err, ◌-◌, refl, sym, ap, subst, ◌∙◌, arith}
-use Rattle.fb_read.specs.Blocks.{block}
-use Rattle.fb_read.specs.Parser.{Parser, Outcome, Reads, ◌>>◌, and_then, expect, sees_name, rest_of, syntax}
+use Rattle.std.proofs.Common.{Bool, Err, List, Ok, [], ap, arith, cond, eqb, false, refl, subst, suc, sym, true, zero, ℕ, ◌-◌, ◌||◌, ◌∙◌, ◌∷◌, ◌≡◌, ◌≤◌}
+use Rattle.fb_read.specs.Parser.{Parser, Outcome, Reads, and_then, sees_name, rest_of, syntax}
 use Rattle.fb_read.specs.Statements.{begins_statement}
 use Rattle.fb_read.specs.Tokens.{Tokens}
 use Rattle.fb_read.specs.declared.fault.ParseFault.{ParseFault}
 use Rattle.fb_read.specs.declared.fault.ParseFault.TheVariants as fault
-use Rattle.fb_read.specs.declared.token.Mark.TheVariants as mark
 use Rattle.fb_read.specs.declared.token.Token.TheVariants as token
-use Rattle.fb_read_positions.specs.Walks.{begins_clause, begins_clauses, depth_after, ends_clauses, opens, pass, pass_blocks, pass_separated, pass_variables, past_application, past_variable, skip, to_clause, to_name, to_statement}
+use Rattle.fb_read_positions.specs.Walks.{begins_clause, begins_clauses, depth_after, ends_clauses, opens, pass, take_all, to_clause, to_name, to_statement}
+use Rattle.fb_read_positions.specs.declared.step.Step.{Step}
 use Rattle.std.specs.Prelude.{◌&&◌, length}
 
 -- ---- Outcomes
@@ -25,57 +24,16 @@ fault_at {A} o p e new same r = subst (λ (x : Outcome A). Reads x (Err e) new) 
 pub then_on : {A B : Type 0} (o : Outcome A) (f : A → Parser B) (x : A) (new : Tokens) → o ≡ Ok (x, new) → and_then o f ≡ f x new
 then_on {A} o f x new is = ap (λ (y : Outcome A). and_then y f) is
 
--- ---- Entries
+-- ---- Steps
 
-module _ {A : Type 0} (item : Parser A) where
-  pub pass_more : (n : ℕ) (ts new : Tokens) → skip item ts ≡ Ok (tt, new) → pass item (suc n) ts ≡ pass item n new
+module _ (steps : List Step) where
+  pub pass_more : (n : ℕ) (ts new : Tokens) → take_all steps ts ≡ Ok (tt, new) → pass steps (suc n) ts ≡ pass steps n new
   unfolding pass
-  pass_more n ts new is = then_on (skip item ts) (λ x. pass item n) tt new is
+  pass_more n ts new is = then_on (take_all steps ts) (λ x. pass steps n) tt new is
 
-  pub pass_fault : (n : ℕ) (ts new : Tokens) (e : ParseFault) → Reads (skip item ts) (Err e) new → Reads (pass item (suc n) ts) (Err e) new
+  pub pass_fault : (n : ℕ) (ts new : Tokens) (e : ParseFault) → Reads (take_all steps ts) (Err e) new → Reads (pass steps (suc n) ts) (Err e) new
   unfolding pass
-  pass_fault n ts new e r = fault_on (skip item ts) (λ x. pass item n) e new r
-
-  pub separated_more :
-      (n : ℕ) (ts mid new : Tokens) → skip item ts ≡ Ok (tt, mid) → expect mark.Comma mid ≡ Ok (tt, new) → pass_separated item (suc n) ts ≡ pass_separated item n new
-  unfolding pass_separated
-  separated_more n ts mid new is after =
-      then_on (skip item ts) (λ x. expect mark.Comma >> pass_separated item n) tt mid is ∙ then_on (expect mark.Comma mid) (λ x. pass_separated item n) tt new after
-
-  pub separated_fault : (n : ℕ) (ts new : Tokens) (e : ParseFault) → Reads (skip item ts) (Err e) new → Reads (pass_separated item (suc n) ts) (Err e) new
-  unfolding pass_separated
-  separated_fault n ts new e r = fault_on (skip item ts) (λ x. expect mark.Comma >> pass_separated item n) e new r
-
-  pub comma_fault :
-      (n : ℕ) (ts mid new : Tokens) (e : ParseFault) → skip item ts ≡ Ok (tt, mid) → Reads (expect mark.Comma mid) (Err e) new → Reads (pass_separated item (suc n) ts) (Err e) new
-  unfolding pass_separated
-  comma_fault n ts mid new e is r =
-      fault_at (pass_separated item (suc n) ts) ((expect mark.Comma >> pass_separated item n) mid) e new (then_on (skip item ts) (λ x. expect mark.Comma >> pass_separated item n) tt mid is)
-      (fault_on (expect mark.Comma mid) (λ x. pass_separated item n) e new r)
-
-pub variables_more : (n : ℕ) (ts new : Tokens) → past_variable ts ≡ Ok (tt, new) → pass_variables (suc n) ts ≡ pass_variables n new
-unfolding pass_variables
-variables_more n ts new is = then_on (past_variable ts) (λ x. pass_variables n) tt new is
-
-pub variables_fault : (n : ℕ) (ts new : Tokens) (e : ParseFault) → Reads (past_variable ts) (Err e) new → Reads (pass_variables (suc n) ts) (Err e) new
-unfolding pass_variables
-variables_fault n ts new e r = fault_on (past_variable ts) (λ x. pass_variables n) e new r
-
-pub blocks_more : (n : ℕ) (ts mid new : Tokens) → past_application ts ≡ Ok (tt, mid) → skip block mid ≡ Ok (tt, new) → pass_blocks (suc n) ts ≡ pass_blocks n new
-unfolding pass_blocks
-blocks_more n ts mid new is after =
-    then_on (past_application ts) (λ x. skip block >> pass_blocks n) tt mid is ∙ then_on (skip block mid) (λ x. pass_blocks n) tt new after
-
-pub application_fault : (n : ℕ) (ts new : Tokens) (e : ParseFault) → Reads (past_application ts) (Err e) new → Reads (pass_blocks (suc n) ts) (Err e) new
-unfolding pass_blocks
-application_fault n ts new e r = fault_on (past_application ts) (λ x. skip block >> pass_blocks n) e new r
-
-pub block_fault :
-    (n : ℕ) (ts mid new : Tokens) (e : ParseFault) → past_application ts ≡ Ok (tt, mid) → Reads (skip block mid) (Err e) new → Reads (pass_blocks (suc n) ts) (Err e) new
-unfolding pass_blocks
-block_fault n ts mid new e is r =
-    fault_at (pass_blocks (suc n) ts) ((skip block >> pass_blocks n) mid) e new (then_on (past_application ts) (λ x. skip block >> pass_blocks n) tt mid is)
-    (fault_on (skip block mid) (λ x. pass_blocks n) e new r)
+  pass_fault n ts new e r = fault_on (take_all steps ts) (λ x. pass steps n) e new r
 
 -- ---- Names
 

@@ -4,6 +4,7 @@ use Rattle.fb_read_positions.specs.declared.lists.BasicList.TheVariants as basic
 use Rattle.fb_read_positions.specs.declared.lists.InnerList.{InnerList}
 use Rattle.fb_read_positions.specs.declared.lists.InnerList.TheVariants as inner_list
 use Rattle.fb_read_positions.specs.declared.lists.Item.{Item}
+use Rattle.fb_read_positions.specs.declared.lists.ItemList.{ItemList}
 use Rattle.fb_read_positions.specs.declared.lists.ItemList.TheVariants as item_list
 use Rattle.fb_read_positions.specs.declared.lists.NetworkList.{NetworkList}
 use Rattle.fb_read_positions.specs.declared.lists.NetworkList.TheVariants as network_list
@@ -80,3 +81,28 @@ item_of (position.InApplication part) = Some (item_in_network None part)
 item_of (position.InPorts k part) = Some (item_in_ports k part)
 item_of (position.InBasic k part) = Some (item_in_basic k part)
 item_of (position.InComposite k part) = Some (item_in_network (Some k) part)
+
+-- the item that has a list; the text itself has the others
+abbrev pub owner_of : ItemList → Option Item
+owner_of (item_list.Outer outer_list.Blocks) = None
+owner_of (item_list.Outer (outer_list.InApplication l)) = None
+owner_of (item_list.Outer (outer_list.InPorts k l)) = Some (outer outer_list.Blocks k)
+owner_of (item_list.Outer (outer_list.InBasic k l)) = Some (outer outer_list.Blocks k)
+owner_of (item_list.Outer (outer_list.InComposite k l)) = Some (outer outer_list.Blocks k)
+owner_of (item_list.Inner l n inside) = Some (outer l n)
+owner_of (item_list.Clauses l n k) = Some (inner l n inner_list.Statements k)
+
+-- how many items have the list of an item, itself included
+abbrev pub depth : ItemList → ℕ
+depth (item_list.Outer outer_list.Blocks) = 1
+depth (item_list.Outer (outer_list.InApplication l)) = 1
+depth (item_list.Outer (outer_list.InPorts k l)) = 2
+depth (item_list.Outer (outer_list.InBasic k l)) = 2
+depth (item_list.Outer (outer_list.InComposite k l)) = 2
+depth (item_list.Inner l n inside) = 3
+depth (item_list.Clauses l n k) = 4
+
+-- of no item, 0
+abbrev pub depth_of : Option Item → ℕ
+depth_of None = 0
+depth_of (Some i) = depth i.list

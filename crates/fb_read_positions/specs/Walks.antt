@@ -1,11 +1,11 @@
 -- What the parser reads up to a position of a declaration: the entries before it, as the grammar has them (this project's
 -- own). What is left begins at the position.
-use Rattle.std.specs.Prelude.{ℕ, zero, suc, ◌-◌, ◌==◌, Bool, true, ◌&&◌, ◌||◌, if◌then◌else◌, [], ◌∷◌, Option, Some, None, Ok, Err, codes}
+use Rattle.std.specs.Prelude.{ℕ, zero, suc, ◌-◌, ◌==◌, Bool, true, ◌&&◌, ◌||◌, if◌then◌else◌, List, [], ◌∷◌, Option, Some, None, Ok, Err, codes}
 use Rattle.fb_read.specs.declared.token.Mark.{Mark}
 use Rattle.fb_read.specs.declared.token.Mark.TheVariants as mark
 use Rattle.fb_read.specs.declared.token.Token.TheVariants as token
 use Rattle.fb_read.specs.Tokens.{Tokens}
-use Rattle.fb_read.specs.Parser.{Parser, Outcome, ◌>>=◌, ◌>>◌, pure, syntax, sees, eat, expect, name, name_if, ty_name, word, optional, many, section, run_after}
+use Rattle.fb_read.specs.Parser.{Parser, Outcome, and_then, ◌>>=◌, ◌>>◌, pure, syntax, sees, eat, expect, name, name_if, ty_name, word, optional, many, section, run_after}
 use Rattle.fb_read.specs.Network.{application, connection, constant, instance, parameter, port}
 use Rattle.fb_read.specs.Ports.{event, ports, variables}
 use Rattle.fb_read.specs.Charts.{action, algorithm, state, states, transition, transitions}
@@ -35,97 +35,28 @@ use Rattle.fb_read_positions.specs.declared.position.Position.{Position}
 use Rattle.fb_read_positions.specs.declared.position.Position.TheVariants as position
 use Rattle.fb_read_positions.specs.declared.position.TransitionPart.{TransitionPart}
 use Rattle.fb_read_positions.specs.declared.position.TransitionPart.TheVariants as transition_part
-
--- ---- What is passed
+use Rattle.fb_read_positions.specs.declared.step.Step.{Step}
+use Rattle.fb_read_positions.specs.declared.step.Step.TheVariants as step
 
 -- nothing of what is read is kept
 abbrev pub Walk : Type 0
 Walk = Parser (Unit {0})
 
-unfoldable pub skip : {A : Type 0} → Parser A → Walk
-skip item = do
-  item
-  pure tt
+abbrev pub passed : {A : Type 0} → Outcome A → Outcome (Unit {0})
+passed o = and_then o (λ _. pure tt)
 
--- this many items
-unfoldable pub pass : {A : Type 0} → Parser A → ℕ → Walk
-pass item zero = pure tt
-pass item (suc n) = do
-  skip item
-  pass item n
+abbrev pub skip : {A : Type 0} → Parser A → Walk
+skip item = λ ts. passed (item ts)
 
--- this many items, with a comma after each
-unfoldable pub pass_separated : {A : Type 0} → Parser A → ℕ → Walk
-pass_separated item zero = pure tt
-pass_separated item (suc n) = do
-  skip item
-  expect mark.Comma
-  pass_separated item n
+-- ---- Steps
 
--- The first token that is left is the name at this index among the names of these tokens.
-unfoldable pub to_name : Tokens → ℕ → Outcome (Unit {0})
-to_name [] n = Err (syntax [])
-to_name (token.Name text ∷ ts) zero = Ok (tt, token.Name text ∷ ts)
-to_name (token.Name text ∷ ts) (suc n) = to_name ts n
-to_name (t ∷ ts) n = to_name ts n
+-- the application, if it is next
+abbrev pub past_application : Walk
+past_application = λ ts. if sees mark.Application ts then skip application ts else Ok (tt, ts)
 
--- ---- Networks
-
--- up to a name of a connection
-unfoldable pub to_end : ConnectionPart → Walk
-to_end connection_part.From = pure tt
-to_end connection_part.FromPort = do
-  skip name
-  expect mark.Dot
-to_end connection_part.To = do
-  skip port
-  expect mark.To
-to_end connection_part.ToPort = do
-  skip port
-  expect mark.To
-  skip name
-  expect mark.Dot
-
--- up to the first item of a list
-unfoldable pub to_network_list : NetworkList → Walk
-to_network_list network_list.Instances = expect mark.Fbs
-to_network_list network_list.EventConnections = do
-  expect mark.Fbs
-  skip (many instance mark.EndFbs)
-  expect mark.EventConnections
-to_network_list network_list.DataConnections = do
-  expect mark.Fbs
-  skip (many instance mark.EndFbs)
-  skip (section connection mark.EventConnections mark.EndConnections)
-  expect mark.DataConnections
-
--- this many items of a list
-abbrev pub pass_in_network : NetworkList → ℕ → Walk
-pass_in_network network_list.Instances n = pass instance n
-pass_in_network network_list.EventConnections n = pass connection n
-pass_in_network network_list.DataConnections n = pass connection n
-
-unfoldable pub to_instance_type : Walk
-to_instance_type = do
-  skip name
-  expect mark.Colon
-
--- up to the parameters of the instance that is next
-unfoldable pub to_parameters : Walk
-to_parameters = do
-  to_instance_type
-  skip name
-  expect mark.Open
-
--- from the beginning of its item up to a part
-abbrev pub to_network_part : NetworkPart → Walk
-to_network_part (network_part.Instance n) = pure tt
-to_network_part (network_part.InstanceType n) = to_instance_type
-to_network_part (network_part.Parameter n k) = pure tt
-to_network_part (network_part.EventConnection n part) = to_end part
-to_network_part (network_part.DataConnection n part) = to_end part
-
--- ---- Interfaces
+-- the block types before the application
+abbrev pub past_blocks : Walk
+past_blocks = skip (run_after block mark.FunctionBlock [])
 
 -- what is between the last name of a declaration of variables and the next declaration
 unfoldable pub past_type : Walk
@@ -142,118 +73,130 @@ past_variable = do
   more ← eat mark.Comma
   if more then pure tt else past_type
 
-unfoldable pub pass_variables : ℕ → Walk
-pass_variables zero = pure tt
-pass_variables (suc n) = do
-  past_variable
-  pass_variables n
+unfoldable pub take : Step → Walk
+take (step.Mark k) = expect k
+take step.In = word (codes "IN")
+take step.St = word (codes "ST")
+take step.Name = skip name
+take step.Event = skip name_if
+take step.Port = skip port
+take step.Ports = skip ports
+take (step.Events begin) = skip (section event begin mark.EndEvent)
+take (step.Variables begin) = skip (variables begin)
+take step.Instances = skip (many instance mark.EndFbs)
+take step.EventConnections = skip (section connection mark.EventConnections mark.EndConnections)
+take step.States = skip states
+take step.Transitions = skip transitions
+take step.Blocks = past_blocks
+take step.Application = past_application
+take step.Block = skip block
+take step.EventPort = skip event
+take step.Variable = past_variable
+take step.Instance = skip instance
+take step.Parameter = skip parameter
+take step.Connection = skip connection
+take step.State = skip state
+take step.Action = skip action
+take step.Transition = skip transition
+take step.Algorithm = skip algorithm
 
--- up to the variables WITH the event that is next
-unfoldable pub to_with : Walk
-to_with = do
-  skip name
-  expect mark.With
+-- one after another
+unfoldable pub take_all : List Step → Walk
+take_all [] = pure tt
+take_all (s ∷ steps) = do
+  take s
+  take_all steps
 
-unfoldable pub past_event_inputs : Walk
-past_event_inputs = skip (section event mark.EventInput mark.EndEvent)
+-- the same steps, this many times
+unfoldable pub pass : List Step → ℕ → Walk
+pass steps zero = pure tt
+pass steps (suc n) = do
+  take_all steps
+  pass steps n
 
-unfoldable pub past_events : Walk
-past_events = do
-  past_event_inputs
-  skip (section event mark.EventOutput mark.EndEvent)
+-- The first token that is left is the name at this index among the names of these tokens.
+unfoldable pub to_name : Tokens → ℕ → Outcome (Unit {0})
+to_name [] n = Err (syntax [])
+to_name (token.Name text ∷ ts) zero = Ok (tt, token.Name text ∷ ts)
+to_name (token.Name text ∷ ts) (suc n) = to_name ts n
+to_name (t ∷ ts) n = to_name ts n
 
--- up to the first item of a list
-abbrev pub to_port_list : PortList → Walk
-to_port_list port_list.EventInputs = expect mark.EventInput
-to_port_list port_list.EventOutputs = do
-  past_event_inputs
-  expect mark.EventOutput
-to_port_list port_list.Inputs = do
-  past_events
-  expect mark.VarInput
-to_port_list port_list.Outputs = do
-  past_events
-  skip (variables mark.VarInput)
-  expect mark.VarOutput
+-- ---- Networks
 
--- this many items of a list
-abbrev pub pass_in_ports : PortList → ℕ → Walk
-pass_in_ports port_list.EventInputs n = pass event n
-pass_in_ports port_list.EventOutputs n = pass event n
-pass_in_ports port_list.Inputs n = pass_variables n
-pass_in_ports port_list.Outputs n = pass_variables n
+-- from a connection to a name of it
+abbrev pub to_end : ConnectionPart → List Step
+to_end connection_part.From = []
+to_end connection_part.FromPort = step.Name ∷ step.Mark mark.Dot ∷ []
+to_end connection_part.To = step.Port ∷ step.Mark mark.To ∷ []
+to_end connection_part.ToPort = step.Port ∷ step.Mark mark.To ∷ step.Name ∷ step.Mark mark.Dot ∷ []
+
+-- from a network to the first item of a list of it
+abbrev pub to_network_list : NetworkList → List Step
+to_network_list network_list.Instances = step.Mark mark.Fbs ∷ []
+to_network_list network_list.EventConnections = step.Mark mark.Fbs ∷ step.Instances ∷ step.Mark mark.EventConnections ∷ []
+to_network_list network_list.DataConnections = step.Mark mark.Fbs ∷ step.Instances ∷ step.EventConnections ∷ step.Mark mark.DataConnections ∷ []
+
+-- past an item of a list
+abbrev pub past_in_network : NetworkList → List Step
+past_in_network network_list.Instances = step.Instance ∷ []
+past_in_network network_list.EventConnections = step.Connection ∷ []
+past_in_network network_list.DataConnections = step.Connection ∷ []
+
+-- from an item to a part of it
+abbrev pub to_network_part : NetworkPart → List Step
+to_network_part (network_part.Instance n) = []
+to_network_part (network_part.InstanceType n) = step.Name ∷ step.Mark mark.Colon ∷ []
+to_network_part (network_part.Parameter n k) = []
+to_network_part (network_part.EventConnection n part) = to_end part
+to_network_part (network_part.DataConnection n part) = to_end part
+
+-- ---- Interfaces
+
+-- from an interface to the first item of a list of it
+abbrev pub to_port_list : PortList → List Step
+to_port_list port_list.EventInputs = step.Mark mark.EventInput ∷ []
+to_port_list port_list.EventOutputs = step.Events mark.EventInput ∷ step.Mark mark.EventOutput ∷ []
+to_port_list port_list.Inputs = step.Events mark.EventInput ∷ step.Events mark.EventOutput ∷ step.Mark mark.VarInput ∷ []
+to_port_list port_list.Outputs = step.Events mark.EventInput ∷ step.Events mark.EventOutput ∷ step.Variables mark.VarInput ∷ step.Mark mark.VarOutput ∷ []
+
+-- past an item of a list
+abbrev pub past_in_ports : PortList → List Step
+past_in_ports port_list.EventInputs = step.EventPort ∷ []
+past_in_ports port_list.EventOutputs = step.EventPort ∷ []
+past_in_ports port_list.Inputs = step.Variable ∷ []
+past_in_ports port_list.Outputs = step.Variable ∷ []
 
 -- ---- Charts and algorithms
 
--- up to the actions of the state that is next
-unfoldable pub to_actions : Walk
-to_actions = do
-  skip name
-  expect mark.Colon
+-- from the end of an interface to the first item of a list
+abbrev pub to_basic_list : BasicList → List Step
+to_basic_list basic_list.Internals = step.Mark mark.Var ∷ []
+to_basic_list basic_list.States = step.Variables mark.Var ∷ step.Mark mark.EcStates ∷ []
+to_basic_list basic_list.Transitions = step.Variables mark.Var ∷ step.States ∷ step.Mark mark.EcTransitions ∷ []
+to_basic_list basic_list.Algorithms = step.Variables mark.Var ∷ step.States ∷ step.Transitions ∷ []
 
--- up to the output event of the action that is next, after its algorithm
-unfoldable pub to_output : Walk
-to_output = do
-  skip name
-  expect mark.Arrow
+-- past an item of a list
+abbrev pub past_in_basic : BasicList → List Step
+past_in_basic basic_list.Internals = step.Variable ∷ []
+past_in_basic basic_list.States = step.State ∷ []
+past_in_basic basic_list.Transitions = step.Transition ∷ []
+past_in_basic basic_list.Algorithms = step.Algorithm ∷ []
 
-unfoldable pub to_entered : Walk
-to_entered = do
-  skip name
-  expect mark.To
+-- from a transition to its guard
+abbrev pub to_guard : List Step
+to_guard = step.Name ∷ step.Mark mark.To ∷ step.Name ∷ step.Mark mark.Assign ∷ step.Event ∷ step.Mark mark.OpenSquare ∷ []
 
-unfoldable pub to_condition : Walk
-to_condition = do
-  to_entered
-  skip name
-  expect mark.Assign
-
-unfoldable pub to_guard : Walk
-to_guard = do
-  to_condition
-  skip name_if
-  expect mark.OpenSquare
-
-abbrev pub to_transition_part : TransitionPart → Walk
-to_transition_part transition_part.From = pure tt
-to_transition_part transition_part.To = to_entered
-to_transition_part transition_part.Condition = to_condition
+-- from a transition to a part of it
+abbrev pub to_transition_part : TransitionPart → List Step
+to_transition_part transition_part.From = []
+to_transition_part transition_part.To = step.Name ∷ step.Mark mark.To ∷ []
+to_transition_part transition_part.Condition = step.Name ∷ step.Mark mark.To ∷ step.Name ∷ step.Mark mark.Assign ∷ []
 to_transition_part transition_part.Guard = to_guard
-to_transition_part (transition_part.Mention n) = pure tt
+to_transition_part (transition_part.Mention n) = []
 
-unfoldable pub past_states : Walk
-past_states = do
-  skip (variables mark.Var)
-  skip states
-
--- up to the first item of a list
-abbrev pub to_basic_list : BasicList → Walk
-to_basic_list basic_list.Internals = expect mark.Var
-to_basic_list basic_list.States = do
-  skip (variables mark.Var)
-  expect mark.EcStates
-to_basic_list basic_list.Transitions = do
-  past_states
-  expect mark.EcTransitions
-to_basic_list basic_list.Algorithms = do
-  past_states
-  skip transitions
-
--- this many items of a list
-abbrev pub pass_in_basic : BasicList → ℕ → Walk
-pass_in_basic basic_list.Internals n = pass_variables n
-pass_in_basic basic_list.States n = pass state n
-pass_in_basic basic_list.Transitions n = pass transition n
-pass_in_basic basic_list.Algorithms n = pass algorithm n
-
--- up to the statements of the algorithm that is next
-unfoldable pub to_body : Walk
-to_body = do
-  expect mark.Algorithm
-  skip name
-  word (codes "IN")
-  word (codes "ST")
-  expect mark.Colon
+-- from an algorithm to its statements
+abbrev pub to_body : List Step
+to_body = step.Mark mark.Algorithm ∷ step.Name ∷ step.In ∷ step.St ∷ step.Mark mark.Colon ∷ []
 
 -- after this token a statement may begin
 abbrev pub opens : Tokens → Bool
@@ -305,63 +248,49 @@ depth_at ts = if begins_another ts then 1 else 0
 abbrev pub pass_clauses : ℕ → Walk
 pass_clauses n = λ ts. to_clause ts (depth_at ts) n
 
--- from the beginning of its item up to a part
-abbrev pub to_basic_part : BasicPart → Walk
-to_basic_part (basic_part.Internal n) = pure tt
-to_basic_part (basic_part.State n) = pure tt
-to_basic_part (basic_part.Action n k) = pure tt
-to_basic_part (basic_part.OutputAlone n k) = expect mark.Arrow
-to_basic_part (basic_part.OutputAfter n k) = to_output
+-- from an item to a part of it
+abbrev pub to_basic_part : BasicPart → List Step
+to_basic_part (basic_part.Internal n) = []
+to_basic_part (basic_part.State n) = []
+to_basic_part (basic_part.Action n k) = []
+to_basic_part (basic_part.OutputAlone n k) = step.Mark mark.Arrow ∷ []
+to_basic_part (basic_part.OutputAfter n k) = step.Name ∷ step.Mark mark.Arrow ∷ []
 to_basic_part (basic_part.Transition n part) = to_transition_part part
-to_basic_part (basic_part.Algorithm n) = expect mark.Algorithm
-to_basic_part (basic_part.Statement n k) = pure tt
-to_basic_part (basic_part.Clause n k j) = pure tt
-to_basic_part (basic_part.Mention n k) = pure tt
-
--- ---- Whole libraries
-
--- the application, if it is next
-unfoldable pub past_application : Walk
-past_application = λ ts. if sees mark.Application ts then skip application ts else Ok (tt, ts)
-
--- block types, and the application if one follows it
-unfoldable pub pass_blocks : ℕ → Walk
-pass_blocks zero = pure tt
-pass_blocks (suc n) = do
-  past_application
-  skip block
-  pass_blocks n
-
--- up to the name of the block type that is next, past the application if it is before it
-unfoldable pub begun : Walk
-begun = do
-  past_application
-  expect mark.FunctionBlock
-
--- after its name
-unfoldable pub to_ports : Walk
-to_ports = do
-  begun
-  skip name
-
--- after its interface
-unfoldable pub to_inside : Walk
-to_inside = do
-  to_ports
-  skip ports
-
-unfoldable pub to_application : Walk
-to_application = do
-  skip (run_after block mark.FunctionBlock [])
-  expect mark.Application
-
--- after the name of the application
-unfoldable pub to_network : Walk
-to_network = do
-  to_application
-  skip name
+to_basic_part (basic_part.Algorithm n) = step.Mark mark.Algorithm ∷ []
+to_basic_part (basic_part.Statement n k) = []
+to_basic_part (basic_part.Clause n k j) = []
+to_basic_part (basic_part.Mention n k) = []
 
 -- ---- Lists that are in no item
+
+-- to the network, the interface or what follows an interface that has the list, from the beginning of the text or of the
+-- block type
+abbrev pub to_inside : OuterList → List Step
+to_inside outer_list.Blocks = []
+to_inside (outer_list.InApplication l) = step.Blocks ∷ step.Mark mark.Application ∷ step.Name ∷ []
+to_inside (outer_list.InPorts k l) = step.Application ∷ step.Mark mark.FunctionBlock ∷ step.Name ∷ []
+to_inside (outer_list.InBasic k l) = step.Application ∷ step.Mark mark.FunctionBlock ∷ step.Name ∷ step.Ports ∷ []
+to_inside (outer_list.InComposite k l) = step.Application ∷ step.Mark mark.FunctionBlock ∷ step.Name ∷ step.Ports ∷ []
+
+-- from there to the first item
+abbrev pub to_first_inside : OuterList → List Step
+to_first_inside outer_list.Blocks = []
+to_first_inside (outer_list.InApplication l) = to_network_list l
+to_first_inside (outer_list.InPorts k l) = to_port_list l
+to_first_inside (outer_list.InBasic k l) = to_basic_list l
+to_first_inside (outer_list.InComposite k l) = to_network_list l
+
+-- past an item; past a block type, past the application too if that is before it
+abbrev pub past_outer : OuterList → List Step
+past_outer outer_list.Blocks = step.Application ∷ step.Block ∷ []
+past_outer (outer_list.InApplication l) = past_in_network l
+past_outer (outer_list.InPorts k l) = past_in_ports l
+past_outer (outer_list.InBasic k l) = past_in_basic l
+past_outer (outer_list.InComposite k l) = past_in_network l
+
+-- up to the block type at an index
+abbrev pub pass_blocks : ℕ → Walk
+pass_blocks k = pass (past_outer outer_list.Blocks) k
 
 -- up to what has the list: the text, or a block type
 abbrev pub to_outer_owner : OuterList → Walk
@@ -373,27 +302,13 @@ to_outer_owner (outer_list.InComposite k l) = pass_blocks k
 
 -- from there up to the first item
 abbrev pub to_first_outer : OuterList → Walk
-to_first_outer outer_list.Blocks = pure tt
-to_first_outer (outer_list.InApplication l) = do
-  to_network
-  to_network_list l
-to_first_outer (outer_list.InPorts k l) = do
-  to_ports
-  to_port_list l
-to_first_outer (outer_list.InBasic k l) = do
-  to_inside
-  to_basic_list l
-to_first_outer (outer_list.InComposite k l) = do
-  to_inside
-  to_network_list l
+to_first_outer l = do
+  take_all (to_inside l)
+  take_all (to_first_inside l)
 
 -- this many items
 abbrev pub pass_outer : OuterList → ℕ → Walk
-pass_outer outer_list.Blocks n = pass_blocks n
-pass_outer (outer_list.InApplication l) n = pass_in_network l n
-pass_outer (outer_list.InPorts k l) n = pass_in_ports l n
-pass_outer (outer_list.InBasic k l) n = pass_in_basic l n
-pass_outer (outer_list.InComposite k l) n = pass_in_network l n
+pass_outer l n = pass (past_outer l) n
 
 -- up to an item
 unfoldable pub to_outer : OuterList → ℕ → Walk
@@ -404,20 +319,24 @@ to_outer l n = do
 
 -- ---- Lists of items
 
--- from the beginning of what has the list up to the first item
-abbrev pub to_first_inner : InnerList → Walk
-to_first_inner inner_list.With = to_with
-to_first_inner inner_list.Parameters = to_parameters
-to_first_inner inner_list.Actions = to_actions
+-- from an item to the first item of a list of it
+abbrev pub to_first_inner : InnerList → List Step
+to_first_inner inner_list.With = step.Name ∷ step.Mark mark.With ∷ []
+to_first_inner inner_list.Parameters = step.Name ∷ step.Mark mark.Colon ∷ step.Name ∷ step.Mark mark.Open ∷ []
+to_first_inner inner_list.Actions = step.Name ∷ step.Mark mark.Colon ∷ []
 to_first_inner inner_list.Statements = to_body
 to_first_inner inner_list.Mentions = to_body
 to_first_inner inner_list.GuardMentions = to_guard
 
+-- this step and a comma, this many times
+abbrev pub pass_separated : Step → ℕ → Walk
+pass_separated item n = pass (item ∷ step.Mark mark.Comma ∷ []) n
+
 -- from the first item up to the item at an index
 abbrev pub pass_inner : InnerList → ℕ → Walk
-pass_inner inner_list.With n = pass_separated name n
-pass_inner inner_list.Parameters n = pass_separated parameter n
-pass_inner inner_list.Actions n = pass_separated action n
+pass_inner inner_list.With n = pass_separated step.Name n
+pass_inner inner_list.Parameters n = pass_separated step.Parameter n
+pass_inner inner_list.Actions n = pass_separated step.Action n
 pass_inner inner_list.Statements n = λ ts. to_statement ts true n
 pass_inner inner_list.Mentions n = λ ts. to_name ts n
 pass_inner inner_list.GuardMentions n = λ ts. to_name ts n
@@ -426,7 +345,7 @@ pass_inner inner_list.GuardMentions n = λ ts. to_name ts n
 unfoldable pub to_inner : OuterList → ℕ → InnerList → ℕ → Walk
 to_inner l n inside k = do
   to_outer l n
-  to_first_inner inside
+  take_all (to_first_inner inside)
   pass_inner inside k
 
 -- ---- Items of all lists
@@ -438,7 +357,7 @@ to_owner (item_list.Clauses l n k) = to_inner l n inner_list.Statements k
 
 abbrev pub to_first : ItemList → Walk
 to_first (item_list.Outer l) = to_first_outer l
-to_first (item_list.Inner l n inside) = to_first_inner inside
+to_first (item_list.Inner l n inside) = take_all (to_first_inner inside)
 to_first (item_list.Clauses l n k) = pure tt
 
 abbrev pub pass_items : ItemList → ℕ → Walk
@@ -455,20 +374,22 @@ to_item i = do
 
 -- ---- Positions
 
--- from the beginning of its item up to a position
-abbrev pub from_item : Position → Walk
-from_item position.Application = λ ts. Err (syntax ts)
-from_item (position.Block k) = begun
-from_item (position.InApplication part) = to_network_part part
-from_item (position.InPorts k part) = pure tt
-from_item (position.InBasic k part) = to_basic_part part
-from_item (position.InComposite k part) = to_network_part part
+-- to a position from the item to which it belongs, or from the beginning of the text
+abbrev pub to_part : Position → List Step
+to_part position.Application = step.Blocks ∷ step.Mark mark.Application ∷ []
+to_part (position.Block k) = step.Application ∷ step.Mark mark.FunctionBlock ∷ []
+to_part (position.InApplication part) = to_network_part part
+to_part (position.InPorts k part) = []
+to_part (position.InBasic k part) = to_basic_part part
+to_part (position.InComposite k part) = to_network_part part
 
--- up to an item, and from there on; up to the name of the application if there is none
-abbrev pub by_way_of : Option Item → Walk → Walk
-by_way_of None walk = to_application
-by_way_of (Some i) walk = to_item i >> walk
+-- up to an item, if there is one
+abbrev pub to_item_if : Option Item → Walk
+to_item_if None = pure tt
+to_item_if (Some i) = to_item i
 
 -- up to a position of a declaration
 unfoldable pub to_position : Position → Walk
-to_position position = by_way_of (item_of position) (from_item position)
+to_position position = do
+  to_item_if (item_of position)
+  take_all (to_part position)

@@ -5,6 +5,7 @@ ghost use Rattle.std.specs.Prelude.{◌≡◌};
 ghost use Rattle.std.specs.Option.{option_copied};
 ghost use Rattle.fb_read_positions.specs.FindingPositions as spec;
 
+use crate::names::network_inside;
 use crate::position::{BasicPart, ConnectionPart, NetworkPart, PortPart, Position, TransitionPart};
 use fb_check_names::{
     ActionPart, Descent, Direction, FlowKind, GivenTwice, InBlock, InNetwork, Misfit, Side, Site,
@@ -156,15 +157,12 @@ fn end_of(network: &Network, flow: FlowKind, index: usize, side: Side) -> Option
 }
 
 /// The network of a site.
-fn network_at(library: &Library, site: Site) -> Option<&Network>
+pub fn network_at(library: &Library, site: Site) -> Option<&Network>
     ensures { option_copied result ≡ spec.network_at library.now site }
 {
     match site {
         Site::Application => Some(&library.application.network),
-        Site::Inside(block) => match library.blocks.get(block)? {
-            BlockType::Basic(_) => None,
-            BlockType::Composite(composite) => Some(&composite.network),
-        },
+        Site::Inside(block) => network_inside(library.blocks.get(block)?),
     }
 }
 

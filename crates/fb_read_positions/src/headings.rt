@@ -1,5 +1,6 @@
 //! Words for positions of a declaration, and what is there.
 
+pub use crate::finding_positions::network_at;
 use crate::position::{BasicPart, NetworkPart, PortPart, Position};
 use crate::words::Text;
 use fb_check_names::{Named, Site};
@@ -18,14 +19,6 @@ pub fn composite_at(library: &Library, block: usize) -> Option<&CompositeType> {
     match library.blocks.get(block)? {
         BlockType::Basic(_) => None,
         BlockType::Composite(composite) => Some(composite),
-    }
-}
-
-/// The network of a site.
-pub fn network_at(library: &Library, site: Site) -> Option<&Network> {
-    match site {
-        Site::Application => Some(&library.application.network),
-        Site::Inside(block) => Some(&composite_at(library, block)?.network),
     }
 }
 

@@ -9,8 +9,8 @@
 //! has the ports of the type that a name represents. The words of `headings`, and what `source_line` shows, are not
 //! part of any contract.
 //!
-//! Read in this order: `position`; `lists`, the item to which a position belongs; `skip`, `network`, `ports`, `basic`
-//! and `walk`, what is read up to it; `statements` and `clauses`, which are searched in the tokens; `resume`, from one
+//! Read in this order: `position`; `lists`, the item to which a position belongs; `step`, `network`, `ports`, `basic`
+//! and `walk`, the way to it; `statements` and `clauses`, which are searched in the tokens; `resume`, from one
 //! position of a list to the next; `names`, the names that a library has at positions; `find`; `text_locations` and
 //! `place`, lines and columns; `finding_positions`. Then words: `words`, texts that grow; `lookup`, the meaning of
 //! names; `headings`, what a position is called; `source_line`, the source line of a place. All of this runs only after
@@ -30,9 +30,9 @@ pub mod place;
 mod ports;
 pub mod position;
 mod resume;
-mod skip;
 pub mod source_line;
 mod statements;
+mod step;
 pub mod text_locations;
 mod walk;
 pub mod words;

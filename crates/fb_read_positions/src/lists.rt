@@ -218,6 +218,24 @@ pub(crate) fn item_of(position: Position) -> Option<Item>
     }
 }
 
+/// The item that has a list. `None` if the text itself has it.
+pub(crate) fn owner_of(list: ItemList) -> Option<Item>
+    ensures { result ≡ spec.owner_of list }
+{
+    match list {
+        ItemList::Outer(OuterList::Blocks) | ItemList::Outer(OuterList::InApplication(_)) => None,
+        ItemList::Outer(OuterList::InPorts(block, _))
+        | ItemList::Outer(OuterList::InBasic(block, _))
+        | ItemList::Outer(OuterList::InComposite(block, _)) => {
+            Some(outer(OuterList::Blocks, block))
+        }
+        ItemList::Inner(list, index, _) => Some(outer(list, index)),
+        ItemList::Clauses(list, index, statement) => {
+            Some(inner(list, index, InnerList::Statements, statement))
+        }
+    }
+}
+
 /// Whether two lists that are in no item are the same one.
 fn is_same_outer(left: OuterList, right: OuterList) -> bool
     ensures { IsTrue result → left ≡ right }

@@ -145,7 +145,7 @@ fn basic_inside(block: &BlockType) -> Option<&BasicType>
     }
 }
 
-fn network_inside(block: &BlockType) -> Option<&Network>
+pub(crate) fn network_inside(block: &BlockType) -> Option<&Network>
     ensures { option_copied result ≡ spec.network_inside block.now }
 {
     match block {

@@ -6,21 +6,17 @@ ghost use Rattle.fb_read.specs.Whole.{most_bytes};
 ghost use Rattle.fb_read.specs.declared.token.Located.{Located};
 ghost use Rattle.fb_read_positions.specs.Resumed.{IsAhead, IsListed, IsReached, IsStop, Leaves};
 ghost use Rattle.fb_read_positions.specs.Walks as spec;
-ghost use Rattle.fb_read_positions.specs.Walks.{pass_blocks, to_application, to_inner, to_item, to_outer, to_owner, to_position};
-ghost use Rattle.fb_read_positions.specs.declared.lists.InnerList.TheVariants as inner_list;
-ghost use Rattle.fb_read_positions.specs.declared.lists.ItemList.TheVariants as item_list;
+ghost use Rattle.fb_read_positions.specs.Walks.{to_item, to_item_if, to_owner, to_position};
 
 use crate::clauses::clause_left;
-use crate::lists::{InnerList, Item, ItemList, OuterList, inner, is_same, item_of, outer};
+use crate::lists::{InnerList, Item, ItemList, OuterList, is_same, item_of, owner_of};
 use crate::position::Position;
-use crate::skip::{pass_separated, to_name};
 use crate::statements::statement_left;
-use crate::walk::{from_item, pass_outer, to_application, to_first};
+use crate::step::{Step, pass, take_all, to_name};
+use crate::walk::{past_outer, to_first, to_part};
 use fb_read::cursor::Cursor;
 use fb_read::fault::ParseFault;
-use fb_read::rule::Rule;
-use fb_read::token::Located;
-use fb_types::{Action, Name, Parameter};
+use fb_read::token::{Located, Mark};
 use std::alloc::{AllocError, Global};
 
 /// How far a list was read.
@@ -150,34 +146,18 @@ fn stop_at(reached: Reached, item: Item, left: usize) -> Stop
     }
 }
 
-/// The number of tokens that are left where this many items of a list that is in no item were read from these tokens.
-fn left_past_outer(
+/// The number of tokens that are left where these steps were taken this many times from these tokens on.
+fn left_past(
     alloc: Global,
     tokens: &[Located],
-    list: OuterList,
+    steps: &[Step],
     count: usize,
 ) -> Result<Option<usize>, AllocError>
     requires { length tokens.now ≤ most_bytes }
-    ensures { IfOk result (λ o. IfSome o (Leaves (spec.pass_outer list count) tokens.now)) }
+    ensures { IfOk result (λ o. IfSome o (Leaves (spec.pass steps.now count) tokens.now)) }
 {
     let mut cursor = Cursor::new(alloc, tokens);
-    if !is_read(pass_outer(&mut cursor, list, count))? {
-        return Ok(None);
-    }
-    Ok(Some(cursor.left()))
-}
-
-/// The number of tokens that are left where this many items, with a comma after each, were read from these tokens.
-fn left_past_separated<T: Rule>(
-    alloc: Global,
-    tokens: &[Located],
-    count: usize,
-) -> Result<Option<usize>, AllocError>
-    requires { length tokens.now ≤ most_bytes }
-    ensures { IfOk result (λ o. IfSome o (Leaves (spec.pass_separated T.parser count) tokens.now)) }
-{
-    let mut cursor = Cursor::new(alloc, tokens);
-    if !is_read(pass_separated::<T>(&mut cursor, count))? {
+    if !is_read(pass(&mut cursor, steps, count))? {
         return Ok(None);
     }
     Ok(Some(cursor.left()))
@@ -210,18 +190,18 @@ fn left_past_inner(
     requires { length tokens.now ≤ most_bytes }
     ensures { IfOk result (λ o. IfSome o (Leaves (spec.pass_inner list count) tokens.now)) }
 {
+    let comma = Step::Mark(Mark::Comma);
     match list {
-        InnerList::With => left_past_separated::<Name>(alloc, tokens, count),
-        InnerList::Parameters => left_past_separated::<Parameter>(alloc, tokens, count),
-        InnerList::Actions => left_past_separated::<Action>(alloc, tokens, count),
+        InnerList::With => left_past(alloc, tokens, &[Step::Name, comma], count),
+        InnerList::Parameters => left_past(alloc, tokens, &[Step::Parameter, comma], count),
+        InnerList::Actions => left_past(alloc, tokens, &[Step::Action, comma], count),
         InnerList::Statements => Ok(statement_left(alloc, tokens, count)),
-        InnerList::Mentions => left_at_name(alloc, tokens, count),
-        InnerList::GuardMentions => left_at_name(alloc, tokens, count),
+        InnerList::Mentions | InnerList::GuardMentions => left_at_name(alloc, tokens, count),
     }
 }
 
 /// The number of tokens that are left at an item of a list, this many items after the one with which these tokens begin.
-fn left_past(
+fn left_past_items(
     alloc: Global,
     tokens: &[Located],
     list: ItemList,
@@ -231,7 +211,7 @@ fn left_past(
     ensures { IfOk result (λ o. IfSome o (Leaves (spec.pass_items list count) tokens.now)) }
 {
     match list {
-        ItemList::Outer(list) => left_past_outer(alloc, tokens, list, count),
+        ItemList::Outer(list) => left_past(alloc, tokens, past_outer(list), count),
         ItemList::Inner(_, _, list) => left_past_inner(alloc, tokens, list, count),
         ItemList::Clauses(_, _, _) => Ok(clause_left(tokens, count)),
     }
@@ -250,7 +230,7 @@ fn left_after(
     ensures { IfOk result (λ o. IfSome o (Leaves (to_item item) tokens.now)) }
 {
     let count = item.index - from.item.index;
-    left_past(alloc, last(tokens, from.left), item.list, count)
+    left_past_items(alloc, last(tokens, from.left), item.list, count)
 }
 
 /// The number of tokens that are left at an item, from where what has its list begins.
@@ -269,7 +249,7 @@ fn left_within(
     if !is_read(to_first(&mut cursor, item.list))? {
         return Ok(None);
     }
-    left_past(alloc, last(tokens, cursor.left()), item.list, item.index)
+    left_past_items(alloc, last(tokens, cursor.left()), item.list, item.index)
 }
 
 /// Reads up to an item, if its list was read before and not past it.
@@ -319,156 +299,28 @@ fn before_all(tokens: &[Located], reached: Reached) -> Stop
     }
 }
 
-/// Reads up to an item of a list that the text itself has.
-fn reach_in_text(
-    alloc: Global,
-    tokens: &[Located],
-    reached: Reached,
-    item: Item,
-) -> Result<Option<Stop>, AllocError>
-    requires few { length tokens.now ≤ most_bytes }
-    requires reached { IsReached tokens.now reached }
-    requires owner { to_owner item.list ≡ pure tt }
-    ensures { IfOk result (λ o. IfSome o (IsStop tokens.now (to_item item))) }
-{
-    if let Some(stop) = reach_again(alloc, tokens, reached, item)? {
-        return Ok(Some(stop));
-    }
-    reach_within(alloc, tokens, before_all(tokens, reached), item)
-}
-
-/// Reads up to an item of a list of the block type at this index.
-fn reach_in_block(
-    alloc: Global,
-    tokens: &[Located],
-    reached: Reached,
-    block: usize,
-    item: Item,
-) -> Result<Option<Stop>, AllocError>
-    requires few { length tokens.now ≤ most_bytes }
-    requires reached { IsReached tokens.now reached }
-    requires owner { to_owner item.list ≡ pass_blocks block }
-    ensures { IfOk result (λ o. IfSome o (IsStop tokens.now (to_item item))) }
-{
-    if let Some(stop) = reach_again(alloc, tokens, reached, item)? {
-        return Ok(Some(stop));
-    }
-    match reach_in_text(alloc, tokens, reached, outer(OuterList::Blocks, block))? {
-        Some(at_block) => reach_within(alloc, tokens, at_block, item),
-        None => Ok(None),
-    }
-}
-
-/// Reads up to an item of this list, which is in no item.
-fn reach_outer(
-    alloc: Global,
-    tokens: &[Located],
-    reached: Reached,
-    list: OuterList,
-    item: Item,
-) -> Result<Option<Stop>, AllocError>
-    requires few { length tokens.now ≤ most_bytes }
-    requires reached { IsReached tokens.now reached }
-    requires list { item.list ≡ item_list.Outer list }
-    ensures { IfOk result (λ o. IfSome o (IsStop tokens.now (to_item item))) }
-{
-    match list {
-        OuterList::Blocks => reach_in_text(alloc, tokens, reached, item),
-        OuterList::InApplication(_) => reach_in_text(alloc, tokens, reached, item),
-        OuterList::InPorts(block, _) => reach_in_block(alloc, tokens, reached, block, item),
-        OuterList::InBasic(block, _) => reach_in_block(alloc, tokens, reached, block, item),
-        OuterList::InComposite(block, _) => reach_in_block(alloc, tokens, reached, block, item),
-    }
-}
-
-/// Reads up to an item of a list of the item at this index of a list.
-fn reach_inner(
-    alloc: Global,
-    tokens: &[Located],
-    reached: Reached,
-    list: OuterList,
-    index: usize,
-    item: Item,
-) -> Result<Option<Stop>, AllocError>
-    requires few { length tokens.now ≤ most_bytes }
-    requires reached { IsReached tokens.now reached }
-    requires owner { to_owner item.list ≡ to_outer list index }
-    ensures { IfOk result (λ o. IfSome o (IsStop tokens.now (to_item item))) }
-{
-    if let Some(stop) = reach_again(alloc, tokens, reached, item)? {
-        return Ok(Some(stop));
-    }
-    match reach_outer(alloc, tokens, reached, list, outer(list, index))? {
-        Some(at_owner) => reach_within(alloc, tokens, at_owner, item),
-        None => Ok(None),
-    }
-}
-
-/// Reads up to a clause of the statement at this index of the algorithm at this index of a list.
-fn reach_clause(
-    alloc: Global,
-    tokens: &[Located],
-    reached: Reached,
-    list: OuterList,
-    index: usize,
-    statement: usize,
-    item: Item,
-) -> Result<Option<Stop>, AllocError>
-    requires few { length tokens.now ≤ most_bytes }
-    requires reached { IsReached tokens.now reached }
-    requires owner { to_owner item.list ≡ to_inner list index inner_list.Statements statement }
-    ensures { IfOk result (λ o. IfSome o (IsStop tokens.now (to_item item))) }
-{
-    if let Some(stop) = reach_again(alloc, tokens, reached, item)? {
-        return Ok(Some(stop));
-    }
-    let owner = inner(list, index, InnerList::Statements, statement);
-    match reach_inner(alloc, tokens, reached, list, index, owner)? {
-        Some(at_statement) => reach_within(alloc, tokens, at_statement, item),
-        None => Ok(None),
-    }
-}
-
-/// Reads up to an item of a list.
+/// Reads up to an item, from the last place on the way to it that was reached before, or up to the beginning of the text
+/// if no item is given.
 fn reach_item(
     alloc: Global,
     tokens: &[Located],
     reached: Reached,
-    item: Item,
+    item: Option<Item>,
 ) -> Result<Option<Stop>, AllocError>
     requires few { length tokens.now ≤ most_bytes }
     requires reached { IsReached tokens.now reached }
-    ensures { IfOk result (λ o. IfSome o (IsStop tokens.now (to_item item))) }
+    ensures { IfOk result (λ o. IfSome o (IsStop tokens.now (to_item_if item))) }
 {
-    match item.list {
-        ItemList::Outer(list) => reach_outer(alloc, tokens, reached, list, item),
-        ItemList::Inner(list, index, _) => {
-            reach_inner(alloc, tokens, reached, list, index, item)
-        }
-        ItemList::Clauses(list, index, statement) => {
-            reach_clause(alloc, tokens, reached, list, index, statement, item)
-        }
+    let Some(item) = item else {
+        return Ok(Some(before_all(tokens, reached)));
+    };
+    if let Some(stop) = reach_again(alloc, tokens, reached, item)? {
+        return Ok(Some(stop));
     }
-}
-
-/// Reads up to the name of the application.
-fn reach_application(
-    alloc: Global,
-    tokens: &[Located],
-    reached: Reached,
-) -> Result<Option<Stop>, AllocError>
-    requires few { length tokens.now ≤ most_bytes }
-    requires reached { IsReached tokens.now reached }
-    ensures { IfOk result (λ o. IfSome o (IsStop tokens.now to_application)) }
-{
-    let mut cursor = Cursor::new(alloc, tokens);
-    if !is_read(to_application(&mut cursor))? {
-        return Ok(None);
+    match reach_item(alloc, tokens, reached, owner_of(item.list))? {
+        Some(owner) => reach_within(alloc, tokens, owner, item),
+        None => Ok(None),
     }
-    Ok(Some(Stop {
-        left: cursor.left(),
-        reached,
-    }))
 }
 
 /// Reads up to a position of a declaration, from where these tokens were read before.
@@ -482,14 +334,11 @@ pub(crate) fn reach(
     requires reached { IsReached tokens.now reached }
     ensures { IfOk result (λ o. IfSome o (IsStop tokens.now (to_position position))) }
 {
-    let Some(item) = item_of(position) else {
-        return reach_application(alloc, tokens, reached);
-    };
-    let Some(at_item) = reach_item(alloc, tokens, reached, item)? else {
+    let Some(at_item) = reach_item(alloc, tokens, reached, item_of(position))? else {
         return Ok(None);
     };
     let mut cursor = Cursor::new(alloc, last(tokens, at_item.left));
-    if !is_read(from_item(&mut cursor, position))? {
+    if !is_read(take_all(&mut cursor, to_part(position)))? {
         return Ok(None);
     }
     Ok(Some(Stop {

@@ -10,4 +10,4 @@ returns c =
     let from = c.args.from in
     let ps = c.args.tokens.now in
     left_as (Leaves (pass_items i.list (i.index - from.item.index)) c.last.result.now) (Leaves (to_item i) ps) _
-    (λ n passed. item_after ps c.last.result.now i from n c.requires.listed c.requires.ahead c.last.ensures passed) c.left_past.ensures
+    (λ n passed. item_after ps c.last.result.now i from n c.requires.listed c.requires.ahead c.last.ensures passed) c.left_past_items.ensures

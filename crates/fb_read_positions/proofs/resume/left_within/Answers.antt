@@ -16,4 +16,4 @@ returns c =
     was_read (to_first i.list c.new-cursor.result) mid c.to_first.result c.to_first.ensures (c.in_ok-is_read.ensures c.if-not-branch.false) in
     left_as (Leaves (pass_items i.list i.index) rest) (Leaves (to_item i) ps) _
     (λ n passed. item_within ps here rest i c.args.owner n mid c.requires.owner c.last-tokens.ensures (ap (to_first i.list) (sym c.new-cursor.ensures) ∙ first)
-    (c.last.ensures ∙ ap (λ k. drop (length here - k) here) c.left.ensures) passed) c.left_past.ensures
+    (c.last.ensures ∙ ap (λ k. drop (length here - k) here) c.left.ensures) passed) c.left_past_items.ensures
