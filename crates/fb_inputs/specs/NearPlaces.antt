@@ -41,7 +41,7 @@ IsNextRow old new left (Some row) =
 abbrev pub IsSearch : Text → Search → Type 0
 IsSearch text search = IsScan text search.scan × IsReaderOf text search.reader
 
--- The bytes are those of a field, by the indices of the record, the heading among them, and of the field in it.
+-- The bytes are those of a field, by the indexes of the record, the heading among them, and of the field in it.
 pub record IsFieldAt (text : Text) (record_index field : ℕ) (span : Span) : Type 0 where
   pub begin : ℕ
   pub record_begins : IsNth text (begins_record text) record_index begin

@@ -45,5 +45,6 @@ pub use location::{RowFault, StimuliFault, StimuliLocation};
 pub use near_deployment::{nearest_in_deployment, span_in_deployment};
 pub use near_stimuli::nearest_spans;
 pub use position::{DeployPosition, StimuliPosition, deploy_position, stimuli_position};
+pub use row_positions::record_at;
 pub use stimuli::{locate_stimuli, read_stimuli, records_of, stimuli_location};
 pub use text::name;

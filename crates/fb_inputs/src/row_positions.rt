@@ -1,8 +1,9 @@
 //! The fields of a text in CSV, as the reader of CSV reads them.
 
-ghost use Rattle.std.specs.Prelude.{◌≡◌, ◌+◌, ◌<◌, ◌^◌, IfOk, IfSome, IsSomeAnd, IsTrue, Some};
+ghost use Rattle.std.specs.Prelude.{◌≡◌, ◌+◌, ◌<◌, ◌^◌, IfOk, IfSome, IsSomeAnd, IsTrue, Some, option_map, slice_get};
+ghost use Rattle.csv.specs.Reading.{default_config, records, strip_bom};
 ghost use Rattle.csv.specs.Records.{field_at, fields_of};
-ghost use Rattle.fb_inputs.specs.Readers.{IsAt, IsReaderOf};
+ghost use Rattle.fb_inputs.specs.Readers.{IsAt, IsReaderOf, rows_from};
 ghost use Rattle.fb_inputs.specs.Counts.{Text};
 ghost use Rattle.fb_inputs.specs.NearPlaces.{IsNextRow};
 ghost use Rattle.fb_inputs.specs.Records.{IsReadAt};
@@ -23,6 +24,40 @@ fn next_row(rows: &mut ByteRecordsIntoIter<&[u8]>) -> Result<Option<ByteRecord>,
         Ok(row) => Ok(Some(row)),
         Err(_) => Err(AllocError),
     }
+}
+
+/// The record with this index among those that are left, if there is one.
+fn nth_row(
+    rows: &mut ByteRecordsIntoIter<&[u8]>,
+    index: usize,
+) -> Result<Option<ByteRecord>, AllocError>
+    requires { (left : Text) × IsAt rows.old left }
+    ensures { (left : Text) → IsAt rows.old left → IfOk result (λ o. option_map fields_of o ≡ slice_get (rows_from rows.old.rdr.state left) index) }
+{
+    for _ in 0..index {
+        match next_row(rows)? {
+            Some(row) => drop(row),
+            None => return Ok(None),
+        }
+    }
+    next_row(rows)
+}
+
+/// The record with this index, the heading among them, as the reader of CSV reads it. `None` if the text has no such
+/// record.
+///
+/// # Errors
+///
+/// When memory runs out.
+pub fn record_at(
+    alloc: Global,
+    text: &[u8],
+    record_index: usize,
+) -> Result<Option<ByteRecord>, AllocError>
+    ensures { IfOk result (λ o. option_map fields_of o ≡ slice_get (records default_config (strip_bom text.now)) record_index) }
+{
+    let mut rows = records_of(alloc, text);
+    nth_row(&mut rows, record_index)
 }
 
 /// A reader of the records of a text, one after another.
@@ -118,7 +153,7 @@ fn count_to(record_index: usize) -> Option<usize>
     record_index.checked_add(1)
 }
 
-/// Whether the reader of CSV reads this value as a field of a text, by the indices of the record and the field. It
+/// Whether the reader of CSV reads this value as a field of a text, by the indexes of the record and the field. It
 /// reads on for that, or from the beginning of the text if it has read a later record.
 pub(crate) fn reads_field<'a>(
     alloc: Global,

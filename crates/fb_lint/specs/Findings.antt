@@ -7,7 +7,7 @@ use Rattle.fb_types.specs.Names.{Name}
 abbrev pub when : {A : Type 0} → Bool → A → List A
 when b x = if b then x ∷ [] else []
 
--- what is found at each element, whose indices begin at a number
+-- what is found at each element, whose indexes begin at a number
 abbrev pub each_from : {A B : Type 0} → (ℕ → A → List B) → ℕ → List A → List B
 each_from f k [] = []
 each_from f k (x ∷ xs) = f k x ++ each_from f (k + 1) xs

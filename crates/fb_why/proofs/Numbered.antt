@@ -1,5 +1,5 @@
 -- The findings of a number, from the locations of a library and a plan to the bytes that were read.
-use Rattle.std.proofs.Common.{◌≡◌, ℕ, suc, false, List, [], ◌∷◌, map, take, length, Option, Some, None, Result, Ok, Err, Vec, Global, refl, sym, ◌∙◌, ap, subst, inl, inr}
+use Rattle.std.proofs.Common.{◌≡◌, ℕ, suc, false, List, [], ◌∷◌, map, take, length, Option, Some, None, Result, Ok, Err, refl, sym, ◌∙◌, ap, subst, inl, inr}
 use Rattle.std.specs.Prelude.{All, IfOk, IfSome, MatchOption, nat_lt}
 use Rattle.std.specs.Option.{option_to_list}
 use Rattle.std.proofs.lemmas.List.Elements.{All-cons, All-map, All-nil, All-take, All-weaker}
@@ -33,13 +33,6 @@ list_spots f lib plan stimuli at found xs ss is same each none all =
       none = λ h. none (none_mapped at xs (sym e ∙ h));
       all = subst (λ (ss : List Spot). AreAll f lib plan stimuli ss) (sym e) all;
     }
-
-pub spots_of :
-    {T E : Type 0} (f : Fault) (lib : Library) (plan : Plan) (stimuli : List Stimulus) (at : T → Spot) (made : Result (Vec Spot Global) E) (found xs : List T)
-    → IfOk made (λ v. v.items ≡ map at found) → found ≡ xs → All (λ p. AppliesAt f lib plan stimuli (at p)) xs → (xs ≡ [] → AppliesNowhere f lib plan stimuli)
-    → AreAll f lib plan stimuli (map at xs) → IfOk made (λ v. AreSpots f lib plan stimuli v.items)
-spots_of f lib plan stimuli at (Err e) found xs is same each none all = tt
-spots_of f lib plan stimuli at (Ok v) found xs is same each none all = list_spots f lib plan stimuli at found xs v.items is same each none all
 
 -- ---- What is read
 

@@ -7,7 +7,7 @@ use fb_read_positions::Text;
 use fb_types::{Body, Expr, Stmt};
 use std::alloc::{AllocError, Global};
 
-/// An algorithm or a guard, by the indices of its block type and its own.
+/// An algorithm or a guard, by the indexes of its block type and its own.
 #[derive(Clone, Copy, PartialEq, Eq)]
 pub(crate) enum Source {
     Algorithm(usize, usize),

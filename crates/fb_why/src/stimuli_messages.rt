@@ -1,7 +1,7 @@
 //! The texts that say where stimuli are refused.
 
 use csv::ByteRecord;
-use fb_inputs::{RowFault, StimuliLocation, records_of};
+use fb_inputs::{RowFault, StimuliLocation, record_at};
 use fb_read_positions::Text;
 use std::alloc::{AllocError, Global};
 
@@ -30,12 +30,11 @@ pub fn stimuli_message(
 /// Adds what is wrong with the record at this index; the one at 0 is the heading. There is no text if it was not read
 /// because memory ran out.
 fn push_record(alloc: Global, text: &mut Text, bytes: &[u8], at: usize, fault: Option<RowFault>) {
-    let mut records = records_of(alloc, bytes);
-    match (records.nth(at), fault) {
-        (Some(Ok(row)), Some(fault)) => push_fault(text, &row, fault),
-        (Some(Ok(first)), None) => push_fields(text, &first),
-        (Some(Err(_)), _) => text.give_up(),
-        (None, _) => {}
+    match (record_at(alloc, bytes, at), fault) {
+        (Ok(Some(row)), Some(fault)) => push_fault(text, &row, fault),
+        (Ok(Some(first)), None) => push_fields(text, &first),
+        (Ok(None), _) => {}
+        (Err(_), _) => text.give_up(),
     }
 }
 

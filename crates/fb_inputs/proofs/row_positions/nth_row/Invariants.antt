@@ -1,0 +1,5 @@
+use Rattle.fb_inputs.proofs.ReadOn.{ArePassed}
+use Rattle.fb_inputs.proofs.row_positions.nth_row.Given as goal
+
+abbrev pub invariant-loop : goal.invariant-loop
+invariant-loop l = ArePassed l.fn.rows l.rows l.counter
