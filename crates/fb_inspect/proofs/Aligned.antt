@@ -95,9 +95,6 @@ module _ (i : Inputs) (accepted : AreAccepted i) (names : HasNames (system_of i)
     pub next : Next form end line rest back
     pub forms : (b : run.Line) (cs : List run.Line) → bs ≡ b ∷ cs → form ≡ f
 
-  lines_text_of : Form → List run.Line → List ℕ
-  lines_text_of form ls = lines_text form sys (map (line_of sys) ls)
-
   module _ (form f : Form) (end : Ending) (can : IsEndOf sys end) (line rest : List ℕ) (alone : line ≡ take_through 10 (line ++ rest)) where
     -- the lines that were read are over
     at_next : (ls : List run.Line) (tick : ℕ) → All (IsLineOf sys) ls → RiseFrom tick ls → lines_text form sys (map (line_of sys) ls) ++ last_line sys end ≡ line ++ rest → IsAligned form f ls [] tick end line rest

@@ -1,10 +1,10 @@
 -- What changes inside a block, and what is kept of it.
-use Rattle.std.proofs.Common.{◌≡◌, ◌<◌, ℕ, Bool, true, false, cond, List, [], ◌∷◌, ◌++◌, ◌||◌, length, drop, get_or, map, Option, Some, None, refl, sym, ap, subst, ◌∙◌, append_assoc, append-nil, arith}
+use Rattle.std.proofs.Common.{◌≡◌, ◌<◌, ℕ, Bool, true, false, cond, List, [], ◌∷◌, ◌++◌, ◌||◌, length, get_or, map, Option, Some, None, refl, sym, ap, subst, ◌∙◌, append_assoc, append-nil, arith}
 use Rattle.std.specs.Prelude.{IfNone, codes, decimal, slice_get}
 use Rattle.std.specs.List.{list_any}
 use Rattle.std.proofs.lemmas.Bool.{false_from_ne_true}
-use Rattle.std.proofs.lemmas.List.{drop_at, get_or-map, length-map, map-append}
-use Rattle.fb_types.specs.Blocks.{Kind, Basic, Composite, Event, variable_names}
+use Rattle.std.proofs.lemmas.List.{get_or-map}
+use Rattle.fb_types.specs.Blocks.{Kind, Basic, Composite, Event}
 use Rattle.fb_types.specs.Names.{Name, Path, same_name}
 use Rattle.fb_types.specs.Numbers.{path_at}
 use Rattle.fb_types.specs.Systems.{System}
@@ -13,21 +13,19 @@ use Rattle.fb_types.specs.declared.value.Value.{Value}
 use Rattle.fb_types.specs.declared.event_kind.EventKind.{EventKind}
 use Rattle.fb_types.specs.declared.library.BasicType.{BasicType}
 use Rattle.fb_types.specs.declared.library.CompositeType.{CompositeType}
-use Rattle.fb_types.specs.declared.library.Variable.{Variable}
 use Rattle.fb_types.proofs.ByIndex.{element_at}
 use Rattle.fb_types.proofs.NameLaws.{same_from_same_name, same_name-itself}
 use Rattle.fb_coverage.specs.Sets.{with_taken}
 use Rattle.fb_coverage.specs.declared.marks.ChartMarks.{ChartMarks}
 use Rattle.fb_inspect.specs.Chains.{Piece, Clears_by, Is_lost, Ran, Stops_by, Has, Emits}
 use Rattle.fb_wave.specs.Scopes.{declares}
-use Rattle.fb_inspect.specs.Looks.{Look, Seen, Turn}
+use Rattle.fb_inspect.specs.Looks.{Look, Seen, Taking}
 use Rattle.fb_inspect.specs.Markings.{PieceMarks, PiecesMark}
-use Rattle.fb_inspect.specs.Notes.{own_variables}
 use Rattle.fb_inspect.specs.Walking.{AreKept, IsChartKept, IsKept}
 use Rattle.fb_inspect.specs.declared.blocks.Chart.{Chart}
 use Rattle.fb_inspect.specs.declared.blocks.Remembered.{Remembered}
 use Rattle.fb_inspect.specs.declared.blocks.Remembered.TheVariants as kept
-use Rattle.fb_inspect.specs.Inner.{chart_changes, internal_change, internal_code, is_loss, lost_code, of_chart, state_change, state_changed, state_code, turn_changes, value_by}
+use Rattle.fb_inspect.specs.Inner.{chart_changes, internal_change, internal_code, is_loss, lost_code, of_chart, state_change, state_changed, state_code, taking_changes, value_by}
 use Rattle.fb_inspect.specs.Saved.{IsBefore, IsSaved}
 use Rattle.fb_inspect.specs.declared.before.Before.{Before}
 
@@ -43,12 +41,6 @@ state_other i before after other =
     ap (λ (b : Bool). cond b [] (state_changed i after)) (sym (false_from_ne_true (same_name after before) (λ e. other (same_from_same_name after before e))))
 
 -- ---- Variables
-
-pub internals_are : (t : BasicType) (own : List Name) (n : ℕ) → own ≡ own_variables t → n ≡ length t.ports.outputs → drop n own ≡ variable_names t.internals
-internals_are t own n is long =
-    let name : Variable → Name = λ v. v.name in
-    ap (drop n) (is ∙ map-append name t.ports.outputs t.internals)
-    ∙ drop_at (map name t.ports.outputs) (map name t.internals) n (length-map t.ports.outputs name ∙ sym long)
 
 -- a value that was kept
 pub value_at : (xs : List Value) (f : Values) (ns : List Name) (k : ℕ) (n : Name) (d : Value) → xs ≡ map f ns → k < length ns → n ≡ get_or ns k n → get_or xs k d ≡ f n
@@ -140,11 +132,11 @@ none_any (Some x) P p = tt
 
 -- ---- What a taking changes
 
-pub turn_text :
-    (sys : System) (here look after : Look) (x : Turn) (i : ℕ) (p : Path) (is_lost : Bool) → here ≡ look → x.first.at ≡ p → x.after ≡ after → sys.number p ≡ i
+pub taking_text :
+    (sys : System) (here look after : Look) (x : Taking) (i : ℕ) (p : Path) (is_lost : Bool) → here ≡ look → x.first.at ≡ p → x.after ≡ after → sys.number p ≡ i
     → ((t : BasicType) → sys.kind p ≡ Some (Basic t) → list_any is_loss x.pieces ≡ is_lost)
-    → of_chart (chart_changes i (look.blocks p) (after.blocks p) is_lost) (sys.kind p) ≡ turn_changes sys here x
-turn_text sys here look after x i p is_lost same at then number lost =
+    → of_chart (chart_changes i (look.blocks p) (after.blocks p) is_lost) (sys.kind p) ≡ taking_changes sys here x
+taking_text sys here look after x i p is_lost same at then number lost =
     same_chart_text (chart_changes i (look.blocks p) (after.blocks p) is_lost) (chart_changes i (look.blocks p) (after.blocks p) (list_any is_loss x.pieces)) (sys.kind p)
     (λ t is. ap (λ (b : Bool). chart_changes i (look.blocks p) (after.blocks p) b t) (sym (lost t is)))
     ∙ ap (λ (k : ℕ). of_chart (chart_changes k (look.blocks p) (after.blocks p) (list_any is_loss x.pieces)) (sys.kind p)) (sym number)

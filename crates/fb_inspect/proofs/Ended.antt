@@ -26,12 +26,11 @@ use Rattle.fb_inspect.specs.Covering.{Covers, IsCovered, IsCoveredBy, IsCutCover
 use Rattle.fb_inspect.specs.Happenings.{History, together}
 use Rattle.fb_inspect.specs.Inspections.{IsCutInspected, IsCutShown, IsInspected, IsShown, IsShownBy, ShowsFront, all_text, cut_note, one_text}
 use Rattle.fb_inspect.specs.Lines.{IsNext}
-use Rattle.fb_inspect.specs.Looks.{Turn}
+use Rattle.fb_inspect.specs.Looks.{Taking}
 use Rattle.fb_inspect.specs.Pages.{IsCutShort}
 use Rattle.fb_inspect.specs.Walking.{Begins, Finishes, FinishesCut, IsComplete, IsCutAfter, IsGone, IsSevered, SendsCutPart, SendsPart, Starts}
 use Rattle.fb_inspect.specs.declared.error.InspectError.{InspectError}
 use Rattle.fb_inspect.specs.declared.error.InspectError.TheVariants.{Refused, Names, Unknown, Memory, Read, Write}
-use Rattle.fb_inspect.specs.declared.page.Page.{Page}
 use Rattle.fb_inspect.specs.declared.reading.Reading.{Reading}
 use Rattle.fb_inspect.specs.declared.walk.Extent.{Extent}
 use Rattle.fb_inspect.specs.declared.walk.Extent.TheVariants.{CutOff, Whole}
@@ -54,7 +53,7 @@ module _ (i : Inputs) (form : Form) (only : List Name) (steps : ℕ) (first : Ma
 
     inspected_as :
         (text : List ℕ) → text ≡ trace_text form its_system (map (line_of its_system) complete.gone.lines) (ending_of end)
-        → IsInspected its_system only steps text (all_text form its_system only complete.turns ++ last_line its_system (ending_of end))
+        → IsInspected its_system only steps text (all_text form its_system only complete.takings ++ last_line its_system (ending_of end))
     inspected_as text is = record {
       form = form;
       lines = complete.gone.lines;
@@ -65,7 +64,7 @@ module _ (i : Inputs) (form : Form) (only : List Name) (steps : ℕ) (first : Ma
         ends = ends_after (last_tick 0 complete.gone.lines) (last_tick 0 complete.gone.lines) end refl complete.after;
         is = is;
       };
-      turns = complete.turns;
+      takings = complete.takings;
       lines_are = complete.gone.lines_are;
       ends = complete.ends;
       written = refl;
@@ -88,12 +87,12 @@ module _ (i : Inputs) (form : Form) (only : List Name) (steps : ℕ) (first : Ma
     complete_shown new finished =
         of_text (λ text. IsShown its_system only steps text old new) finished.over
         (λ text is. record {
-          bytes = all_text form its_system only complete.turns ++ last_line its_system (ending_of end);
+          bytes = all_text form its_system only complete.takings ++ last_line its_system (ending_of end);
           inspected = inspected_as text is;
           got = subst (Appends old new)
               (sym (append_assoc complete.gone.sent walk.trail.page.text.items walk.trail.reading.line.items)
               ∙ ap (λ (t : List ℕ). t ++ walk.trail.reading.line.items) complete.gone.text
-              ∙ ap (λ (t : List ℕ). all_text form its_system only complete.turns ++ t) complete.last.is)
+              ∙ ap (λ (t : List ℕ). all_text form its_system only complete.takings ++ t) complete.last.is)
               (Appends-trans old mid new complete.gone.sent (walk.trail.page.text.items ++ walk.trail.reading.line.items) complete.gone.got finished.got);
         })
 
@@ -103,7 +102,7 @@ module _ (i : Inputs) (form : Form) (only : List Name) (steps : ℕ) (first : Ma
     complete_covered over =
         of_text (λ text. IsCovered i only steps text first walk.trail.marks) over
         (λ text is. record {
-          bytes = all_text form its_system only complete.turns ++ last_line its_system (ending_of end);
+          bytes = all_text form its_system only complete.takings ++ last_line its_system (ending_of end);
           inspected = inspected_as text is;
           charts = complete.marked.charts;
           ports = complete.marked.ports;
@@ -113,7 +112,7 @@ module _ (i : Inputs) (form : Form) (only : List Name) (steps : ℕ) (first : Ma
     pub complete_part : (new : Option (List ℕ)) → SendsPart walk mid new → ShowsFront its_system only steps old new
     complete_part new part = record {
       form = form;
-      turns = complete.turns;
+      takings = complete.takings;
       taken = complete.gone.taken;
       last = walk.trail.reading.line.items;
       ends = inr (inl (ending_of end, complete.last.is));
@@ -129,14 +128,14 @@ module _ (i : Inputs) (form : Form) (only : List Name) (steps : ℕ) (first : Ma
   module _ (walk : Walk) (input old mid : Option (List ℕ)) (off : IsSevered types_of first its_system form only walk input old mid) where
     cut_inspected :
         (text : List ℕ) → IsCutAfter text (lines_text form its_system (map (line_of its_system) (off.lines ++ off.untaken)))
-        → IsCutInspected its_system only text (all_text form its_system only off.turns ++ (one_text form its_system only off.untaken ++ cut_note))
+        → IsCutInspected its_system only text (all_text form its_system only off.takings ++ (one_text form its_system only off.untaken ++ cut_note))
     cut_inspected text after = record {
       form = form;
       lines = off.lines;
       untaken = off.untaken;
       trace = record { lines = off.are; part = after.part; unended = after.unended; is = after.is };
       of_one = off.of_one;
-      turns = off.turns;
+      takings = off.takings;
       lines_are = off.lines_are;
       chain = off.chain;
       goes_on = off.goes_on;
@@ -148,12 +147,12 @@ module _ (i : Inputs) (form : Form) (only : List Name) (steps : ℕ) (first : Ma
     severed_shown new finished =
         on_some input _ _ off.rest
         (λ text after. record {
-          bytes = all_text form its_system only off.turns ++ (one_text form its_system only off.untaken ++ cut_note);
+          bytes = all_text form its_system only off.takings ++ (one_text form its_system only off.untaken ++ cut_note);
           inspected = cut_inspected text after;
           got = subst (Appends old new)
               (sym (append_assoc off.sent walk.trail.page.text.items cut_note)
               ∙ ap (λ (t : List ℕ). t ++ cut_note) off.text
-              ∙ append_assoc (all_text form its_system only off.turns) (one_text form its_system only off.untaken) cut_note)
+              ∙ append_assoc (all_text form its_system only off.takings) (one_text form its_system only off.untaken) cut_note)
               (Appends-trans old mid new off.sent (walk.trail.page.text.items ++ cut_note) off.got finished.got);
         })
 
@@ -163,7 +162,7 @@ module _ (i : Inputs) (form : Form) (only : List Name) (steps : ℕ) (first : Ma
     severed_covered =
         on_some input _ _ off.rest
         (λ text after. record {
-          bytes = all_text form its_system only off.turns ++ (one_text form its_system only off.untaken ++ cut_note);
+          bytes = all_text form its_system only off.takings ++ (one_text form its_system only off.untaken ++ cut_note);
           inspected = cut_inspected text after;
           charts = off.marked.charts;
           ports = off.marked.ports;
@@ -173,13 +172,13 @@ module _ (i : Inputs) (form : Form) (only : List Name) (steps : ℕ) (first : Ma
     pub severed_part : (new : Option (List ℕ)) → SendsCutPart walk mid new → ShowsFront its_system only steps old new
     severed_part new part = record {
       form = form;
-      turns = off.turns;
+      takings = off.takings;
       taken = inl off.chain;
       last = one_text form its_system only off.untaken ++ cut_note;
       ends = inr (inr (off.untaken, off.of_one, refl));
       got = off.sent ++ part.got;
       rest = part.rest;
-      parts = sym (append_assoc (all_text form its_system only off.turns) (one_text form its_system only off.untaken) cut_note)
+      parts = sym (append_assoc (all_text form its_system only off.takings) (one_text form its_system only off.untaken) cut_note)
           ∙ ap (λ (t : List ℕ). t ++ cut_note) (sym off.text)
           ∙ append_assoc off.sent walk.trail.page.text.items cut_note
           ∙ ap (λ (t : List ℕ). off.sent ++ t) part.parts
@@ -192,7 +191,7 @@ module _ (i : Inputs) (form : Form) (only : List Name) (steps : ℕ) (first : Ma
       (walk : Walk) (line : List ℕ) (input remaining old : Option (List ℕ)) → walk.trail.page.text.items ≡ [] → Consumes input remaining line → IsFirstLine line input
       → is_unended line ≡ true → walk.trail.marks ≡ first → IsSevered types_of first its_system form only walk input old old
   severed_none walk line input remaining old empty read one short same = record {
-    turns = [];
+    takings = [];
     goes_on = tt;
     chain = tt;
     lines = [];
@@ -225,7 +224,7 @@ severed_covers may i only steps input remaining line marks allowed read one shor
           untaken = [];
           trace = record { lines = record { each = All-nil (IsLineOf (system_of i)); rise = tt }; part = after.part; unended = after.unended; is = after.is };
           of_one = tt;
-          turns = [];
+          takings = [];
           lines_are = refl;
           chain = tt;
           goes_on = tt;
@@ -254,10 +253,10 @@ covers_by :
     (may : Cut) (i : Inputs) → AreAccepted i → (only : List Name) (steps : ℕ) (text : List ℕ) (first last : Marks) (extent : Extent) → IsCoveredBy may i only steps text first last extent
     → Covers may i steps text first last extent
 covers_by may i accepted only steps text first last Whole covered =
-    let h : History = record { turns = covered.inspected.turns; lines = covered.inspected.lines } in
+    let h : History = record { takings = covered.inspected.takings; lines = covered.inspected.lines } in
     record { only = only; history = h; goes = (covered.bytes, covered.inspected, refl); marked = marked_by i accepted h first last covered.charts covered.ports }
 covers_by may i accepted only steps text first last CutOff (allowed, covered) =
-    let h : History = record { turns = covered.inspected.turns; lines = covered.inspected.lines } in
+    let h : History = record { takings = covered.inspected.takings; lines = covered.inspected.lines } in
     record { only = only; history = h; goes = (allowed, covered.bytes, covered.inspected, refl); marked = marked_by i accepted h first last covered.charts covered.ports }
 
 pub covers_of :
@@ -271,38 +270,38 @@ covers_of may i accepted only steps known own first last extent same is =
 
 -- what the writer got is the front of what is shown of the takings that were gone through
 pub front_gone :
-    (sys : System) (form : Form) (only : List Name) (steps : ℕ) (walk : Walk) (turns : List Turn) (input remaining old new : Option (List ℕ))
-    → IsGone sys form only steps walk turns input remaining old new → ShowsFront sys only steps old new
-front_gone sys form only steps walk turns input remaining old new gone = record {
+    (sys : System) (form : Form) (only : List Name) (steps : ℕ) (walk : Walk) (takings : List Taking) (input remaining old new : Option (List ℕ))
+    → IsGone sys form only steps walk takings input remaining old new → ShowsFront sys only steps old new
+front_gone sys form only steps walk takings input remaining old new gone = record {
   form = form;
-  turns = turns;
+  takings = takings;
   taken = gone.taken;
   last = [];
   ends = inl refl;
   got = gone.sent;
   rest = walk.trail.page.text.items;
-  parts = append-nil (all_text form sys only turns) ∙ sym gone.text;
+  parts = append-nil (all_text form sys only takings) ∙ sym gone.text;
   appended = gone.got;
 }
 
 -- .. where a part of what waits was sent after it
 pub front_flush :
-    (sys : System) (form : Form) (only : List Name) (steps : ℕ) (walk : Walk) (turns : List Turn) (input remaining old mid new : Option (List ℕ)) (e : InspectError)
-    → IsGone sys form only steps walk turns input remaining old mid → IsCutShort mid new walk.trail.page e → ShowsFront sys only steps old new
-front_flush sys form only steps walk turns input remaining old mid new (Refused n) gone short = absurd short
-front_flush sys form only steps walk turns input remaining old mid new Names gone short = absurd short
-front_flush sys form only steps walk turns input remaining old mid new Unknown gone short = absurd short
-front_flush sys form only steps walk turns input remaining old mid new Memory gone short = absurd short
-front_flush sys form only steps walk turns input remaining old mid new Read gone short = absurd short
-front_flush sys form only steps walk turns input remaining old mid new (Write n) gone short = record {
+    (sys : System) (form : Form) (only : List Name) (steps : ℕ) (walk : Walk) (takings : List Taking) (input remaining old mid new : Option (List ℕ)) (e : InspectError)
+    → IsGone sys form only steps walk takings input remaining old mid → IsCutShort mid new walk.trail.page e → ShowsFront sys only steps old new
+front_flush sys form only steps walk takings input remaining old mid new (Refused n) gone short = absurd short
+front_flush sys form only steps walk takings input remaining old mid new Names gone short = absurd short
+front_flush sys form only steps walk takings input remaining old mid new Unknown gone short = absurd short
+front_flush sys form only steps walk takings input remaining old mid new Memory gone short = absurd short
+front_flush sys form only steps walk takings input remaining old mid new Read gone short = absurd short
+front_flush sys form only steps walk takings input remaining old mid new (Write n) gone short = record {
   form = form;
-  turns = turns;
+  takings = takings;
   taken = gone.taken;
   last = [];
   ends = inl refl;
   got = gone.sent ++ short.sent;
   rest = short.missing;
-  parts = append-nil (all_text form sys only turns) ∙ sym gone.text ∙ ap (λ (t : List ℕ). gone.sent ++ t) short.parts ∙ sym (append_assoc gone.sent short.sent short.missing);
+  parts = append-nil (all_text form sys only takings) ∙ sym gone.text ∙ ap (λ (t : List ℕ). gone.sent ++ t) short.parts ∙ sym (append_assoc gone.sent short.sent short.missing);
   appended = Appends-trans old mid new gone.sent short.sent gone.got short.got;
 }
 
@@ -310,7 +309,7 @@ front_flush sys form only steps walk turns input remaining old mid new (Write n)
 pub front_none : (sys : System) (only : List Name) (steps : ℕ) (old : Option (List ℕ)) → ShowsFront sys only steps old old
 front_none sys only steps old = record {
   form = One;
-  turns = [];
+  takings = [];
   taken = inl tt;
   last = [];
   ends = inl refl;
@@ -324,32 +323,6 @@ front_none sys only steps old = record {
 pub some_text : (remaining : Option (List ℕ)) (line : List ℕ) → (known : Option (List ℕ)) × Consumes known remaining line
 some_text None line = (None, tt)
 some_text (Some rest) line = (Some (line ++ rest), refl)
-
--- the writer failed before it got all of the text and the last line
-pub part_sent : (walk : Walk) (page : Page) (old new : Option (List ℕ)) (e : InspectError) → page.text.items ≡ walk.trail.page.text.items ++ walk.trail.reading.line.items → IsCutShort old new page e
-    → SendsPart walk old new
-part_sent walk page old new (Refused n) text short = absurd short
-part_sent walk page old new Names text short = absurd short
-part_sent walk page old new Unknown text short = absurd short
-part_sent walk page old new Memory text short = absurd short
-part_sent walk page old new Read text short = absurd short
-part_sent walk page old new (Write n) text short = record { got = short.sent; rest = short.missing; parts = sym text ∙ short.parts; appended = short.got }
-
-pub none_sent : (walk : Walk) (old : Option (List ℕ)) → SendsPart walk old old
-none_sent walk old = record { got = []; rest = walk.trail.page.text.items ++ walk.trail.reading.line.items; parts = refl; appended = Appends-nil old }
-
--- .. or the text and the note that it is cut off
-pub cut_part_sent : (walk : Walk) (page : Page) (old new : Option (List ℕ)) (e : InspectError) → page.text.items ≡ walk.trail.page.text.items ++ cut_note → IsCutShort old new page e
-    → SendsCutPart walk old new
-cut_part_sent walk page old new (Refused n) text short = absurd short
-cut_part_sent walk page old new Names text short = absurd short
-cut_part_sent walk page old new Unknown text short = absurd short
-cut_part_sent walk page old new Memory text short = absurd short
-cut_part_sent walk page old new Read text short = absurd short
-cut_part_sent walk page old new (Write n) text short = record { got = short.sent; rest = short.missing; parts = sym text ∙ short.parts; appended = short.got }
-
-pub none_cut_sent : (walk : Walk) (old : Option (List ℕ)) → SendsCutPart walk old old
-none_cut_sent walk old = record { got = []; rest = walk.trail.page.text.items ++ cut_note; parts = refl; appended = Appends-nil old }
 
 -- ---- The start
 

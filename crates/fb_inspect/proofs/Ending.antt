@@ -22,7 +22,7 @@ use Rattle.fb_wave.specs.declared.truncation.Cut.{Cut}
 use Rattle.fb_wave.specs.declared.truncation.Cut.TheVariants as cut
 use Rattle.fb_wave.proofs.Copied.{ends_after}
 use Rattle.fb_inspect.specs.Inspections.{all_lines}
-use Rattle.fb_inspect.specs.Looks.{turn_lines}
+use Rattle.fb_inspect.specs.Looks.{taking_lines}
 use Rattle.fb_inspect.specs.Pages.{IsCutShort}
 use Rattle.fb_inspect.specs.Refusals.{IsWrongAt}
 use Rattle.fb_inspect.specs.declared.error.InspectError.{InspectError}
@@ -31,7 +31,7 @@ use Rattle.fb_inspect.specs.declared.page.Page.{Page}
 use Rattle.fb_inspect.specs.declared.reading.Reading.{Reading}
 use Rattle.fb_inspect.proofs.Severing.{cut_whole, on_some}
 use Rattle.fb_inspect.specs.Dumping.{Shows, ShowsUntaken}
-use Rattle.fb_inspect.specs.StateDumps.{HaveLines, Taken, cut_dump, lines_of, state_dump, turns_of}
+use Rattle.fb_inspect.specs.StateDumps.{HaveLines, Taken, cut_dump, lines_of, state_dump, takings_of}
 use Rattle.fb_inspect.specs.StateWaves.{IsCutStateWave, IsShownWith, IsStateWave, WritesFront}
 use Rattle.fb_inspect.specs.Waving.{Begins, Finishes, FinishesCut, HasWaved, IsCut, IsWhole, SendsCutPart, SendsPart}
 use Rattle.fb_inspect.specs.declared.state_wave.StateWave.{StateWave}
@@ -292,10 +292,10 @@ shown_cut cut.Refused sys steps input old new same shown = absurd (cc)
 shown_cut cut.Allowed sys steps input old new same shown = on_some input _ _ shown (λ text is. inr is)
 
 -- the lines are those of the takings
-lines_are_of : (sys : System) (xs : List Taken) → HaveLines sys xs → map (line_of sys) (lines_of xs) ≡ all_lines (turns_of xs)
+lines_are_of : (sys : System) (xs : List Taken) → HaveLines sys xs → map (line_of sys) (lines_of xs) ≡ all_lines (takings_of xs)
 lines_are_of sys [] have = refl
 lines_are_of sys (x ∷ xs) have =
-    map-append (line_of sys) x.lines (lines_of xs) ∙ ap (λ (ls : List model.Line). ls ++ map (line_of sys) (lines_of xs)) have.0 ∙ ap (λ (ls : List model.Line). turn_lines x.turn ++ ls) (lines_are_of sys xs have.1)
+    map-append (line_of sys) x.lines (lines_of xs) ∙ ap (λ (ls : List model.Line). ls ++ map (line_of sys) (lines_of xs)) have.0 ∙ ap (λ (ls : List model.Line). taking_lines x.taking ++ ls) (lines_are_of sys xs have.1)
 
 -- more than the last line is left
 pub after_last :
@@ -318,7 +318,7 @@ after_last sys form steps x end text (Some rest) old mid n whole number more =
           ends = ends_after (last_tick 0 ls) (last_tick 0 ls) end refl whole.after;
           is = ap (λ (u : List ℕ). lines_text form sys (map (line_of sys) ls) ++ u) whole.last.is;
         };
-        turns = turns_of whole.takings;
+        takings = takings_of whole.takings;
         lines_are = lines_are_of sys whole.takings whole.waved.lines;
         ends = whole.ends;
       };

@@ -15,8 +15,8 @@ use Rattle.fb_types.specs.declared.run.Form.{Form}
 use Rattle.fb_types.specs.declared.run.Line.{Line}
 use Rattle.fb_inspect.specs.Chains.{ShowsReaction}
 use Rattle.fb_inspect.specs.Charting.{IsChartTaking, sys_of}
-use Rattle.fb_inspect.specs.Looks.{BlockTurns, ChartTurns, Look, Seen, TimerTurns, Turn, Turns, TurnsAt, TurnsWith, emission_line, emissions_by, emits_pieces, left_at, memory_pieces, reacted, with_left, with_seen}
-use Rattle.fb_inspect.specs.Refusals.{ChartFails, EmitsFail, FailsBy, HasRead, IsNoTurn, IsNotDue, TurnFails}
+use Rattle.fb_inspect.specs.Looks.{IsTaking, IsTakingAt, IsTakingByBlock, IsTakingByChart, IsTakingByTimer, IsTakingWith, Look, Seen, Taking, emission_line, emissions_by, emits_pieces, left_at, memory_pieces, reacted, with_left, with_seen}
+use Rattle.fb_inspect.specs.Refusals.{ChartFails, EmitsFail, FailsBy, HasRead, IsNoTaking, IsNotDue, TakingFails}
 use Rattle.fb_inspect.specs.Timing.{taken_reaction, taken_variables}
 use Rattle.fb_inspect.specs.Walking.{IsChartKept}
 use Rattle.fb_inspect.specs.declared.blocks.Chart.{Chart}
@@ -31,12 +31,12 @@ use Rattle.fb_inspect.proofs.Walked.{begun, started, starts}
 
 -- the line of an event that a basic block does not take
 pub untaken_chart : (sys : System) (k : Option Kind) (t : BasicType) (look : Look) (left : ℕ) (line : Line) (old new : Reading) (n : ℕ) → k ≡ Some (Basic t) → line.taken ≡ false → new ≡ old → n ≡ old.number
-    → IsNoTurn (TurnsAt left look k) sys line old new n
+    → IsNoTaking (IsTakingAt left look k) sys line old new n
 untaken_chart sys k t look left line old new n kind untaken same number = record {
   same = same;
   number_is = number;
-  none = λ x first turns.
-      let chart : ChartTurns left look t x = subst (λ (o : Option Kind). TurnsAt left look o x) kind turns in
+  none = λ x first is_taking.
+      let chart : IsTakingByChart left look t x = subst (λ (o : Option Kind). IsTakingAt left look o x) kind is_taking in
       let taken : line.taken ≡ true = sym (ap (λ (m : model.Line). m.taken) first) ∙ chart.taken in
       let both : true ≡ false = sym taken ∙ untaken in
       cc;
@@ -44,14 +44,14 @@ untaken_chart sys k t look left line old new n kind untaken same number = record
 
 -- .. or with which the timer of an event block does not go off
 pub not_due : (sys : System) (k : Option Kind) (kind : EventKind) (look : Look) (left : ℕ) (line : Line) (old new : Reading) (n : ℕ) → k ≡ Some (Event kind) → line.taken ≡ false
-    → IsNotDue sys kind (look.blocks (path_at sys line.instance)) line old new n → IsNoTurn (TurnsAt left look k) sys line old new n
+    → IsNotDue sys kind (look.blocks (path_at sys line.instance)) line old new n → IsNoTaking (IsTakingAt left look k) sys line old new n
 not_due sys k kind look left line old new n is untaken due = record {
   same = due.same;
   number_is = due.number_is;
-  none = λ x first turns. by x first (subst (λ (o : Option Kind). TurnsAt left look o x) is turns);
+  none = λ x first is_taking. by x first (subst (λ (o : Option Kind). IsTakingAt left look o x) is is_taking);
 }
   where
-    by : (x : Turn) → x.first ≡ line_of sys line → BlockTurns left look kind x ⊎ TimerTurns left look kind x → ⊥
+    by : (x : Taking) → x.first ≡ line_of sys line → IsTakingByBlock left look kind x ⊎ IsTakingByTimer left look kind x → ⊥
     by x first (inl block) =
         let taken : line.taken ≡ true = sym (ap (λ (m : model.Line). m.taken) first) ∙ block.taken in
         let both : true ≡ false = sym taken ∙ untaken in
@@ -66,49 +66,49 @@ not_due sys k kind look left line old new n is untaken due = record {
 
 -- a taking that comes too late, or has no step
 pub too_late : (sys : System) (limit : ℕ) (look : Look) (line : Line) (old new : Reading) (n : ℕ) → (line.key.tick ≤ 10 ^ 12 → ⊥) → new ≡ old → n ≡ old.number
-    → IsNoTurn (Turns sys limit look) sys line old new n
+    → IsNoTaking (IsTaking sys limit look) sys line old new n
 too_late sys limit look line old new n late same number = record {
   same = same;
   number_is = number;
-  none = λ x first turns. by x first (left_at limit x.first.key.tick (look.steps x.first.key.resource)) turns;
+  none = λ x first is_taking. by x first (left_at limit x.first.key.tick (look.steps x.first.key.resource)) is_taking;
 }
   where
-    by : (x : Turn) → x.first ≡ line_of sys line → (left : ℕ) → TurnsWith sys look left x → ⊥
-    by x first zero turns = turns
-    by x first (suc left) turns = late (subst (λ (m : model.Line). m.key.tick ≤ 10 ^ 12) first turns.0)
+    by : (x : Taking) → x.first ≡ line_of sys line → (left : ℕ) → IsTakingWith sys look left x → ⊥
+    by x first zero is_taking = is_taking
+    by x first (suc left) is_taking = late (subst (λ (m : model.Line). m.key.tick ≤ 10 ^ 12) first is_taking.0)
 
 pub no_step : (sys : System) (limit : ℕ) (look : Look) (line : Line) (old new : Reading) (n : ℕ) → left_at limit line.key.tick (look.steps line.key.resource) ≡ 0 → new ≡ old → n ≡ old.number
-    → IsNoTurn (Turns sys limit look) sys line old new n
+    → IsNoTaking (IsTaking sys limit look) sys line old new n
 no_step sys limit look line old new n none same number = record {
   same = same;
   number_is = number;
-  none = λ x first turns.
-      subst (λ (left : ℕ). TurnsWith sys look left x) (ap (λ (m : model.Line). left_at limit m.key.tick (look.steps m.key.resource)) first ∙ none) turns;
+  none = λ x first is_taking.
+      subst (λ (left : ℕ). IsTakingWith sys look left x) (ap (λ (m : model.Line). left_at limit m.key.tick (look.steps m.key.resource)) first ∙ none) is_taking;
 }
 
 -- ---- From one instance to the system
 
 module _ (sys : System) (limit : ℕ) (look : Look) (line : Line) (left : ℕ) (used : left_at limit line.key.tick (look.steps line.key.resource) ≡ suc left) (early : line.key.tick ≤ 10 ^ 12) where
-  turns_whole : (x : Turn) → x.first ≡ line_of sys line → TurnsAt left look (sys.kind (path_at sys line.instance)) x → Turns sys limit look x
-  turns_whole x first turns =
-      subst (λ (n : ℕ). TurnsWith sys look n x) (sym (ap (λ (m : model.Line). left_at limit m.key.tick (look.steps m.key.resource)) first ∙ used))
-      (subst (λ (m : model.Line). m.key.tick ≤ 10 ^ 12) (sym first) early, subst (λ (m : model.Line). TurnsAt left look (sys.kind m.at) x) (sym first) turns)
+  takings_whole : (x : Taking) → x.first ≡ line_of sys line → IsTakingAt left look (sys.kind (path_at sys line.instance)) x → IsTaking sys limit look x
+  takings_whole x first is_taking =
+      subst (λ (n : ℕ). IsTakingWith sys look n x) (sym (ap (λ (m : model.Line). left_at limit m.key.tick (look.steps m.key.resource)) first ∙ used))
+      (subst (λ (m : model.Line). m.key.tick ≤ 10 ^ 12) (sym first) early, subst (λ (m : model.Line). IsTakingAt left look (sys.kind m.at) x) (sym first) is_taking)
 
-  turns_part : (x : Turn) → x.first ≡ line_of sys line → Turns sys limit look x → TurnsAt left look (sys.kind (path_at sys line.instance)) x
-  turns_part x first turns =
-      let all = subst (λ (n : ℕ). TurnsWith sys look n x) (ap (λ (m : model.Line). left_at limit m.key.tick (look.steps m.key.resource)) first ∙ used) turns in
-      subst (λ (m : model.Line). TurnsAt left look (sys.kind m.at) x) first all.1
+  takings_part : (x : Taking) → x.first ≡ line_of sys line → IsTaking sys limit look x → IsTakingAt left look (sys.kind (path_at sys line.instance)) x
+  takings_part x first is_taking =
+      let all = subst (λ (n : ℕ). IsTakingWith sys look n x) (ap (λ (m : model.Line). left_at limit m.key.tick (look.steps m.key.resource)) first ∙ used) is_taking in
+      subst (λ (m : model.Line). IsTakingAt left look (sys.kind m.at) x) first all.1
 
-  first_of : (turn : Turn) (passed : List Line) (rest : List model.Line) → turn.first ∷ map (emission_line turn.first) turn.emits ≡ (line_of sys line ∷ map (line_of sys) passed) ++ rest → turn.first ≡ line_of sys line
-  first_of turn passed rest e = cc
+  first_of : (taking : Taking) (passed : List Line) (rest : List model.Line) → taking.first ∷ map (emission_line taking.first) taking.emits ≡ (line_of sys line ∷ map (line_of sys) passed) ++ rest → taking.first ≡ line_of sys line
+  first_of taking passed rest e = cc
 
-  pub fails_whole : (form : Form) (old new : Reading) (l j : Option (List ℕ)) (n : ℕ) → FailsBy (TurnsAt left look (sys.kind (path_at sys line.instance))) sys form line old new l j n
-      → FailsBy (Turns sys limit look) sys form line old new l j n
-  fails_whole form old new l j n (inl none) = inl (record { same = none.same; number_is = none.number_is; none = λ x first turns. none.none x first (turns_part x first turns) })
+  pub fails_whole : (form : Form) (old new : Reading) (l j : Option (List ℕ)) (n : ℕ) → FailsBy (IsTakingAt left look (sys.kind (path_at sys line.instance))) sys form line old new l j n
+      → FailsBy (IsTaking sys limit look) sys form line old new l j n
+  fails_whole form old new l j n (inl none) = inl (record { same = none.same; number_is = none.number_is; none = λ x first is_taking. none.none x first (takings_part x first is_taking) })
   fails_whole form old new l j n (inr fails) = inr
       (record {
-        turn = fails.turn;
-        turns = turns_whole fails.turn (first_of fails.turn fails.passed (fails.next ∷ fails.more) fails.parts) fails.turns;
+        taking = fails.taking;
+        is_taking = takings_whole fails.taking (first_of fails.taking fails.passed (fails.next ∷ fails.more) fails.parts) fails.is_taking;
         passed = fails.passed;
         next = fails.next;
         more = fails.more;
@@ -121,19 +121,19 @@ module _ (sys : System) (limit : ℕ) (look : Look) (line : Line) (left : ℕ) (
 -- ---- Where a taking goes on otherwise
 
 -- a taking whose first lines, and no more, were read
-pub turn_fails :
-    (T : Turn → Type 0) (sys : System) (form : Form) (line : Line) (turn : Turn) (es : List Emission) (a y z : Reading) (l k j : Option (List ℕ)) (n : ℕ) → T turn → turn.first ≡ line_of sys line → turn.emits ≡ es
-    → HasRead sys form line.key.tick (line ∷ []) a y l k → EmitsFail sys form line es y z k j n → TurnFails T sys form line a z l j n
-turn_fails T sys form line turn es a y z l k j n turns first emits passed fails =
+pub taking_fails :
+    (T : Taking → Type 0) (sys : System) (form : Form) (line : Line) (taking : Taking) (es : List Emission) (a y z : Reading) (l k j : Option (List ℕ)) (n : ℕ) → T taking → taking.first ≡ line_of sys line → taking.emits ≡ es
+    → HasRead sys form line.key.tick (line ∷ []) a y l k → EmitsFail sys form line es y z k j n → TakingFails T sys form line a z l j n
+taking_fails T sys form line taking es a y z l k j n is_taking first emits passed fails =
     let last = fails.otherwise in
     let first_line = line_of sys line in
     record {
-      turn = turn;
-      turns = turns;
+      taking = taking;
+      is_taking = is_taking;
       passed = last.lines;
       next = emission_line first_line fails.next;
       more = map (emission_line first_line) fails.more;
-      parts = ap (λ (m : model.Line). m ∷ map (emission_line m) turn.emits) first
+      parts = ap (λ (m : model.Line). m ∷ map (emission_line m) taking.emits) first
           ∙ ap (λ (fs : List Emission). first_line ∷ map (emission_line first_line) fs) (emits ∙ fails.parts)
           ∙ ap (λ (ls : List model.Line). first_line ∷ ls) (map-append (emission_line first_line) fails.passed (fails.next ∷ fails.more))
           ∙ ap (λ (ls : List model.Line). first_line ∷ (ls ++ (emission_line first_line fails.next ∷ map (emission_line first_line) fails.more))) (sym last.are);
@@ -147,7 +147,7 @@ pub chart_fails :
     (x : ChartTaking) (look : Look) (c d : Chart) (left steps : ℕ) (a y z : Reading) (l k j : Option (List ℕ)) (n : ℕ) → IsChartTaking x
     → IsChartKept x.block.now c (look.blocks (path_at (sys_of x) x.line.now.instance)) → HasRead (sys_of x) x.fixed.form x.line.now.key.tick (x.line.now ∷ []) a y l k
     → ChartFails x (ShowsReaction x.block.now (event_at x.block.now.ports.event_inputs x.line.now.event)) (begun x look c d left steps None) y z k j n
-    → TurnFails (TurnsAt left look ((sys_of x).kind (path_at (sys_of x) x.line.now.instance))) (sys_of x) x.fixed.form x.line.now a z l j n
+    → TakingFails (IsTakingAt left look ((sys_of x).kind (path_at (sys_of x) x.line.now.instance))) (sys_of x) x.fixed.form x.line.now a z l j n
 chart_fails x look c d left steps a y z l k j n taking is passed fails =
     let sys = sys_of x in
     let line = x.line.now in
@@ -156,14 +156,14 @@ chart_fails x look c d left steps a y z l k j n taking is passed fails =
     let before : Seen = look.blocks path in
     let end : Position = fails.end in
     let here = taken_is sys basic.ports line taking.taken (ports-of_kind sys path (Basic basic) taking.kind) in
-    let it : Turn = record {
+    let it : Taking = record {
       first = line_of sys line;
       emits = end.emitted;
       pieces = fails.pieces;
       stop = fails.stop;
       after = with_seen path (record before { memory = model.InState end.state; variables = end.vars }) (with_left line.key end.left look);
     } in
-    let turns : ChartTurns left look basic it = record {
+    let is_taking : IsTakingByChart left look basic it = record {
       taken = taking.taken;
       end = end;
       shown = subst (λ (e : Name). ShowsReaction basic e (started x look c d left steps None) fails.stop end fails.pieces) (ap (λ (m : model.Line). m.event) (sym here))
@@ -171,26 +171,26 @@ chart_fails x look c d left steps a y z l k j n taking is passed fails =
       emitted = refl;
       is = refl;
     } in
-    turn_fails (TurnsAt left look (sys.kind path)) sys x.fixed.form line it end.emitted a y z l k j n (subst (λ (o : Option Kind). TurnsAt left look o it) (sym taking.kind) turns) refl refl passed fails.fails
+    taking_fails (IsTakingAt left look (sys.kind path)) sys x.fixed.form line it end.emitted a y z l k j n (subst (λ (o : Option Kind). IsTakingAt left look o it) (sym taking.kind) is_taking) refl refl passed fails.fails
 
 -- .. and of an event block
 pub block_fails :
     (sys : System) (form : Form) (look : Look) (left : ℕ) (line : Line) (kind : EventKind) (a y z : Reading) (l k j : Option (List ℕ)) (n : ℕ) → sys.kind (path_at sys line.instance) ≡ Some (Event kind) → line.taken ≡ true
     → HasRead sys form line.key.tick (line ∷ []) a y l k
     → EmitsFail sys form line (emissions_by kind (taken_reaction sys kind (look.blocks (path_at sys line.instance)) line)) y z k j n
-    → TurnFails (TurnsAt left look (sys.kind (path_at sys line.instance))) sys form line a z l j n
+    → TakingFails (IsTakingAt left look (sys.kind (path_at sys line.instance))) sys form line a z l j n
 block_fails sys form look left line kind a y z l k j n kind_is taken passed fails =
     let path = path_at sys line.instance in
     let was : Seen = look.blocks path in
     let r = taken_reaction sys kind was line in
     let after_seen : Seen = reacted was r (taken_variables sys was line) was.due in
     let outs : List Emission = emissions_by kind r in
-    let it : Turn = record {
+    let it : Taking = record {
       first = line_of sys line;
       emits = outs;
       pieces = memory_pieces was after_seen ++ emits_pieces outs;
       stop = None;
       after = with_seen path after_seen (with_left line.key left look);
     } in
-    let turns : BlockTurns left look kind it = record { taken = taken; goes_on = refl; is = (refl, refl, refl) } in
-    turn_fails (TurnsAt left look (sys.kind path)) sys form line it outs a y z l k j n (subst (λ (o : Option Kind). TurnsAt left look o it) (sym kind_is) (inl turns)) refl refl passed fails
+    let is_taking : IsTakingByBlock left look kind it = record { taken = taken; goes_on = refl; is = (refl, refl, refl) } in
+    taking_fails (IsTakingAt left look (sys.kind path)) sys form line it outs a y z l k j n (subst (λ (o : Option Kind). IsTakingAt left look o it) (sym kind_is) (inl is_taking)) refl refl passed fails

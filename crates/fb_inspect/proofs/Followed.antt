@@ -18,12 +18,12 @@ use Rattle.fb_types.specs.declared.value.Reason.{Reason}
 use Rattle.fb_types.specs.declared.value.Reason.TheVariants.{Steps, Divide, Range}
 use Rattle.fb_types.proofs.EachLaws.{each_append}
 use Rattle.fb_laws.proofs.Agendas.{Holds, holds_none, holds_or_else}
-use Rattle.fb_inspect.specs.Inspections.{AreTurns, EndsSo, IsOneOf, KeepSteps, KeepsLimit, NoneStops, NothingAfter, RunsOut, all_lines, last_look, limited, stop_of}
-use Rattle.fb_inspect.specs.Looks.{Left, Look, Turn, Turns, TurnsWith, first_due, left_at, most, opening_look}
-use Rattle.fb_inspect.specs.RunTurns.{AreThere, CanReact, IsSeenIn, IsThere, IsTurnOf, due_before}
+use Rattle.fb_inspect.specs.Inspections.{AreTakings, EndsSo, IsOneOf, KeepSteps, KeepsLimit, NoneStops, NothingAfter, RunsOut, all_lines, last_look, limited, stop_of}
+use Rattle.fb_inspect.specs.Looks.{IsTaking, IsTakingWith, Left, Look, Taking, first_due, left_at, most, opening_look}
+use Rattle.fb_inspect.specs.RunTakings.{AreThere, CanReact, IsSeenIn, IsTakingOf, IsThere, due_before}
 use Rattle.fb_inspect.proofs.Gone.{nothing}
 use Rattle.fb_inspect.proofs.GoesOn.{limited_at}
-use Rattle.fb_inspect.proofs.Reacted.{reacts_turn}
+use Rattle.fb_inspect.proofs.Reacted.{reacts_taking}
 use Rattle.fb_inspect.proofs.Waiting.{MayWait, can_react, found_holds, waits_after}
 
 -- No step was left for the event, or its instance has reacted to it.
@@ -70,8 +70,8 @@ module _ (sys : System) (limit : ℕ) (within : limit ≤ most) (there : AreTher
       let whole : most ≡ limit + more = omega (arith, within) in
       ap (λ (b : Bool). cond b (left + more) most) e ∙ whole ∙ ap (λ (b : Bool). (cond b mine fresh).left + more) (sym e)
 
-  module _ (c : Config) (look : Look) (is : IsFollowed c look) (k : Key) (e : AnEvent) (waits : MayWait sys look k e) (left : ℕ) (o : Outcome) (x : Turn)
-      (turn : IsTurnOf sys k (path_of e) left more look (due_before look e) o x) (reacts : Reacts sys k (world_of c.state k.resource) e left o) where
+  module _ (c : Config) (look : Look) (is : IsFollowed c look) (k : Key) (e : AnEvent) (waits : MayWait sys look k e) (left : ℕ) (o : Outcome) (x : Taking)
+      (taking : IsTakingOf sys k (path_of e) left more look (due_before look e) o x) (reacts : Reacts sys k (world_of c.state k.resource) e left o) where
     abbrev m : Meter
     m = begun limit k.tick (c.state.meters k.resource)
 
@@ -85,7 +85,7 @@ module _ (sys : System) (limit : ℕ) (within : limit ≤ most) (there : AreTher
     own = record { tick = Some k.tick; left = o.left + more; least = min (look.steps k.resource).least (o.left + more) }
 
     steps_next : (r t : ℕ) → left_at most t (x.after.steps r) ≡ (begun limit t (next.state.meters r)).left + more
-    steps_next r t = ap (λ (f : ℕ → Left). left_at most t (f r)) turn.steps_are ∙ by (r == k.resource)
+    steps_next r t = ap (λ (f : ℕ → Left). left_at most t (f r)) taking.steps_are ∙ by (r == k.resource)
       where
         by : (b : Bool) → left_at most t (if b then own else look.steps r)
             ≡ (begun limit t (if b then record { tick = Some k.tick; left = o.left; locals = (posts_of sys k m c.state o.outs).locals } else c.state.meters r)).left + more
@@ -93,7 +93,7 @@ module _ (sys : System) (limit : ℕ) (within : limit ≤ most) (there : AreTher
         by false = is.steps r t
 
     least_next : (r : ℕ) → most ≤ (x.after.steps r).least + limit
-    least_next r = subst (λ (f : ℕ → Left). most ≤ (f r).least + limit) (sym turn.steps_are) (by (r == k.resource))
+    least_next r = subst (λ (f : ℕ → Left). most ≤ (f r).least + limit) (sym taking.steps_are) (by (r == k.resource))
       where
         by : (b : Bool) → most ≤ (if b then own else look.steps r).least + limit
         by true = let old = is.least k.resource in omega (arith, old, within)
@@ -102,80 +102,80 @@ module _ (sys : System) (limit : ℕ) (within : limit ≤ most) (there : AreTher
     pub follows : IsFollowed next x.after
     follows =
         record {
-          seen = λ r. record { memory = turn.seen.memory; variables = turn.seen.variables };
-          waits = λ j. waits_after sys k e left more look o x turn waits j there (world_of c.state k.resource) reacts m c.state c.agenda (is.waits j);
+          seen = λ r. record { memory = taking.seen.memory; variables = taking.seen.variables };
+          waits = λ j. waits_after sys k e left more look o x taking waits j there (world_of c.state k.resource) reacts m c.state c.agenda (is.waits j);
           steps = steps_next;
           least = least_next;
         }
 
     -- the taking, with the steps of the greatest limit
-    pub taking_of : m.left ≡ suc left → k.tick ≤ 10 ^ 12 → Turns sys most look x
+    pub taking_of : m.left ≡ suc left → k.tick ≤ 10 ^ 12 → IsTaking sys most look x
     taking_of some early =
         let enough : left_at most k.tick (look.steps k.resource) ≡ suc (left + more) = let all = is.steps k.resource k.tick in omega (arith, all, some) in
-        let key = sym turn.key_is in
-        subst (λ (j : Key). TurnsWith sys look (left_at most j.tick (look.steps j.resource)) x) key
-        (subst (λ (n : ℕ). TurnsWith sys look n x) (sym enough) (subst (λ (j : Key). j.tick ≤ 10 ^ 12) key early, turn.turns))
+        let key = sym taking.key_is in
+        subst (λ (j : Key). IsTakingWith sys look (left_at most j.tick (look.steps j.resource)) x) key
+        (subst (λ (n : ℕ). IsTakingWith sys look n x) (sym enough) (subst (λ (j : Key). j.tick ≤ 10 ^ 12) key early, taking.is_taking))
 
   -- ---- All takings
 
   -- Where no taking ends a row, its last one is not of that resource in that tick.
-  abbrev pub IsApart : (tick resource : ℕ) → (before last : List Turn) → Type 0
-  IsApart t r before last = last ≡ [] → (front : List Turn) (z : Turn) → before ≡ front ++ z ∷ [] → z.first.key.tick ≡ t → z.first.key.resource ≡ r → ⊥
+  abbrev pub IsApart : (tick resource : ℕ) → (before last : List Taking) → Type 0
+  IsApart t r before last = last ≡ [] → (front : List Taking) (z : Taking) → before ≡ front ++ z ∷ [] → z.first.key.tick ≡ t → z.first.key.resource ≡ r → ⊥
 
   -- A row of takings ends as a run.
-  pub record EndsBySteps (look : Look) (t r : ℕ) (turns : List Turn) : Type 0 where
-    pub before : List Turn
-    pub last : List Turn
-    pub parts : turns ≡ before ++ last
-    pub chain : AreTurns sys most look before
+  pub record EndsBySteps (look : Look) (t r : ℕ) (takings : List Taking) : Type 0 where
+    pub before : List Taking
+    pub last : List Taking
+    pub parts : takings ≡ before ++ last
+    pub chain : AreTakings sys most look before
     pub goes_on : NoneStops before
     pub one : IsOneOf t r last
     pub kept : KeepSteps sys limit (last_look look before)
     pub within_it : KeepsLimit limit t r (last_look look before)
-    pub judged : AreTurns sys limit (limited limit t r (last_look look before)) last
+    pub judged : AreTakings sys limit (limited limit t r (last_look look before)) last
     pub out : RunsOut limit t r (limited limit t r (last_look look before)) last
     pub apart : IsApart t r before last
 
-  abbrev pub RowEnds : Look → List Turn → Ending → Type 0
-  RowEnds look turns (AtHorizon h) = AreTurns sys most look turns × NoneStops turns
-  RowEnds look turns (AtStop t r Steps) = EndsBySteps look t r turns
-  RowEnds look turns (AtStop t r Divide) = AreTurns sys most look turns × (stop_of turns ≡ Some (AtStop t r Divide))
-  RowEnds look turns (AtStop t r Range) = AreTurns sys most look turns × (stop_of turns ≡ Some (AtStop t r Range))
+  abbrev pub RowEnds : Look → List Taking → Ending → Type 0
+  RowEnds look takings (AtHorizon h) = AreTakings sys most look takings × NoneStops takings
+  RowEnds look takings (AtStop t r Steps) = EndsBySteps look t r takings
+  RowEnds look takings (AtStop t r Divide) = AreTakings sys most look takings × (stop_of takings ≡ Some (AtStop t r Divide))
+  RowEnds look takings (AtStop t r Range) = AreTakings sys most look takings × (stop_of takings ≡ Some (AtStop t r Range))
 
   pub record IsRow (look : Look) (ls : List Line) (end : Ending) : Type 0 where
-    pub turns : List Turn
-    pub lines_are : all_lines turns ≡ ls
-    pub ends : RowEnds look turns end
+    pub takings : List Taking
+    pub lines_are : all_lines takings ≡ ls
+    pub ends : RowEnds look takings end
 
-  stop_later : (x : Turn) (xs : List Turn) (end : Ending) → stop_of xs ≡ Some end → stop_of (x ∷ xs) ≡ Some end
+  stop_later : (x : Taking) (xs : List Taking) (end : Ending) → stop_of xs ≡ Some end → stop_of (x ∷ xs) ≡ Some end
   stop_later x [] end e = absurd (cc)
   stop_later x (y ∷ ys) end e = e
 
-  heads : (x y : Turn) (xs ys : List Turn) → x ∷ xs ≡ y ∷ ys → (x ≡ y) × (xs ≡ ys)
+  heads : (x y : Taking) (xs ys : List Taking) → x ∷ xs ≡ y ∷ ys → (x ≡ y) × (xs ≡ ys)
   heads x y xs ys e = (cc, cc)
 
-  some_turn : (x : Turn) (xs : List Turn) → [] ≡ x ∷ xs → ⊥
-  some_turn x xs e = cc
+  some_taking : (x : Taking) (xs : List Taking) → [] ≡ x ∷ xs → ⊥
+  some_taking x xs e = cc
 
   -- .. that goes on before others
   apart_more :
-      (t r : ℕ) (x : Turn) (before last : List Turn) → IsApart t r before last → (before ≡ [] → last ≡ [] → x.first.key.tick ≡ t → x.first.key.resource ≡ r → ⊥) → IsApart t r (x ∷ before) last
+      (t r : ℕ) (x : Taking) (before last : List Taking) → IsApart t r before last → (before ≡ [] → last ≡ [] → x.first.key.tick ≡ t → x.first.key.resource ≡ r → ⊥) → IsApart t r (x ∷ before) last
   apart_more t r x before last rest mine none [] z e tick resource =
-      let h = heads x z before [] e in mine h.1 none (ap (λ (y : Turn). y.first.key.tick) h.0 ∙ tick) (ap (λ (y : Turn). y.first.key.resource) h.0 ∙ resource)
+      let h = heads x z before [] e in mine h.1 none (ap (λ (y : Taking). y.first.key.tick) h.0 ∙ tick) (ap (λ (y : Taking). y.first.key.resource) h.0 ∙ resource)
   apart_more t r x before last rest mine none (y ∷ front) z e tick resource = rest none front z (heads x y before (front ++ z ∷ []) e).1 tick resource
 
   -- one more taking that goes on
   row_more :
-      (look : Look) (x : Turn) (xs : List Turn) (end : Ending) → Turns sys most look x → x.stop ≡ None
-      → ((t r : ℕ) (before last : List Turn) → end ≡ AtStop t r Steps → xs ≡ before ++ last → before ≡ [] → last ≡ [] → x.first.key.tick ≡ t → x.first.key.resource ≡ r → ⊥)
+      (look : Look) (x : Taking) (xs : List Taking) (end : Ending) → IsTaking sys most look x → x.stop ≡ None
+      → ((t r : ℕ) (before last : List Taking) → end ≡ AtStop t r Steps → xs ≡ before ++ last → before ≡ [] → last ≡ [] → x.first.key.tick ≡ t → x.first.key.resource ≡ r → ⊥)
       → RowEnds x.after xs end → RowEnds look (x ∷ xs) end
-  row_more look x xs (AtHorizon h) turns on mine rest = ((turns, subst (λ (o : Option Reason). NothingAfter o xs) (sym on) tt, rest.0), (on, rest.1))
-  row_more look x xs (AtStop t r Steps) turns on mine rest =
+  row_more look x xs (AtHorizon h) is_taking on mine rest = ((is_taking, subst (λ (o : Option Reason). NothingAfter o xs) (sym on) tt, rest.0), (on, rest.1))
+  row_more look x xs (AtStop t r Steps) is_taking on mine rest =
       record {
         before = x ∷ rest.before;
         last = rest.last;
-        parts = ap (λ (ys : List Turn). x ∷ ys) rest.parts;
-        chain = (turns, subst (λ (o : Option Reason). NothingAfter o rest.before) (sym on) tt, rest.chain);
+        parts = ap (λ (ys : List Taking). x ∷ ys) rest.parts;
+        chain = (is_taking, subst (λ (o : Option Reason). NothingAfter o rest.before) (sym on) tt, rest.chain);
         goes_on = (on, rest.goes_on);
         one = rest.one;
         kept = rest.kept;
@@ -184,8 +184,8 @@ module _ (sys : System) (limit : ℕ) (within : limit ≤ most) (there : AreTher
         out = rest.out;
         apart = apart_more t r x rest.before rest.last rest.apart (mine t r rest.before rest.last refl rest.parts);
       }
-  row_more look x xs (AtStop t r Divide) turns on mine rest = ((turns, subst (λ (o : Option Reason). NothingAfter o xs) (sym on) tt, rest.0), stop_later x xs (AtStop t r Divide) rest.1)
-  row_more look x xs (AtStop t r Range) turns on mine rest = ((turns, subst (λ (o : Option Reason). NothingAfter o xs) (sym on) tt, rest.0), stop_later x xs (AtStop t r Range) rest.1)
+  row_more look x xs (AtStop t r Divide) is_taking on mine rest = ((is_taking, subst (λ (o : Option Reason). NothingAfter o xs) (sym on) tt, rest.0), stop_later x xs (AtStop t r Divide) rest.1)
+  row_more look x xs (AtStop t r Range) is_taking on mine rest = ((is_taking, subst (λ (o : Option Reason). NothingAfter o xs) (sym on) tt, rest.0), stop_later x xs (AtStop t r Range) rest.1)
 
   -- what is left of the limit of the run in a tick
   limited_left : (c : Config) (look : Look) → IsFollowed c look → (t r : ℕ) → left_at limit t ((limited limit t r look).steps r) ≡ (begun limit t (c.state.meters r)).left
@@ -199,15 +199,15 @@ module _ (sys : System) (limit : ℕ) (within : limit ≤ most) (there : AreTher
   keeps_limit : (c : Config) (look : Look) → IsFollowed c look → (t r : ℕ) → KeepsLimit limit t r look
   keeps_limit c look is t r = let all = is.steps r t in omega (arith, all, within)
 
-  none_pushed : (front : List Turn) (z : Turn) → [] ≡ front ++ z ∷ [] → ⊥
-  none_pushed [] z e = some_turn z [] e
-  none_pushed (y ∷ front) z e = some_turn y (front ++ z ∷ []) e
+  none_pushed : (front : List Taking) (z : Taking) → [] ≡ front ++ z ∷ [] → ⊥
+  none_pushed [] z e = some_taking z [] e
+  none_pushed (y ∷ front) z e = some_taking y (front ++ z ∷ []) e
 
   -- no step is left
   out_row : (c : Config) (look : Look) → IsFollowed c look → (k : Key) → (begun limit k.tick (c.state.meters k.resource)).left ≡ 0 → IsRow look [] (AtStop k.tick k.resource Steps)
   out_row c look is k none =
       record {
-        turns = [];
+        takings = [];
         lines_are = refl;
         ends = record {
           before = [];
@@ -237,27 +237,27 @@ module _ (sys : System) (limit : ℕ) (within : limit ≤ most) (there : AreTher
     near = limited limit k.tick k.resource look
 
     abbrev Near : Type 0
-    Near = (x : Turn) × IsTurnOf sys k (path_of e) left 0 near (due_before near e) o x
+    Near = (x : Taking) × IsTakingOf sys k (path_of e) left 0 near (due_before near e) o x
 
     near_found : Near
     near_found =
         let seen = is.seen k.resource in
-        reacts_turn sys k (world_of c.state k.resource) e left 0 near o (record { memory = seen.memory; variables = seen.variables })
+        reacts_taking sys k (world_of c.state k.resource) e left 0 near o (record { memory = seen.memory; variables = seen.variables })
         (can_limited look k.tick k.resource k e (can_react sys look k e waits)) reacts (inl refl)
 
-    near_turns : (f : Near) → Turns sys limit near f.0
-    near_turns f =
-        let x : Turn = f.0 in
-        let turn = f.1 in
+    near_takings : (f : Near) → IsTaking sys limit near f.0
+    near_takings f =
+        let x : Taking = f.0 in
+        let taking = f.1 in
         let enough : left_at limit k.tick (near.steps k.resource) ≡ suc (left + 0) = let own = limited_left c look is k.tick k.resource in omega (arith, own, some) in
-        subst (λ (j : Key). TurnsWith sys near (left_at limit j.tick (near.steps j.resource)) x) (sym turn.key_is)
-        (subst (λ (n : ℕ). TurnsWith sys near n x) (sym enough) (subst (λ (j : Key). j.tick ≤ 10 ^ 12) (sym turn.key_is) early, turn.turns))
+        subst (λ (j : Key). IsTakingWith sys near (left_at limit j.tick (near.steps j.resource)) x) (sym taking.key_is)
+        (subst (λ (n : ℕ). IsTakingWith sys near n x) (sym enough) (subst (λ (j : Key). j.tick ≤ 10 ^ 12) (sym taking.key_is) early, taking.is_taking))
 
     -- .. ends a row, if no step is left after it
     near_row : (f : Near) → RunsOut limit k.tick k.resource near (f.0 ∷ []) → IsRow look (o.lines ++ []) (AtStop k.tick k.resource Steps)
     near_row f out =
         record {
-          turns = f.0 ∷ [];
+          takings = f.0 ∷ [];
           lines_are = ap (λ (ls : List Line). ls ++ []) f.1.lines_are;
           ends = record {
             before = [];
@@ -268,9 +268,9 @@ module _ (sys : System) (limit : ℕ) (within : limit ≤ most) (there : AreTher
             one = (ap (λ (j : Key). j.tick) f.1.key_is, ap (λ (j : Key). j.resource) f.1.key_is);
             kept = λ r small. is.least r;
             within_it = keeps_limit c look is k.tick k.resource;
-            judged = (near_turns f, nothing f.0.stop, tt);
+            judged = (near_takings f, nothing f.0.stop, tt);
             out = out;
-            apart = λ last. absurd (some_turn f.0 [] (sym last));
+            apart = λ last. absurd (some_taking f.0 [] (sym last));
           };
         }
 
@@ -291,13 +291,13 @@ module _ (sys : System) (limit : ℕ) (within : limit ≤ most) (there : AreTher
 
     -- .. or another reason stops it
     abbrev Found : Type 0
-    Found = (x : Turn) × IsTurnOf sys k (path_of e) left more look (due_before look e) o x
+    Found = (x : Taking) × IsTakingOf sys k (path_of e) left more look (due_before look e) o x
 
     found_more : (o.stop ≡ Some Steps → ⊥) → Found
-    found_more other = reacts_turn sys k (world_of c.state k.resource) e left more look o (is.seen k.resource) (can_react sys look k e waits) reacts (inr other)
+    found_more other = reacts_taking sys k (world_of c.state k.resource) e left more look o (is.seen k.resource) (can_react sys look k e waits) reacts (inr other)
 
-    turns_more : (f : Found) → Turns sys most look f.0
-    turns_more f = taking_of c look is k e waits left o f.0 f.1 reacts some early
+    takings_more : (f : Found) → IsTaking sys most look f.0
+    takings_more f = taking_of c look is k e waits left o f.0 f.1 reacts some early
 
     stop_at : (f : Found) (r : Reason) → o.stop ≡ Some r → stop_of (f.0 ∷ []) ≡ Some (AtStop k.tick k.resource r)
     stop_at f r stop =
@@ -316,12 +316,12 @@ module _ (sys : System) (limit : ℕ) (within : limit ≤ most) (there : AreTher
     divide_row : o.stop ≡ Some Divide → IsRow look (o.lines ++ []) (AtStop k.tick k.resource Divide)
     divide_row stop =
         let f = found_more (divide_or_steps o.stop stop) in
-        record { turns = f.0 ∷ []; lines_are = ap (λ (ls : List Line). ls ++ []) f.1.lines_are; ends = ((turns_more f, nothing f.0.stop, tt), stop_at f Divide stop) }
+        record { takings = f.0 ∷ []; lines_are = ap (λ (ls : List Line). ls ++ []) f.1.lines_are; ends = ((takings_more f, nothing f.0.stop, tt), stop_at f Divide stop) }
 
     range_row : o.stop ≡ Some Range → IsRow look (o.lines ++ []) (AtStop k.tick k.resource Range)
     range_row stop =
         let f = found_more (range_or_steps o.stop stop) in
-        record { turns = f.0 ∷ []; lines_are = ap (λ (ls : List Line). ls ++ []) f.1.lines_are; ends = ((turns_more f, nothing f.0.stop, tt), stop_at f Range stop) }
+        record { takings = f.0 ∷ []; lines_are = ap (λ (ls : List Line). ls ++ []) f.1.lines_are; ends = ((takings_more f, nothing f.0.stop, tt), stop_at f Range stop) }
 
   lines_end : (t : Taken) (ts : List Taken) (stop : Option Reason) (r : Reason) → stop ≡ Some r → NothingTaken stop ts → [] ≡ lines_of ts
   lines_end t ts stop r is none = ap lines_of (sym (subst (λ (s : Option Reason). NothingTaken s ts) is none))
@@ -360,18 +360,18 @@ module _ (sys : System) (limit : ℕ) (within : limit ≤ most) (there : AreTher
       -- one more taking before others
       plain :
           o.stop ≡ None → (f : Free) (ls : List Line) (end : Ending) (rest : IsRow f.0.after ls end)
-          → ((k r : ℕ) (before last : List Turn) → end ≡ AtStop k r Steps → rest.turns ≡ before ++ last → before ≡ [] → last ≡ [] → f.0.first.key.tick ≡ k → f.0.first.key.resource ≡ r → ⊥)
+          → ((k r : ℕ) (before last : List Taking) → end ≡ AtStop k r Steps → rest.takings ≡ before ++ last → before ≡ [] → last ≡ [] → f.0.first.key.tick ≡ k → f.0.first.key.resource ≡ r → ⊥)
           → IsRow look (o.lines ++ ls) end
       plain on f ls end rest own =
           record {
-            turns = f.0 ∷ rest.turns;
-            lines_are = ap (λ (ks : List Line). ks ++ all_lines rest.turns) f.1.lines_are ∙ ap (λ (ks : List Line). o.lines ++ ks) rest.lines_are;
-            ends = row_more look f.0 rest.turns end (turns_more c look is t.key t.event wait_now left o some reacts early_now f) (f.1.stop_is ∙ on) own rest.ends;
+            takings = f.0 ∷ rest.takings;
+            lines_are = ap (λ (ks : List Line). ks ++ all_lines rest.takings) f.1.lines_are ∙ ap (λ (ks : List Line). o.lines ++ ks) rest.lines_are;
+            ends = row_more look f.0 rest.takings end (takings_more c look is t.key t.event wait_now left o some reacts early_now f) (f.1.stop_is ∙ on) own rest.ends;
           }
 
-      none_later : (ys before last : List Turn) (y : Turn) (zs : List Turn) → ys ≡ y ∷ zs → ys ≡ before ++ last → before ≡ [] → last ≡ [] → ⊥
+      none_later : (ys before last : List Taking) (y : Taking) (zs : List Taking) → ys ≡ y ∷ zs → ys ≡ before ++ last → before ≡ [] → last ≡ [] → ⊥
       none_later ys before last y zs e parts first second =
-          some_turn y zs (sym (parts ∙ ap (λ (xs : List Turn). xs ++ last) first ∙ second) ∙ e)
+          some_taking y zs (sym (parts ∙ ap (λ (xs : List Taking). xs ++ last) first ∙ second) ∙ e)
 
       end_parts : (k r j s : ℕ) → AtStop k r Steps ≡ AtStop j s Steps → (k ≡ j) × (r ≡ s)
       end_parts k r j s e = (cc, cc)
@@ -381,7 +381,7 @@ module _ (sys : System) (limit : ℕ) (within : limit ≤ most) (there : AreTher
 
       module _ (on : o.stop ≡ None) (f : Free) (next : Config) (followed : IsFollowed next f.0.after) (ls : List Line) (k r : ℕ) (rest : IsRow f.0.after ls (AtStop k r Steps)) where
         -- where the run stops before the next event, the last step is used
-        last_used : rest.turns ≡ [] → t.key.tick ≡ k → t.key.resource ≡ r → o.left ≡ 0
+        last_used : rest.takings ≡ [] → t.key.tick ≡ k → t.key.resource ≡ r → o.left ≡ 0
         last_used none tick resource =
             let own : Left = record { tick = Some t.key.tick; left = o.left + more; least = min (look.steps t.key.resource).least (o.left + more) } in
             let left_is : left_at most t.key.tick (f.0.after.steps t.key.resource) ≡ o.left + more =
@@ -396,14 +396,14 @@ module _ (sys : System) (limit : ℕ) (within : limit ≤ most) (there : AreTher
             in
             omega (arith, left_is, here, within)
           where
-            out_of : (before last : List Turn) → before ++ last ≡ [] → RunsOut limit k r (limited limit k r (last_look f.0.after before)) last
+            out_of : (before last : List Taking) → before ++ last ≡ [] → RunsOut limit k r (limited limit k r (last_look f.0.after before)) last
                 → left_at limit k ((limited limit k r f.0.after).steps r) ≡ 0
             out_of [] [] e out = out
-            out_of [] (y ∷ ys) e out = absurd (some_turn y ys (sym e))
-            out_of (y ∷ ys) last e out = absurd (some_turn y (ys ++ last) (sym e))
+            out_of [] (y ∷ ys) e out = absurd (some_taking y ys (sym e))
+            out_of (y ∷ ys) last e out = absurd (some_taking y (ys ++ last) (sym e))
 
-        went_steps : (turns : List Turn) → rest.turns ≡ turns → (t.key.tick ≡ k) ⊎ (t.key.tick ≡ k → ⊥) → (t.key.resource ≡ r) ⊎ (t.key.resource ≡ r → ⊥) → IsRow look (o.lines ++ ls) (AtStop k r Steps)
-        went_steps (y ∷ ys) e tick resource = plain on f ls (AtStop k r Steps) rest (λ j s before last end parts first second. absurd (none_later rest.turns before last y ys e parts first second))
+        went_steps : (takings : List Taking) → rest.takings ≡ takings → (t.key.tick ≡ k) ⊎ (t.key.tick ≡ k → ⊥) → (t.key.resource ≡ r) ⊎ (t.key.resource ≡ r → ⊥) → IsRow look (o.lines ++ ls) (AtStop k r Steps)
+        went_steps (y ∷ ys) e tick resource = plain on f ls (AtStop k r Steps) rest (λ j s before last end parts first second. absurd (none_later rest.takings before last y ys e parts first second))
         went_steps [] e (inr apart) resource =
             plain on f ls (AtStop k r Steps) rest (λ j s before last end parts first second tick own. apart (ap (λ (z : Key). z.tick) (sym f.1.key_is) ∙ tick ∙ sym (end_parts k r j s end).0))
         went_steps [] e (inl tick) (inr apart) =
@@ -417,7 +417,7 @@ module _ (sys : System) (limit : ℕ) (within : limit ≤ most) (there : AreTher
       went_by : (on : o.stop ≡ None) (f : Free) (next : Config) → IsFollowed next f.0.after → (end : Ending) → IsRow f.0.after (lines_of ts) end → IsRow look (o.lines ++ lines_of ts) end
       went_by on f next followed (AtHorizon h) rest = plain on f (lines_of ts) (AtHorizon h) rest (λ k r before last end. absurd (cc))
       went_by on f next followed (AtStop k r Steps) rest =
-          went_steps on f next followed (lines_of ts) k r rest rest.turns refl (cases_eq t.key.tick k) (cases_eq t.key.resource r)
+          went_steps on f next followed (lines_of ts) k r rest rest.takings refl (cases_eq t.key.tick k) (cases_eq t.key.resource r)
       went_by on f next followed (AtStop k r Divide) rest = plain on f (lines_of ts) (AtStop k r Divide) rest (λ j s before last end. absurd (cc))
       went_by on f next followed (AtStop k r Range) rest = plain on f (lines_of ts) (AtStop k r Range) rest (λ j s before last end. absurd (cc))
 
@@ -451,7 +451,7 @@ module _ (sys : System) (limit : ℕ) (within : limit ≤ most) (there : AreTher
     row_step = row_by (taken_so sys limit c.state t.key t.event t.effect chain.0.takes)
 
   pub row : (horizon : ℕ) → horizon ≤ 10 ^ 12 → (ts : List Taken) → IsRest horizon ts
-  row horizon small [] = λ c look is chain below. record { turns = []; lines_are = refl; ends = (tt, tt) }
+  row horizon small [] = λ c look is chain below. record { takings = []; lines_are = refl; ends = (tt, tt) }
   row horizon small (t ∷ ts) = λ c look is chain below. row_step horizon small t ts (row horizon small ts) c look is chain below
 
   -- ---- The opening
@@ -486,34 +486,34 @@ module _ (sys : System) (limit : ℕ) (within : limit ≤ most) (there : AreTher
         least = λ r. omega arith;
       }
 
-  ends_so : (turns : List Turn) (end : Ending) → RowEnds (opening_look sys) turns end → EndsSo sys limit turns end
-  ends_so turns (AtHorizon h) e = e
-  ends_so turns (AtStop t r Steps) e =
+  ends_so : (takings : List Taking) (end : Ending) → RowEnds (opening_look sys) takings end → EndsSo sys limit takings end
+  ends_so takings (AtHorizon h) e = e
+  ends_so takings (AtStop t r Steps) e =
       record {
         limited_so =
             record { before = e.before; last = e.last; parts = e.parts; chain = e.chain; goes_on = e.goes_on; one = e.one; kept = e.kept; within = e.within_it; judged = e.judged };
         runs_out = e.out;
       }
-  ends_so turns (AtStop t r Divide) e = e
-  ends_so turns (AtStop t r Range) e = e
+  ends_so takings (AtStop t r Divide) e = e
+  ends_so takings (AtStop t r Range) e = e
 
   -- A row that no taking ends for steps has no taking of that resource in that tick as its last one.
-  abbrev pub IsExact : (turns : List Turn) (end : Ending) → EndsSo sys limit turns end → Type 0
-  IsExact turns (AtHorizon h) e = Unit {0}
-  IsExact turns (AtStop t r Steps) e = IsApart t r e.limited_so.before e.limited_so.last
-  IsExact turns (AtStop t r Divide) e = Unit {0}
-  IsExact turns (AtStop t r Range) e = Unit {0}
+  abbrev pub IsExact : (takings : List Taking) (end : Ending) → EndsSo sys limit takings end → Type 0
+  IsExact takings (AtHorizon h) e = Unit {0}
+  IsExact takings (AtStop t r Steps) e = IsApart t r e.limited_so.before e.limited_so.last
+  IsExact takings (AtStop t r Divide) e = Unit {0}
+  IsExact takings (AtStop t r Range) e = Unit {0}
 
-  exact_so : (turns : List Turn) (end : Ending) (e : RowEnds (opening_look sys) turns end) → IsExact turns end (ends_so turns end e)
+  exact_so : (takings : List Taking) (end : Ending) (e : RowEnds (opening_look sys) takings end) → IsExact takings end (ends_so takings end e)
   unfolding ends_so
-  exact_so turns (AtHorizon h) e = tt
-  exact_so turns (AtStop t r Steps) e = e.apart
-  exact_so turns (AtStop t r Divide) e = tt
-  exact_so turns (AtStop t r Range) e = tt
+  exact_so takings (AtHorizon h) e = tt
+  exact_so takings (AtStop t r Steps) e = e.apart
+  exact_so takings (AtStop t r Divide) e = tt
+  exact_so takings (AtStop t r Range) e = tt
 
   pub run_row :
       (horizon : ℕ) → horizon ≤ 10 ^ 12 → (ss : List Stimulus) → Each (λ (s : Stimulus). IsThere sys s.port.at) ss → (ts : List Taken) → IsSimulation sys ss horizon limit ts
-      → (turns : List Turn) × (all_lines turns ≡ lines_of ts) × (ends : EndsSo sys limit turns (ending_of horizon ts)) × IsExact turns (ending_of horizon ts) ends
+      → (takings : List Taking) × (all_lines takings ≡ lines_of ts) × (ends : EndsSo sys limit takings (ending_of horizon ts)) × IsExact takings (ending_of horizon ts) ends
   run_row horizon small ss h ts is =
       let found = row horizon small ts (opening sys ss) (opening_look sys) (opening_followed ss h) is.chain is.below in
-      (found.turns, found.lines_are, ends_so found.turns (ending_of horizon ts) found.ends, exact_so found.turns (ending_of horizon ts) found.ends)
+      (found.takings, found.lines_are, ends_so found.takings (ending_of horizon ts) found.ends, exact_so found.takings (ending_of horizon ts) found.ends)

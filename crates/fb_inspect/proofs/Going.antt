@@ -16,7 +16,7 @@ use Rattle.fb_coverage.specs.declared.marks.Marks.{Marks}
 use Rattle.fb_wave.specs.Dumps.{last_tick}
 use Rattle.fb_wave.specs.Lines.{IsLineOf}
 use Rattle.fb_inspect.specs.Lines.{IsNext}
-use Rattle.fb_inspect.specs.Looks.{Turn, opening_look}
+use Rattle.fb_inspect.specs.Looks.{Taking, opening_look}
 use Rattle.fb_inspect.specs.Pages.{IsCutShort}
 use Rattle.fb_inspect.specs.Refusals.{IsNoRefusal, IsWrongAt}
 use Rattle.fb_inspect.specs.Standing.{BeginsText, IsLeft, StandsWell, Watches}
@@ -41,7 +41,7 @@ well_opens sys form steps w a rest text look number next empty begins =
     let line = w.trail.reading.line.items in
     let whole : text ≡ line ++ (a.text.items ++ rest) = begins.is ∙ ap (λ (u : List ℕ). line ++ (u ++ rest)) (sym empty) in
     record {
-      turns = [];
+      takings = [];
       on = record {
         stands = record {
           chain = tt;
@@ -62,7 +62,7 @@ well_opens sys form steps w a rest text look number next empty begins =
       watched = subst (Watches sys form steps [] a.watched.number a.watched.text.items) (sym begins.unwatched) (λ r within. omega arith);
     }
   where
-    some : (front : List Turn) (x : Turn) → [] ≡ front ++ x ∷ [] → ⊥
+    some : (front : List Taking) (x : Taking) → [] ≡ front ++ x ∷ [] → ⊥
     some [] x e = cc
     some (y ∷ ys) x e = cc
 
@@ -76,7 +76,7 @@ well_first sys form only steps w a rest text starts empty begins =
 pub well_flushed :
     (sys : System) (form : Form) (steps : ℕ) (w : Walk) (page : Page) (a : Ahead) (rest text : List ℕ) → StandsWell sys form steps w a rest text
     → StandsWell sys form steps (record w { trail = record (w.trail) { page = page } }) a rest text
-well_flushed sys form steps w page a rest text well = record { turns = well.turns; on = record { stands = well.on.stands; next = well.on.next }; watched = well.watched }
+well_flushed sys form steps w page a rest text well = record { takings = well.takings; on = record { stands = well.on.stands; next = well.on.next }; watched = well.watched }
 
 pub cut_short_none : (old new : Option (List ℕ)) (page : Page) (e : InspectError) → IsCutShort old new page e → IsNoRefusal e
 cut_short_none old new page (Refused n) short = short
@@ -110,7 +110,7 @@ after_last types first sys form only steps w end text (Some rest) old mid n comp
           ends = ends_after (last_tick 0 complete.gone.lines) (last_tick 0 complete.gone.lines) end refl complete.after;
           is = ap (λ (u : List ℕ). lines_text form sys (map (line_of sys) complete.gone.lines) ++ u) complete.last.is;
         };
-        turns = complete.turns;
+        takings = complete.takings;
         lines_are = complete.gone.lines_are;
         ends = complete.ends;
       };
@@ -145,4 +145,4 @@ pub well_aside :
     → StandsWell sys form steps w a rest text → StandsWell sys form steps (record w { trail = t }) a rest text
 well_aside sys form steps w t passed marks a rest text is well =
     subst (λ (v : Trail). StandsWell sys form steps (record w { trail = v }) a rest text) (sym is)
-    (record { turns = well.turns; on = record { stands = well.on.stands; next = well.on.next }; watched = well.watched })
+    (record { takings = well.takings; on = record { stands = well.on.stands; next = well.on.next }; watched = well.watched })

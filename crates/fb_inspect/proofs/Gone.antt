@@ -20,12 +20,12 @@ use Rattle.fb_wave.specs.Lines.{IsLineOf}
 use Rattle.fb_wave.specs.Waves.{RiseFrom}
 use Rattle.fb_coverage.specs.declared.marks.ChartMarks.{ChartMarks}
 use Rattle.fb_coverage.specs.declared.marks.Marks.{Marks}
-use Rattle.fb_inspect.specs.Inspections.{AreTaken, AreTurns, NoneStops, NothingAfter, all_lines, all_text, is_kept, last_look, stop_of}
-use Rattle.fb_inspect.specs.Looks.{Look, Turn, Turns, emission_line, turn_lines, turn_text}
-use Rattle.fb_inspect.specs.Markings.{TurnMarks, TurnsMark, lines_marked}
+use Rattle.fb_inspect.specs.Inspections.{AreTaken, AreTakings, NoneStops, NothingAfter, all_lines, all_text, is_kept, last_look, stop_of}
+use Rattle.fb_inspect.specs.Looks.{IsTaking, Look, Taking, emission_line, taking_lines, taking_text}
+use Rattle.fb_inspect.specs.Markings.{TakingMarks, TakingsMark, lines_marked}
 use Rattle.fb_inspect.specs.Moves.{IsLineAt, shown_text}
 use Rattle.fb_inspect.specs.Pages.{IsFlushed}
-use Rattle.fb_inspect.specs.Walking.{AreMarked, HasCovered, HasGone, IsGone, Starts, TurnGoes, flag_at}
+use Rattle.fb_inspect.specs.Walking.{AreMarked, HasCovered, HasGone, IsGone, Starts, WalkTakes, flag_at}
 use Rattle.fb_inspect.specs.declared.page.Page.{Page}
 use Rattle.fb_inspect.specs.declared.walk.Walk.{Walk}
 use Rattle.fb_inspect.proofs.Moving.{lines-append, marked-append, next_line}
@@ -37,46 +37,41 @@ nothing None = tt
 nothing (Some r) = refl
 
 pub chain_more :
-    (sys : System) (limit : ℕ) (look : Look) (xs : List Turn) (x : Turn) → AreTurns sys limit look xs → NoneStops xs → Turns sys limit (last_look look xs) x
-    → AreTurns sys limit look (xs ++ x ∷ [])
-chain_more sys limit look [] x are none turns = (turns, nothing x.stop, tt)
-chain_more sys limit look (y ∷ ys) x are none turns =
-    (are.0, subst (λ (o : Option Reason). NothingAfter o (ys ++ x ∷ [])) (sym none.0) tt, chain_more sys limit y.after ys x are.2 none.1 turns)
+    (sys : System) (limit : ℕ) (look : Look) (xs : List Taking) (x : Taking) → AreTakings sys limit look xs → NoneStops xs → IsTaking sys limit (last_look look xs) x
+    → AreTakings sys limit look (xs ++ x ∷ [])
+chain_more sys limit look [] x are none is_taking = (is_taking, nothing x.stop, tt)
+chain_more sys limit look (y ∷ ys) x are none is_taking =
+    (are.0, subst (λ (o : Option Reason). NothingAfter o (ys ++ x ∷ [])) (sym none.0) tt, chain_more sys limit y.after ys x are.2 none.1 is_taking)
 
-pub look_more : (look : Look) (xs : List Turn) (x : Turn) → last_look look (xs ++ x ∷ []) ≡ x.after
+pub look_more : (look : Look) (xs : List Taking) (x : Taking) → last_look look (xs ++ x ∷ []) ≡ x.after
 look_more look [] x = refl
 look_more look (y ∷ ys) x = look_more y.after ys x
 
-pub lines_more : (xs : List Turn) (x : Turn) → all_lines (xs ++ x ∷ []) ≡ all_lines xs ++ turn_lines x
-lines_more [] x = append-nil (turn_lines x)
-lines_more (y ∷ ys) x = ap (λ (ls : List model.Line). turn_lines y ++ ls) (lines_more ys x) ∙ sym (append_assoc (turn_lines y) (all_lines ys) (turn_lines x))
+pub lines_more : (xs : List Taking) (x : Taking) → all_lines (xs ++ x ∷ []) ≡ all_lines xs ++ taking_lines x
+lines_more [] x = append-nil (taking_lines x)
+lines_more (y ∷ ys) x = ap (λ (ls : List model.Line). taking_lines y ++ ls) (lines_more ys x) ∙ sym (append_assoc (taking_lines y) (all_lines ys) (taking_lines x))
 
-abbrev pub text_one : Form → System → List Name → Turn → List ℕ
-text_one form sys only x = if is_kept only x.first.at then turn_text form sys x else []
+abbrev pub text_one : Form → System → List Name → Taking → List ℕ
+text_one form sys only x = if is_kept only x.first.at then taking_text form sys x else []
 
 pub text_more :
-    (form : Form) (sys : System) (only : List Name) (xs : List Turn) (x : Turn) → all_text form sys only (xs ++ x ∷ []) ≡ all_text form sys only xs ++ text_one form sys only x
+    (form : Form) (sys : System) (only : List Name) (xs : List Taking) (x : Taking) → all_text form sys only (xs ++ x ∷ []) ≡ all_text form sys only xs ++ text_one form sys only x
 text_more form sys only [] x = append-nil (text_one form sys only x)
 text_more form sys only (y ∷ ys) x =
     ap (λ (t : List ℕ). text_one form sys only y ++ t) (text_more form sys only ys x)
     ∙ sym (append_assoc (text_one form sys only y) (all_text form sys only ys) (text_one form sys only x))
 
-pub none_more : (xs : List Turn) (x : Turn) → NoneStops xs → x.stop ≡ None → NoneStops (xs ++ x ∷ [])
+pub none_more : (xs : List Taking) (x : Taking) → NoneStops xs → x.stop ≡ None → NoneStops (xs ++ x ∷ [])
 none_more [] x none stop = (stop, tt)
 none_more (y ∷ ys) x none stop = (none.0, none_more ys x none.1 stop)
 
-abbrev pub stop_by : Turn → Option Reason → Option Ending
+abbrev pub stop_by : Taking → Option Reason → Option Ending
 stop_by x o = elim o [ None ↦ None | Some r ↦ Some (AtStop x.first.key.tick x.first.key.resource r) ]
 
-pub stop_more : (xs : List Turn) (x : Turn) → stop_of (xs ++ x ∷ []) ≡ stop_by x x.stop
+pub stop_more : (xs : List Taking) (x : Taking) → stop_of (xs ++ x ∷ []) ≡ stop_by x x.stop
 stop_more [] x = refl
 stop_more (y ∷ []) x = refl
 stop_more (y ∷ (z ∷ zs)) x = stop_more (z ∷ zs) x
-
-no_stop : (xs : List Turn) → NoneStops xs → stop_of xs ≡ None
-no_stop [] none = refl
-no_stop (x ∷ []) none = ap (stop_by x) none.0
-no_stop (x ∷ (y ∷ ys)) none = no_stop (y ∷ ys) none.1
 
 -- ---- Lines of one tick
 
@@ -109,8 +104,8 @@ last_more sys tick t [] (l ∷ ls) x rest some all = last_here sys tick t l ls a
 last_more sys tick t (k ∷ ks) (l ∷ ls) x rest some all = last_more sys tick k.key.tick ks (l ∷ ls) x rest some all
 
 marks_more :
-    (types : List BlockType) (sys : System) (xs : List Turn) (x : Turn) (m n o : ChartMarks) → TurnsMark types sys xs m n → TurnMarks types sys x n o → TurnsMark types sys (xs ++ x ∷ []) m o
-marks_more types sys [] x m n o are more = (o, subst (λ (k : ChartMarks). TurnMarks types sys x k o) are more, refl)
+    (types : List BlockType) (sys : System) (xs : List Taking) (x : Taking) (m n o : ChartMarks) → TakingsMark types sys xs m n → TakingMarks types sys x n o → TakingsMark types sys (xs ++ x ∷ []) m o
+marks_more types sys [] x m n o are more = (o, subst (λ (k : ChartMarks). TakingMarks types sys x k o) are more, refl)
 marks_more types sys (y ∷ ys) x m n o are more = (are.0, are.1, marks_more types sys ys x are.0 n o are.2 more)
 
 -- ---- The walk
@@ -124,7 +119,7 @@ module _ (sys : System) (form : Form) (only : List Name) (steps : ℕ) where
       (walk : Walk) (input remaining old : Option (List ℕ)) → Starts sys form only walk → Consumes input remaining walk.trail.reading.line.items
       → HasGone sys form only steps walk input remaining old old
   gone_none walk input remaining old starts read = record {
-    turns = [];
+    takings = [];
     goes_on = tt;
     chain = tt;
     look = record { are = starts.blocks; counts = starts.steps.all; lefts = λ r s at. sym (starts.steps.each r s at) };
@@ -153,24 +148,24 @@ module _ (sys : System) (form : Form) (only : List Name) (steps : ℕ) where
     marked = record { charts = refl; ports = refl };
   }
 
-  module _ (types : List BlockType) (walk done : Walk) (turns : List Turn) (line : Line) (stop : Option Reason) (input remaining rest old mid : Option (List ℕ)) (gone : IsGone sys form only steps walk turns input remaining old mid)
-      (later : last_tick 0 gone.lines ≤ line.key.tick) (within : line.instance < length sys.paths) (limit : ℕ) (look : Look) (goes : TurnGoes types sys form limit look line stop walk done remaining rest)
-      (taken : AreTaken sys steps (turns ++ goes.turn ∷ [])) where
+  module _ (types : List BlockType) (walk done : Walk) (takings : List Taking) (line : Line) (stop : Option Reason) (input remaining rest old mid : Option (List ℕ)) (gone : IsGone sys form only steps walk takings input remaining old mid)
+      (later : last_tick 0 gone.lines ≤ line.key.tick) (within : line.instance < length sys.paths) (limit : ℕ) (look : Look) (goes : WalkTakes types sys form limit look line stop walk done remaining rest)
+      (taken : AreTaken sys steps (takings ++ goes.taking ∷ [])) where
     abbrev pub flag : Bool
     flag = flag_at walk.shown.items line.instance
 
-    pub flag_is : flag ≡ is_kept only goes.turn.first.at
+    pub flag_is : flag ≡ is_kept only goes.taking.first.at
     flag_is = gone.shown line.instance within ∙ ap (λ (m : model.Line). is_kept only m.at) (sym goes.first_is)
 
-    pub all_are : map (line_of sys) (gone.lines ++ goes.lines) ≡ all_lines (turns ++ goes.turn ∷ [])
+    pub all_are : map (line_of sys) (gone.lines ++ goes.lines) ≡ all_lines (takings ++ goes.taking ∷ [])
     all_are =
         map-append (line_of sys) gone.lines goes.lines
         ∙ ap (λ (ls : List model.Line). ls ++ map (line_of sys) goes.lines) gone.lines_are
-        ∙ ap (λ (ls : List model.Line). all_lines turns ++ ls) goes.lines_are
-        ∙ sym (lines_more turns goes.turn)
+        ∙ ap (λ (ls : List model.Line). all_lines takings ++ ls) goes.lines_are
+        ∙ sym (lines_more takings goes.taking)
 
     -- one more taking
-    unfoldable pub gone_more : IsGone sys form only steps done (turns ++ goes.turn ∷ []) input rest old mid
+    unfoldable pub gone_more : IsGone sys form only steps done (takings ++ goes.taking ∷ []) input rest old mid
     gone_more =
         let L : List ℕ = lines_text form sys (map (line_of sys) gone.lines) in
         let K : List ℕ = lines_text form sys (map (line_of sys) goes.lines) in
@@ -194,20 +189,20 @@ module _ (sys : System) (form : Form) (only : List Name) (steps : ℕ) where
           sent = gone.sent;
           got = gone.got;
           text = ap (λ (t : List ℕ). gone.sent ++ t) goes.goes.text
-              ∙ sym (append_assoc gone.sent walk.trail.page.text.items (shown_text flag (turn_text form sys goes.turn)))
-              ∙ ap (λ (t : List ℕ). t ++ shown_text flag (turn_text form sys goes.turn)) gone.text
-              ∙ ap (λ (t : List ℕ). all_text form sys only turns ++ t) (shown_if (is_kept only goes.turn.first.at) flag (turn_text form sys goes.turn) flag_is)
-              ∙ sym (text_more form sys only turns goes.turn);
+              ∙ sym (append_assoc gone.sent walk.trail.page.text.items (shown_text flag (taking_text form sys goes.taking)))
+              ∙ ap (λ (t : List ℕ). t ++ shown_text flag (taking_text form sys goes.taking)) gone.text
+              ∙ ap (λ (t : List ℕ). all_text form sys only takings ++ t) (shown_if (is_kept only goes.taking.first.at) flag (taking_text form sys goes.taking) flag_is)
+              ∙ sym (text_more form sys only takings goes.taking);
         }
 
     pub last_is : last_tick 0 (gone.lines ++ goes.lines) ≡ line.key.tick
-    last_is = last_more sys line.key.tick 0 gone.lines goes.lines goes.turn.first (map (emission_line goes.turn.first) goes.turn.emits) goes.lines_are goes.goes.each
+    last_is = last_more sys line.key.tick 0 gone.lines goes.lines goes.taking.first (map (emission_line goes.taking.first) goes.taking.emits) goes.lines_are goes.goes.each
 
     -- what they cover is marked
     pub more_marked :
-        (first : Marks) → AreMarked types sys turns gone.lines first walk.trail.marks → AreMarked types sys (turns ++ goes.turn ∷ []) (gone.lines ++ goes.lines) first done.trail.marks
+        (first : Marks) → AreMarked types sys takings gone.lines first walk.trail.marks → AreMarked types sys (takings ++ goes.taking ∷ []) (gone.lines ++ goes.lines) first done.trail.marks
     more_marked first are = record {
-      charts = marks_more types sys turns goes.turn first.charts walk.trail.marks.charts done.trail.marks.charts are.charts goes.marked;
+      charts = marks_more types sys takings goes.taking first.charts walk.trail.marks.charts done.trail.marks.charts are.charts goes.marked;
       ports = goes.goes.ported ∙ ap (lines_marked goes.lines) are.ports ∙ sym (marked-append gone.lines goes.lines first.ports);
     }
 
@@ -219,7 +214,7 @@ module _ (sys : System) (form : Form) (only : List Name) (steps : ℕ) where
       let gone = covered.gone.gone in
       record {
         gone = record {
-          turns = covered.gone.turns;
+          takings = covered.gone.takings;
           goes_on = covered.gone.goes_on;
           chain = covered.gone.chain;
           look = covered.gone.look;

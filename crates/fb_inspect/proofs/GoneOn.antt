@@ -20,12 +20,12 @@ use Rattle.fb_wave.specs.Copying.{IsAfter}
 use Rattle.fb_wave.specs.Dumps.{last_tick}
 use Rattle.fb_system.specs.Lines.{BelongsTo}
 use Rattle.fb_wave.specs.Lines.{IsLast, IsLineOf}
-use Rattle.fb_inspect.specs.Inspections.{AreTaken, AreTurns, EndsSo, last_look, limited, most}
+use Rattle.fb_inspect.specs.Inspections.{AreTaken, AreTakings, EndsSo, last_look, limited, most}
 use Rattle.fb_inspect.specs.Lines.{IsNext}
-use Rattle.fb_inspect.specs.Looks.{Look, Turn, Turns, opening_look}
+use Rattle.fb_inspect.specs.Looks.{IsTaking, Look, Taking, opening_look}
 use Rattle.fb_inspect.specs.Moves.{IsLineAt}
 use Rattle.fb_inspect.specs.Stepping.{EndsAfter, EndsHere, GoesOn, GoesWith, IsStopped, IsUsedUp, StepGoes, stop_at}
-use Rattle.fb_inspect.specs.Walking.{AreCutOff, AreKept, IsCutAfter, IsLookOf, TurnGoes}
+use Rattle.fb_inspect.specs.Walking.{AreCutOff, AreKept, IsCutAfter, IsLookOf, WalkTakes}
 use Rattle.fb_inspect.specs.declared.ahead.Ahead.{Ahead}
 use Rattle.fb_inspect.specs.declared.reading.Next.{Next}
 use Rattle.fb_inspect.specs.declared.reading.Next.TheVariants as next
@@ -37,13 +37,13 @@ use Rattle.fb_inspect.proofs.Moving.{lines-append}
 use Rattle.fb_inspect.proofs.Stepped.{ends_between, ends_stopped, ends_used, last_limited}
 use Rattle.fb_inspect.specs.Dumping.{IsPortDump, Shows, ShowsUntaken}
 use Rattle.fb_inspect.specs.Saved.{IsBefore}
-use Rattle.fb_inspect.specs.StateDumps.{Taken, lines_of, turns_of}
+use Rattle.fb_inspect.specs.StateDumps.{Taken, lines_of, takings_of}
 use Rattle.fb_inspect.specs.Waving.{CanShow, HasGoneOn, HasWaved, IsCut, IsEventKept, IsNextKept, IsWhole, ShowsTaking, TakingGoes}
 use Rattle.fb_inspect.specs.declared.before.Before.{Before}
 use Rattle.fb_inspect.specs.declared.state_wave.EventAt.{EventAt}
 use Rattle.fb_inspect.specs.declared.state_wave.StateWave.{StateWave}
 use Rattle.fb_inspect.specs.declared.trail.Trail.{Trail}
-use Rattle.fb_inspect.proofs.Growing.{look-one, turns-one}
+use Rattle.fb_inspect.proofs.Growing.{look-one, takings-one}
 use Rattle.fb_inspect.proofs.Waved.{last_is, lines_belong, lost_is, passed_are, stops_more, waved_more}
 
 pub same_line : (a b : Line) (n : Next) → next.Event a ≡ n → n ≡ next.Event b → a ≡ b
@@ -127,7 +127,7 @@ module _ (types : List BlockType) (sys : System) (form : Form) (steps : ℕ) (w 
   xs = have.takings
 
   abbrev seen : Look
-  seen = last_look (opening_look sys) (turns_of xs)
+  seen = last_look (opening_look sys) (takings_of xs)
 
   next_here : (was : Walk) (n : Next) → IsReady w was → n ≡ was.trail.reading.next → IsNext sys form (last_tick 0 (lines_of xs)) w.walk.trail.reading.line.items n
   next_here was n ready is =
@@ -143,20 +143,20 @@ module _ (types : List BlockType) (sys : System) (form : Form) (steps : ℕ) (w 
     line_is line is = same_line line event.line w.walk.trail.reading.next (is ∙ ap (λ v. v.next) ready.reading) event.is
 
     taking_goes :
-        (limit : ℕ) (judged : Look) (line : Line) (stop : Option Reason) → next.Event line ≡ was.trail.reading.next → TurnGoes types sys form limit judged line stop was now r rest
+        (limit : ℕ) (judged : Look) (line : Line) (stop : Option Reason) → next.Event line ≡ was.trail.reading.next → WalkTakes types sys form limit judged line stop was now r rest
         → TakingGoes sys form limit judged xs line stop w done r rest
     taking_goes limit judged line stop is goes =
         let same : line ≡ event.line = line_is line is in
         let passed = passed_are goes.lines was.trail.passed now.trail.passed ready.kept ready.none goes.goes.passed in
         let p_is : path_at sys line.instance ≡ path_at sys at.instance = ap (λ (l : Line). path_at sys l.instance) same ∙ ap (path_at sys) (sym event.instance_is) in
-        let at_is : goes.turn.first.at ≡ path_at sys at.instance = ap (λ (m : model.Line). m.at) goes.first_is ∙ p_is in
-        let taken : Taken = record { turn = goes.turn; lines = goes.lines } in
+        let at_is : goes.taking.first.at ≡ path_at sys at.instance = ap (λ (m : model.Line). m.at) goes.first_is ∙ p_is in
+        let taken : Taken = record { taking = goes.taking; lines = goes.lines } in
         record {
           taken = taken;
           first_is = goes.first_is;
           stop_is = goes.stop_is;
-          turns = goes.turns;
-          look_after = subst (λ (v : Walk). IsLookOf sys v.blocks.items v.steps.items goes.turn.after) (sym own) goes.look_after;
+          is_taking = goes.is_taking;
+          look_after = subst (λ (v : Walk). IsLookOf sys v.blocks.items v.steps.items goes.taking.after) (sym own) goes.look_after;
           kept = ap (λ (v : Walk). v.trail.passed.are_kept) own ∙ goes.goes.passed.same ∙ ready.kept;
           lines_are = goes.lines_are;
           each = goes.goes.each;
@@ -167,36 +167,36 @@ module _ (types : List BlockType) (sys : System) (form : Form) (steps : ℕ) (w 
           numbered = ap (λ (v : Walk). v.trail.reading.number) own ∙ goes.goes.numbered ∙ ap (λ v. v.number + length goes.lines) ready.reading;
           numbers = numbers;
           shown = λ sent shows.
-              (by seen goes.turn.after (event.saved seen have.look.are) goes.look_after.are).shown xs taken sent shows refl at_is
+              (by seen goes.taking.after (event.saved seen have.look.are) goes.look_after.are).shown xs taken sent shows refl at_is
               (ap (λ (m : model.Line). m.key.tick) goes.first_is ∙ ap (λ (l : Line). l.key.tick) same ∙ sym event.tick_is) refl (sym passed)
-              (λ t kind. lost_is types (sys.kind goes.turn.first.at) goes.turn _ _ t goes.marked (ap sys.kind at_is ∙ kind) ready.lost) goes.lines_are;
+              (λ t kind. lost_is types (sys.kind goes.taking.first.at) goes.taking _ _ t goes.marked (ap sys.kind at_is ∙ kind) ready.lost) goes.lines_are;
         }
 
     later_than : (line : Line) → next.Event line ≡ was.trail.reading.next → last_tick 0 (lines_of xs) ≤ line.key.tick
     later_than line is = (next_here was (next.Event line) ready is).1
 
     one_more :
-        (limit : ℕ) (judged : Look) (line : Line) (stop : Option Reason) (turned : TakingGoes sys form limit judged xs line stop w done r rest) → Turns sys most seen turned.taken.turn
-        → AreTurns sys most (opening_look sys) (turns_of (xs ++ turned.taken ∷ []))
-    one_more limit judged line stop turned turns =
-        subst (AreTurns sys most (opening_look sys)) (sym (turns-one xs turned.taken)) (chain_more sys most (opening_look sys) (turns_of xs) turned.taken.turn have.chain have.goes_on turns)
+        (limit : ℕ) (judged : Look) (line : Line) (stop : Option Reason) (takes : TakingGoes sys form limit judged xs line stop w done r rest) → IsTaking sys most seen takes.taken.taking
+        → AreTakings sys most (opening_look sys) (takings_of (xs ++ takes.taken ∷ []))
+    one_more limit judged line stop takes is_taking =
+        subst (AreTakings sys most (opening_look sys)) (sym (takings-one xs takes.taken)) (chain_more sys most (opening_look sys) (takings_of xs) takes.taken.taking have.chain have.goes_on is_taking)
 
     -- the trace goes on
     gone_taken :
         (line : Line) → next.Event line ≡ was.trail.reading.next → GoesOn types sys form seen line was now r rest → HasWaved sys form steps done known rest old mid
     gone_taken line is goes =
-        let turned = taking_goes most seen line None is goes.goes in
-        let chain = one_more most seen line None turned turned.turns in
+        let takes = taking_goes most seen line None is goes.goes in
+        let chain = one_more most seen line None takes takes.is_taking in
         let later = later_than line is in
         record {
-          takings = xs ++ turned.taken ∷ [];
-          goes_on = stops_more xs turned.taken have.goes_on turned.stop_is;
+          takings = xs ++ takes.taken ∷ [];
+          goes_on = stops_more xs takes.taken have.goes_on takes.stop_is;
           chain = chain;
-          look = subst (λ (k : Look). IsLookOf sys done.walk.blocks.items done.walk.steps.items k) (sym (look-one (opening_look sys) xs turned.taken)) turned.look_after;
-          kept = turned.kept;
-          waved = waved_more sys form steps w done xs line None most seen known r rest old mid have.waved later turned (inl chain);
+          look = subst (λ (k : Look). IsLookOf sys done.walk.blocks.items done.walk.steps.items k) (sym (look-one (opening_look sys) xs takes.taken)) takes.look_after;
+          kept = takes.kept;
+          waved = waved_more sys form steps w done xs line None most seen known r rest old mid have.waved later takes (inl chain);
           next = subst (λ (t : ℕ). IsNext sys form t done.walk.trail.reading.line.items done.walk.trail.reading.next)
-              (sym (last_is sys form steps w done xs line None most seen known r rest old mid have.waved later turned))
+              (sym (last_is sys form steps w done xs line None most seen known r rest old mid have.waved later takes))
               (subst (λ (v : Walk). IsNext sys form line.key.tick v.trail.reading.line.items v.trail.reading.next) (sym own) goes.next);
         }
 
@@ -205,19 +205,19 @@ module _ (types : List BlockType) (sys : System) (form : Form) (steps : ℕ) (w 
         (line : Line) (end : Outcome) → next.Event line ≡ was.trail.reading.next → IsStopped types sys form seen line end was now r rest → IsLast sys now.trail.reading.line.items end
         → IsAfter line.key.tick end → IsWhole sys form steps done end known rest old mid
     gone_stopped line end is x last after =
-        let turned = taking_goes most seen line (Some x.reason) is x.goes in
+        let takes = taking_goes most seen line (Some x.reason) is x.goes in
         let later = later_than line is in
-        let all : List Turn = turns_of (xs ++ turned.taken ∷ []) in
+        let all : List Taking = takings_of (xs ++ takes.taken ∷ []) in
         record {
-          takings = xs ++ turned.taken ∷ [];
+          takings = xs ++ takes.taken ∷ [];
           line = done.walk.trail.reading.line.items;
-          waved = waved_more sys form steps w done xs line (Some x.reason) most seen known r rest old mid have.waved later turned
-              (inl (one_more most seen line (Some x.reason) turned turned.turns));
+          waved = waved_more sys form steps w done xs line (Some x.reason) most seen known r rest old mid have.waved later takes
+              (inl (one_more most seen line (Some x.reason) takes takes.is_taking));
           ends = subst (λ (e : Outcome). EndsSo sys steps all (ending_of e)) (sym x.is)
-              (subst (λ (ts : List Turn). EndsSo sys steps ts (ending_of (stop_at line x.reason))) (sym (turns-one xs turned.taken))
-              (ends_stopped sys steps (turns_of xs) have.chain have.goes_on turned.taken.turn line turned.first_is x.reason turned.turns turned.stop_is x.other));
+              (subst (λ (ts : List Taking). EndsSo sys steps ts (ending_of (stop_at line x.reason))) (sym (takings-one xs takes.taken))
+              (ends_stopped sys steps (takings_of xs) have.chain have.goes_on takes.taken.taking line takes.first_is x.reason takes.is_taking takes.stop_is x.other));
           last = subst (λ (v : Walk). IsLast sys v.trail.reading.line.items end) (sym own) last;
-          after = subst (λ (t : ℕ). IsAfter t end) (sym (last_is sys form steps w done xs line (Some x.reason) most seen known r rest old mid have.waved later turned)) after;
+          after = subst (λ (t : ℕ). IsAfter t end) (sym (last_is sys form steps w done xs line (Some x.reason) most seen known r rest old mid have.waved later takes)) after;
         }
 
     -- .. or since that has used up its steps
@@ -227,20 +227,20 @@ module _ (types : List BlockType) (sys : System) (form : Form) (steps : ℕ) (w 
     unfolding taking_goes
     gone_used line end is x last after =
         let judged : Look = limited steps line.key.tick line.key.resource seen in
-        let turned = taking_goes steps judged line x.stop is x.goes in
+        let takes = taking_goes steps judged line x.stop is x.goes in
         let later = later_than line is in
-        let all : List Turn = turns_of (xs ++ turned.taken ∷ []) in
-        let so = last_limited sys steps (turns_of xs) have.chain have.goes_on turned.taken.turn line turned.first_is x.kept x.within turned.turns in
-        let limits : AreTaken sys steps (turns_of xs ++ turned.taken.turn ∷ []) = inr (line.key.tick, line.key.resource, so) in
+        let all : List Taking = takings_of (xs ++ takes.taken ∷ []) in
+        let so = last_limited sys steps (takings_of xs) have.chain have.goes_on takes.taken.taking line takes.first_is x.kept x.within takes.is_taking in
+        let limits : AreTaken sys steps (takings_of xs ++ takes.taken.taking ∷ []) = inr (line.key.tick, line.key.resource, so) in
         record {
-          takings = xs ++ turned.taken ∷ [];
+          takings = xs ++ takes.taken ∷ [];
           line = done.walk.trail.reading.line.items;
-          waved = waved_more sys form steps w done xs line x.stop steps judged known r rest old mid have.waved later turned (subst (AreTaken sys steps) (sym (turns-one xs turned.taken)) limits);
+          waved = waved_more sys form steps w done xs line x.stop steps judged known r rest old mid have.waved later takes (subst (AreTaken sys steps) (sym (takings-one xs takes.taken)) limits);
           ends = subst (λ (e : Outcome). EndsSo sys steps all (ending_of e)) (sym x.is)
-              (subst (λ (ts : List Turn). EndsSo sys steps ts (ending_of (stop_at line Steps))) (sym (turns-one xs turned.taken))
-              (ends_used sys steps (turns_of xs) have.chain have.goes_on turned.taken.turn line turned.first_is x.kept x.within turned.turns x.out));
+              (subst (λ (ts : List Taking). EndsSo sys steps ts (ending_of (stop_at line Steps))) (sym (takings-one xs takes.taken))
+              (ends_used sys steps (takings_of xs) have.chain have.goes_on takes.taken.taking line takes.first_is x.kept x.within takes.is_taking x.out));
           last = subst (λ (v : Walk). IsLast sys v.trail.reading.line.items end) (sym own) last;
-          after = subst (λ (t : ℕ). IsAfter t end) (sym (last_is sys form steps w done xs line x.stop steps judged known r rest old mid have.waved later turned)) after;
+          after = subst (λ (t : ℕ). IsAfter t end) (sym (last_is sys form steps w done xs line x.stop steps judged known r rest old mid have.waved later takes)) after;
         }
 
     gone_ended :
@@ -281,7 +281,7 @@ module _ (types : List BlockType) (sys : System) (form : Form) (steps : ℕ) (w 
             got = have.waved.got;
             shown = have.waved.shown;
           };
-          ends = ends_between sys steps (turns_of xs) have.chain have.goes_on end x.may;
+          ends = ends_between sys steps (takings_of xs) have.chain have.goes_on end x.may;
           last = here.0;
           after = here.1;
         }
@@ -335,11 +335,11 @@ module _ (types : List BlockType) (sys : System) (form : Form) (steps : ℕ) (w 
 module _ (types : List BlockType) (sys : System) (form : Form) (steps : ℕ) (w : StateWave) (look : Look) (was now : Walk) (kept : Before) (at : EventAt) (ahead : Ahead) (r rest : Option (List ℕ)) where
   can_by :
       (limit : ℕ) (judged : Look) (line : Line) (stop : Option Reason) → IsReady w was → IsEventKept sys w.walk kept at → IsPortDump sys w.dump → AreKept sys w.walk.blocks.items look
-      → at.instance < length sys.paths → TurnGoes types sys form limit judged line stop was now r rest → CanShow sys at (record w { walk = now; before = kept })
+      → at.instance < length sys.paths → WalkTakes types sys form limit judged line stop was now r rest → CanShow sys at (record w { walk = now; before = kept })
   can_by limit judged line stop ready event numbers are within goes = record {
     dump = numbers;
     within = within;
-    look = goes.turn.after;
+    look = goes.taking.after;
     kept = goes.look_after.are;
     seen = look.blocks (path_at sys at.instance);
     saved = event.saved look are;

@@ -16,12 +16,12 @@ use Rattle.fb_wave.specs.Signals.{sizes_of}
 use Rattle.fb_wave.specs.declared.levels.Levels.{Levels}
 use Rattle.fb_wave.proofs.Showing.{fires-one, sets-one, touches-one}
 use Rattle.fb_inspect.specs.Inspections.{last_look}
-use Rattle.fb_inspect.specs.Looks.{Look, Turn, opening_look}
+use Rattle.fb_inspect.specs.Looks.{Look, Taking, opening_look}
 use Rattle.fb_inspect.specs.Moves.{IsLineAt}
-use Rattle.fb_inspect.specs.Dumping.{IsTurned, Shows, ShowsLines, ShowsUntaken}
+use Rattle.fb_inspect.specs.Dumping.{Shows, ShowsLines, ShowsUntaken, ShowsUpTo}
 use Rattle.fb_inspect.specs.Heads.{state_head}
-use Rattle.fb_inspect.specs.Inner.{turn_changes}
-use Rattle.fb_inspect.specs.StateDumps.{Taken, cut_dump, lines_of, state_dump, takings_text, tick_of, turns_of}
+use Rattle.fb_inspect.specs.Inner.{taking_changes}
+use Rattle.fb_inspect.specs.StateDumps.{Taken, cut_dump, lines_of, state_dump, takings_of, takings_text, tick_of}
 use Rattle.fb_inspect.specs.declared.port_dump.PortDump.{PortDump}
 
 -- ---- One more taking
@@ -30,15 +30,15 @@ pub lines-one : (xs : List Taken) (y : Taken) → lines_of (xs ++ y ∷ []) ≡ 
 lines-one [] y = append-nil y.lines
 lines-one (x ∷ xs) y = ap (λ (ls : List Line). x.lines ++ ls) (lines-one xs y) ∙ sym (append_assoc x.lines (lines_of xs) y.lines)
 
-pub turns-one : (xs : List Taken) (y : Taken) → turns_of (xs ++ y ∷ []) ≡ turns_of xs ++ y.turn ∷ []
-turns-one xs y = map-append (λ (x : Taken). x.turn) xs (y ∷ [])
+pub takings-one : (xs : List Taken) (y : Taken) → takings_of (xs ++ y ∷ []) ≡ takings_of xs ++ y.taking ∷ []
+takings-one xs y = map-append (λ (x : Taken). x.taking) xs (y ∷ [])
 
-pub look-one : (look : Look) (xs : List Taken) (y : Taken) → last_look look (turns_of (xs ++ y ∷ [])) ≡ y.turn.after
+pub look-one : (look : Look) (xs : List Taken) (y : Taken) → last_look look (takings_of (xs ++ y ∷ [])) ≡ y.taking.after
 look-one look [] y = refl
-look-one look (x ∷ xs) y = look-one x.turn.after xs y
+look-one look (x ∷ xs) y = look-one x.taking.after xs y
 
 abbrev pub here : System → List Taken → Look
-here sys xs = last_look (opening_look sys) (turns_of xs)
+here sys xs = last_look (opening_look sys) (takings_of xs)
 
 abbrev pub all_text : System → List Line → List Taken → List ℕ
 all_text sys us xs = state_head true sys ++ takings_text true sys us 0 [] [] (opening_look sys) xs
@@ -49,8 +49,8 @@ changes_by sys before now = tick_changes sys before now
 -- the text after a taking, where it is one of the same tick and where it is not
 abbrev rest_text : System → (us : List Line) → (last : ℕ) → (before now : List Line) → Look → Taken → (rest : List Taken) → Bool → List ℕ
 rest_text sys us last before now look y rest b =
-    cond b (turn_changes sys look y.turn ++ takings_text true sys us last before (now ++ y.lines) y.turn.after rest)
-    (((tick_changes sys before now ++ time_text last (tick_of y)) ++ turn_changes sys look y.turn) ++ takings_text true sys us (tick_of y) (before ++ now) y.lines y.turn.after rest)
+    cond b (taking_changes sys look y.taking ++ takings_text true sys us last before (now ++ y.lines) y.taking.after rest)
+    (((tick_changes sys before now ++ time_text last (tick_of y)) ++ taking_changes sys look y.taking) ++ takings_text true sys us (tick_of y) (before ++ now) y.lines y.taking.after rest)
 
 -- the text after a line without its taking, where it is one of the same tick and where it is not
 abbrev line_text_by : System → (last : ℕ) → (before now : List Line) → Line → (us : List Line) → Bool → List ℕ
@@ -75,15 +75,15 @@ shows_none sys new x is tick are = record {
 }
 
 -- a taking of the same tick comes
-pub turned_same : (sys : System) (xs : List Taken) (text : List ℕ) (tick : ℕ) (x : PortDump) → tick ≡ x.tick → Shows sys xs text x → IsTurned sys xs text tick x
-turned_same sys xs text tick x same t = record {
+pub up_to_same : (sys : System) (xs : List Taken) (text : List ℕ) (tick : ℕ) (x : PortDump) → tick ≡ x.tick → Shows sys xs text x → ShowsUpTo sys xs text tick x
+up_to_same sys xs text tick x same t = record {
   before = t.before;
   now = t.now;
   parts = t.parts;
   tick = sym same;
   levels = t.levels;
   text = λ us y rest at.
-      ap (λ (k : ℕ). text ++ (turn_changes sys (here sys xs) y.turn ++ takings_text true sys us k t.before (t.now ++ y.lines) y.turn.after rest)) same
+      ap (λ (k : ℕ). text ++ (taking_changes sys (here sys xs) y.taking ++ takings_text true sys us k t.before (t.now ++ y.lines) y.taking.after rest)) same
       ∙ ap (λ (b : Bool). text ++ rest_text sys us x.tick t.before t.now (here sys xs) y rest b) (sym (eq-eqb (tick_of y) x.tick (at ∙ same)))
       ∙ t.text us (y ∷ rest);
   untaken = λ l us at.
@@ -99,11 +99,11 @@ regroup_line : (s o c k r : List ℕ) → (s ++ ((o ++ c) ++ k)) ++ r ≡ (s ++ 
 regroup_line s o c k r = simp append_assoc
 
 -- a taking of another tick comes
-pub turned_next :
+pub up_to_next :
     (sys : System) (xs : List Taken) (sent old mid new : List ℕ) (tick : ℕ) (x y : PortDump) → (tick ≡ x.tick → ⊥) → (t : Shows sys xs (sent ++ old) x)
     → mid ≡ old ++ changes (fires_of sys (lines_of xs)) (has_signal sys (lines_of xs)) (touches_of sys t.now) → new ≡ mid ++ time_text x.tick tick
-    → AreLevels (sizes_of sys sys.paths) (fires_of sys (lines_of xs)) (has_signal sys (lines_of xs)) [] y.signals.levels → y.tick ≡ tick → IsTurned sys xs (sent ++ new) tick y
-turned_next sys xs sent old mid new tick x y other t put time are at_tick =
+    → AreLevels (sizes_of sys sys.paths) (fires_of sys (lines_of xs)) (has_signal sys (lines_of xs)) [] y.signals.levels → y.tick ≡ tick → ShowsUpTo sys xs (sent ++ new) tick y
+up_to_next sys xs sent old mid new tick x y other t put time are at_tick =
     let ls : List Line = lines_of xs in
     record {
       before = ls;
@@ -114,12 +114,12 @@ turned_next sys xs sent old mid new tick x y other t put time are at_tick =
       text = λ us z rest at.
           let C : List ℕ = changes_by sys t.before t.now in
           let T : List ℕ = time_text x.tick (tick_of z) in
-          let I : List ℕ = turn_changes sys (here sys xs) z.turn in
-          let R : List ℕ = takings_text true sys us (tick_of z) (t.before ++ t.now) z.lines z.turn.after rest in
+          let I : List ℕ = taking_changes sys (here sys xs) z.taking in
+          let R : List ℕ = takings_text true sys us (tick_of z) (t.before ++ t.now) z.lines z.taking.after rest in
           let is : new ≡ (old ++ C) ++ T = changed (tick_of z) at in
           let different : tick_of z ≡ x.tick → ⊥ = λ e. other (sym at ∙ e) in
-          ap (λ (k : ℕ). (sent ++ new) ++ (I ++ takings_text true sys us k ls z.lines z.turn.after rest)) (sym at)
-          ∙ ap (λ (zs : List Line). (sent ++ new) ++ (I ++ takings_text true sys us (tick_of z) zs z.lines z.turn.after rest)) t.parts
+          ap (λ (k : ℕ). (sent ++ new) ++ (I ++ takings_text true sys us k ls z.lines z.taking.after rest)) (sym at)
+          ∙ ap (λ (zs : List Line). (sent ++ new) ++ (I ++ takings_text true sys us (tick_of z) zs z.lines z.taking.after rest)) t.parts
           ∙ ap (λ (m : List ℕ). (sent ++ m) ++ (I ++ R)) is
           ∙ regroup sent old C T I R
           ∙ ap (λ (b : Bool). (sent ++ old) ++ rest_text sys us x.tick t.before t.now (here sys xs) z rest b) (sym (ne_eqb (tick_of z) x.tick different))
@@ -143,15 +143,6 @@ turned_next sys xs sent old mid new tick x y other t put time are at_tick =
         ∙ ap (λ (m : List ℕ). m ++ time_text x.tick k) (put ∙ ap (λ (zs : List Line). old ++ changes (fires_of sys zs) (has_signal sys zs) (touches_of sys t.now)) t.parts)
 
 -- ---- Lines
-
--- no line was shown, and one after others
-pub lines_none : (sys : System) (x : PortDump) → ShowsLines sys [] x x
-lines_none sys x = record {
-  tick = refl;
-  levels = λ all now are.
-      subst (λ (ls : List Line). AreLevels (sizes_of sys sys.paths) (fires_of sys ls) (has_signal sys ls) (touches_of sys (now ++ [])) x.signals.levels) (sym (append-nil all))
-      (subst (λ (ls : List Line). AreLevels (sizes_of sys sys.paths) (fires_of sys all) (has_signal sys all) (touches_of sys ls) x.signals.levels) (sym (append-nil now)) are);
-}
 
 pub lines_then : (sys : System) (ls ks : List Line) (x y z : PortDump) → ShowsLines sys ls x y → ShowsLines sys ks y z → ShowsLines sys (ls ++ ks) x z
 lines_then sys ls ks x y z first second = record {
@@ -188,27 +179,27 @@ line_one sys l x y same goes = record {
 -- ---- One more taking was shown
 
 pub shows_more :
-    (sys : System) (xs : List Taken) (y : Taken) (sent old new : List ℕ) (next : ℕ) (a b : PortDump) → IsTurned sys xs (sent ++ old) next a → tick_of y ≡ next
-    → new ≡ old ++ turn_changes sys (here sys xs) y.turn → ShowsLines sys y.lines a b → last_tick 0 (lines_of xs ++ y.lines) ≡ next → Shows sys (xs ++ y ∷ []) (sent ++ new) b
-shows_more sys xs y sent old new next a b turned at put lines last =
+    (sys : System) (xs : List Taken) (y : Taken) (sent old new : List ℕ) (next : ℕ) (a b : PortDump) → ShowsUpTo sys xs (sent ++ old) next a → tick_of y ≡ next
+    → new ≡ old ++ taking_changes sys (here sys xs) y.taking → ShowsLines sys y.lines a b → last_tick 0 (lines_of xs ++ y.lines) ≡ next → Shows sys (xs ++ y ∷ []) (sent ++ new) b
+shows_more sys xs y sent old new next a b takes at put lines last =
     let n : ℕ = sizes_of sys sys.paths in
     let one : lines_of (xs ++ y ∷ []) ≡ lines_of xs ++ y.lines = lines-one xs y in
-    let tick : b.tick ≡ next = lines.tick ∙ turned.tick in
-    let grown = lines.levels (lines_of xs) turned.now turned.levels in
-    let I : List ℕ = turn_changes sys (here sys xs) y.turn in
+    let tick : b.tick ≡ next = lines.tick ∙ takes.tick in
+    let grown = lines.levels (lines_of xs) takes.now takes.levels in
+    let I : List ℕ = taking_changes sys (here sys xs) y.taking in
     record {
-      before = turned.before;
-      now = turned.now ++ y.lines;
-      parts = one ∙ ap (λ (ls : List Line). ls ++ y.lines) turned.parts ∙ append_assoc turned.before turned.now y.lines;
+      before = takes.before;
+      now = takes.now ++ y.lines;
+      parts = one ∙ ap (λ (ls : List Line). ls ++ y.lines) takes.parts ∙ append_assoc takes.before takes.now y.lines;
       tick = tick ∙ sym last ∙ ap (last_tick 0) (sym one);
-      levels = subst (λ (ls : List Line). AreLevels n (fires_of sys ls) (has_signal sys ls) (touches_of sys (turned.now ++ y.lines)) b.signals.levels) (sym one) grown;
+      levels = subst (λ (ls : List Line). AreLevels n (fires_of sys ls) (has_signal sys ls) (touches_of sys (takes.now ++ y.lines)) b.signals.levels) (sym one) grown;
       text = λ us rest.
-          let R : List ℕ = takings_text true sys us next turned.before (turned.now ++ y.lines) y.turn.after rest in
-          ap (λ (k : ℕ). (sent ++ new) ++ takings_text true sys us k turned.before (turned.now ++ y.lines) (here sys (xs ++ y ∷ [])) rest) tick
-          ∙ ap (λ (l : Look). (sent ++ new) ++ takings_text true sys us next turned.before (turned.now ++ y.lines) l rest) (look-one (opening_look sys) xs y)
+          let R : List ℕ = takings_text true sys us next takes.before (takes.now ++ y.lines) y.taking.after rest in
+          ap (λ (k : ℕ). (sent ++ new) ++ takings_text true sys us k takes.before (takes.now ++ y.lines) (here sys (xs ++ y ∷ [])) rest) tick
+          ∙ ap (λ (l : Look). (sent ++ new) ++ takings_text true sys us next takes.before (takes.now ++ y.lines) l rest) (look-one (opening_look sys) xs y)
           ∙ ap (λ (m : List ℕ). (sent ++ m) ++ R) put
           ∙ group sent old I R
-          ∙ turned.text us y rest at
+          ∙ takes.text us y rest at
           ∙ ap (all_text sys us) (sym (append_assoc xs (y ∷ []) rest));
     }
   where
@@ -254,18 +245,18 @@ ticks_here sys t before now (l ∷ ls) at =
 
 -- the line of an event was shown without its taking, and then lines of its tick
 pub shows_untaken :
-    (sys : System) (xs : List Taken) (l : Line) (ls : List Line) (text : List ℕ) (a b c : PortDump) → IsTurned sys xs text l.key.tick a → ShowsLines sys (l ∷ []) a b → ShowsLines sys ls b c
+    (sys : System) (xs : List Taken) (l : Line) (ls : List Line) (text : List ℕ) (a b c : PortDump) → ShowsUpTo sys xs text l.key.tick a → ShowsLines sys (l ∷ []) a b → ShowsLines sys ls b c
     → All (IsLineAt sys l.key.tick) ls → ShowsUntaken sys xs (l ∷ ls) text c
-shows_untaken sys xs l ls text a b c turned first more at =
+shows_untaken sys xs l ls text a b c takes first more at =
     let all = lines_then sys (l ∷ []) ls a b c first more in
     record {
-      before = turned.before;
-      now = turned.now ++ l ∷ ls;
-      parts = ap (λ (ks : List Line). ks ++ l ∷ ls) turned.parts ∙ append_assoc turned.before turned.now (l ∷ ls);
-      levels = all.levels (lines_of xs) turned.now turned.levels;
-      text = ap (λ (k : List Line). text ++ tick_changes sys turned.before k) (sym (append_assoc turned.now (l ∷ []) ls))
-          ∙ ap (λ (m : List ℕ). text ++ m) (sym (ticks_here sys l.key.tick turned.before (turned.now ++ l ∷ []) ls at))
-          ∙ turned.untaken l ls refl;
+      before = takes.before;
+      now = takes.now ++ l ∷ ls;
+      parts = ap (λ (ks : List Line). ks ++ l ∷ ls) takes.parts ∙ append_assoc takes.before takes.now (l ∷ ls);
+      levels = all.levels (lines_of xs) takes.now takes.levels;
+      text = ap (λ (k : List Line). text ++ tick_changes sys takes.before k) (sym (append_assoc takes.now (l ∷ []) ls))
+          ∙ ap (λ (m : List ℕ). text ++ m) (sym (ticks_here sys l.key.tick takes.before (takes.now ++ l ∷ []) ls at))
+          ∙ takes.untaken l ls refl;
     }
 
 -- no such line comes

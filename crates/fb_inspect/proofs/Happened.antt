@@ -28,8 +28,8 @@ use Rattle.fb_coverage.specs.declared.table.Table.{Table}
 use Rattle.fb_coverage.proofs.Added.{adds_both, adds_by, adds_none, adds_one}
 use Rattle.fb_inspect.specs.Chains.{Piece, Clears_by, Is_lost, Ran, Stops_by, Has, Emits}
 use Rattle.fb_inspect.specs.Happenings.{AreMarkedBy, Clears, ClearsSome, ClearsTransition, Does, Enters, EntersState, Happens, History, IsAtPort, IsOfPort, KeepsEvent, MarkCharts, MarkPorts, Runs, RunsAlgorithm, TakesEvent, together}
-use Rattle.fb_inspect.specs.Looks.{Turn}
-use Rattle.fb_inspect.specs.Markings.{ChartMarked, IsFirstLike, PieceMarks, PiecesMark, TurnMarksAt, TurnsMark, algorithm_number, event_number, lines_marked, state_number}
+use Rattle.fb_inspect.specs.Looks.{Taking}
+use Rattle.fb_inspect.specs.Markings.{ChartMarked, IsFirstLike, PieceMarks, PiecesMark, TakingMarksAt, TakingsMark, algorithm_number, event_number, lines_marked, state_number}
 
 -- ---- Lists
 
@@ -192,7 +192,7 @@ module _ (t : BasicType) (i e : ℕ) where
 -- ---- One taking
 
 -- what one taking marks
-record MarkTurn (blocks : List BlockType) (sys : System) (x : Turn) (old new : ChartMarks) : Type 0 where
+record MarkTaking (blocks : List BlockType) (sys : System) (x : Taking) (old new : ChartMarks) : Type 0 where
   pub states : AddsFlags (Does blocks sys EntersState x) old.states new.states
   pub transitions : AddsFlags (Does blocks sys ClearsTransition x) old.transitions new.transitions
   pub algorithms : AddsFlags (Does blocks sys RunsAlgorithm x) old.algorithms new.algorithms
@@ -203,9 +203,9 @@ same_basic : (o : Option Kind) (s t : BasicType) → o ≡ Some (Basic s) → o 
 same_basic o s t first second = cc
 
 -- a taking that is not one of a basic block marks nothing
-turn_none :
-    (blocks : List BlockType) (sys : System) (x : Turn) (m n : ChartMarks) → n ≡ m → ((t : BasicType) → sys.kind x.first.at ≡ Some (Basic t) → ⊥) → MarkTurn blocks sys x m n
-turn_none blocks sys x m n same other = record {
+taking_none :
+    (blocks : List BlockType) (sys : System) (x : Taking) (m n : ChartMarks) → n ≡ m → ((t : BasicType) → sys.kind x.first.at ≡ Some (Basic t) → ⊥) → MarkTaking blocks sys x m n
+taking_none blocks sys x m n same other = record {
   states = adds_none (Does blocks sys EntersState x) m.states n.states (ap (λ (b : ChartMarks). b.states) same) (λ i k h. other h.0 h.2);
   transitions = adds_none (Does blocks sys ClearsTransition x) m.transitions n.transitions (ap (λ (b : ChartMarks). b.transitions) same) (λ i k h. other h.0 h.2);
   algorithms = adds_none (Does blocks sys RunsAlgorithm x) m.algorithms n.algorithms (ap (λ (b : ChartMarks). b.algorithms) same) (λ i k h. other h.0 h.2);
@@ -213,7 +213,7 @@ turn_none blocks sys x m n same other = record {
   clearing = adds_none (Does blocks sys KeepsEvent x) m.clearing n.clearing (ap (λ (b : ChartMarks). b.clearing) same) (λ i k h. other h.0 h.2);
 }
 
-module _ (i : Inputs) (accepted : AreAccepted i) (x : Turn) (t : BasicType) (kind_is : (system_of i).kind x.first.at ≡ Some (Basic t)) (m n : ChartMarks) (marked : ChartMarked i.library.blocks t x m n) where
+module _ (i : Inputs) (accepted : AreAccepted i) (x : Taking) (t : BasicType) (kind_is : (system_of i).kind x.first.at ≡ Some (Basic t)) (m n : ChartMarks) (marked : ChartMarked i.library.blocks t x m n) where
   abbrev its : List BlockType
   its = i.library.blocks
 
@@ -224,7 +224,7 @@ module _ (i : Inputs) (accepted : AreAccepted i) (x : Turn) (t : BasicType) (kin
   begun = with_taken marked.number event m
 
   -- only this type is of this number
-  module _ (does : BasicType → Turn → ℕ → Type 0) where
+  module _ (does : BasicType → Taking → ℕ → Type 0) where
     does_there : (r k : ℕ) → (r ≡ marked.number) × does t x k → Does its (system_of i) does x r k
     does_there r k h = (t, ap (slice_get its) h.0 ∙ marked.type_is, kind_is, h.1)
 
@@ -234,38 +234,38 @@ module _ (i : Inputs) (accepted : AreAccepted i) (x : Turn) (t : BasicType) (kin
         let here : slice_get its r ≡ Some (block.Basic t) = at ∙ ap (λ (b : BasicType). Some (block.Basic b)) same in
         (type_once i accepted r marked.number (block.Basic t) here marked.type_is, subst (λ (b : BasicType). does b x k) same holds)
 
-    turn_does : (P : ℕ → ℕ → Type 0) (a b : Table) → AddsFlags P a b → ((r k : ℕ) → P r k → (r ≡ marked.number) × does t x k) → ((r k : ℕ) → (r ≡ marked.number) × does t x k → P r k)
+    taking_does : (P : ℕ → ℕ → Type 0) (a b : Table) → AddsFlags P a b → ((r k : ℕ) → P r k → (r ≡ marked.number) × does t x k) → ((r k : ℕ) → (r ≡ marked.number) × does t x k → P r k)
         → AddsFlags (Does its (system_of i) does x) a b
-    turn_does P a b adds there back =
+    taking_does P a b adds there back =
         adds_by P (Does its (system_of i) does x) a b adds (λ r k h. does_there r k (there r k h)) (λ r k h. back r k (does_back r k h))
 
-  turn_basic : MarkTurn its (system_of i) x m n
-  turn_basic = record {
-    states = turn_does EntersState (Some_of (By t marked.number event (Enters t)) x.pieces) m.states n.states
+  taking_basic : MarkTaking its (system_of i) x m n
+  taking_basic = record {
+    states = taking_does EntersState (Some_of (By t marked.number event (Enters t)) x.pieces) m.states n.states
         (pieces_add t marked.number event (λ b. b.states) (Enters t) (piece_enters t marked.number event) x.pieces begun n marked.pieces)
         (λ r k h. (h.2.0, (h.0, h.1, h.2.1))) (λ r k h. (h.1.0, h.1.1, (h.0, h.1.2)));
-    transitions = turn_does ClearsTransition (Some_of (By t marked.number event (Clears t)) x.pieces) m.transitions n.transitions
+    transitions = taking_does ClearsTransition (Some_of (By t marked.number event (Clears t)) x.pieces) m.transitions n.transitions
         (pieces_add t marked.number event (λ b. b.transitions) (Clears t) (piece_clears t marked.number event) x.pieces begun n marked.pieces)
         (λ r k h. (h.2.0, (h.0, h.1, h.2.1))) (λ r k h. (h.1.0, h.1.1, (h.0, h.1.2)));
-    algorithms = turn_does RunsAlgorithm (Some_of (By t marked.number event (Runs t)) x.pieces) m.algorithms n.algorithms
+    algorithms = taking_does RunsAlgorithm (Some_of (By t marked.number event (Runs t)) x.pieces) m.algorithms n.algorithms
         (pieces_add t marked.number event (λ b. b.algorithms) (Runs t) (piece_runs t marked.number event) x.pieces begun n marked.pieces)
         (λ r k h. (h.2.0, (h.0, h.1, h.2.1))) (λ r k h. (h.1.0, h.1.1, (h.0, h.1.2)));
-    taken = turn_does TakesEvent (λ r k. ((r ≡ marked.number) × (k ≡ event)) ⊎ Some_of (By t marked.number event (Nothing t marked.number event)) x.pieces r k) m.taken n.taken
+    taken = taking_does TakesEvent (λ r k. ((r ≡ marked.number) × (k ≡ event)) ⊎ Some_of (By t marked.number event (Nothing t marked.number event)) x.pieces r k) m.taken n.taken
         (adds_both (λ r k. (r ≡ marked.number) × (k ≡ event)) (Some_of (By t marked.number event (Nothing t marked.number event)) x.pieces) m.taken begun.taken n.taken
         (adds_one m.taken marked.number event)
         (pieces_add t marked.number event (λ b. b.taken) (Nothing t marked.number event) (piece_takes t marked.number event) x.pieces begun n marked.pieces))
         (λ r k h. elim h [ inl one ↦ (one.0, sym one.1) | inr none ↦ absurd none.2.1 ]) (λ r k h. inl (h.0, sym h.1));
-    clearing = turn_does KeepsEvent (Some_of (By t marked.number event (Keeps t marked.number event)) x.pieces) m.clearing n.clearing
+    clearing = taking_does KeepsEvent (Some_of (By t marked.number event (Keeps t marked.number event)) x.pieces) m.clearing n.clearing
         (pieces_add t marked.number event (λ b. b.clearing) (Keeps t marked.number event) (piece_keeps t marked.number event) x.pieces begun n marked.pieces)
         (λ r k h. (h.2.0, (h.2.1.0, (h.0, h.1, h.2.1.1)))) (λ r k h. (h.1.1.0, h.1.1.1, (h.0, (h.1.0, h.1.1.2))));
   }
 
-turn_marks : (i : Inputs) → AreAccepted i → (x : Turn) (o : Option Kind) (m n : ChartMarks) → (system_of i).kind x.first.at ≡ o → TurnMarksAt i.library.blocks o x m n
-    → MarkTurn i.library.blocks (system_of i) x m n
-turn_marks i accepted x None m n is same = turn_none i.library.blocks (system_of i) x m n same (λ t kind. absurd (cc))
-turn_marks i accepted x (Some (Basic t)) m n is marked = turn_basic i accepted x t is m n marked
-turn_marks i accepted x (Some (Event k)) m n is same = turn_none i.library.blocks (system_of i) x m n same (λ t kind. absurd (cc))
-turn_marks i accepted x (Some (Composite t)) m n is same = turn_none i.library.blocks (system_of i) x m n same (λ s kind. absurd (cc))
+taking_marks : (i : Inputs) → AreAccepted i → (x : Taking) (o : Option Kind) (m n : ChartMarks) → (system_of i).kind x.first.at ≡ o → TakingMarksAt i.library.blocks o x m n
+    → MarkTaking i.library.blocks (system_of i) x m n
+taking_marks i accepted x None m n is same = taking_none i.library.blocks (system_of i) x m n same (λ t kind. absurd (cc))
+taking_marks i accepted x (Some (Basic t)) m n is marked = taking_basic i accepted x t is m n marked
+taking_marks i accepted x (Some (Event k)) m n is same = taking_none i.library.blocks (system_of i) x m n same (λ t kind. absurd (cc))
+taking_marks i accepted x (Some (Composite t)) m n is same = taking_none i.library.blocks (system_of i) x m n same (λ s kind. absurd (cc))
 
 -- ---- All takings
 
@@ -276,7 +276,7 @@ module _ (i : Inputs) where
   abbrev own : System
   own = system_of i
 
-  abbrev Each_does : (BasicType → Turn → ℕ → Type 0) → Turn → ℕ → ℕ → Type 0
+  abbrev Each_does : (BasicType → Taking → ℕ → Type 0) → Taking → ℕ → ℕ → Type 0
   Each_does does x = Does declared own does x
 
   marks_none : (m n : ChartMarks) → n ≡ m → MarkCharts declared own [] m n
@@ -288,7 +288,7 @@ module _ (i : Inputs) where
     clearing = adds_none (Happens declared own KeepsEvent []) m.clearing n.clearing (ap (λ (b : ChartMarks). b.clearing) same) (some_nil (Each_does KeepsEvent));
   }
 
-  marks_next : (x : Turn) (xs : List Turn) (m o n : ChartMarks) → MarkTurn declared own x m o → MarkCharts declared own xs o n → MarkCharts declared own (x ∷ xs) m n
+  marks_next : (x : Taking) (xs : List Taking) (m o n : ChartMarks) → MarkTaking declared own x m o → MarkCharts declared own xs o n → MarkCharts declared own (x ∷ xs) m n
   marks_next x xs m o n first rest = record {
     states = adds_more (Each_does EntersState) x xs m.states o.states n.states first.states rest.states;
     transitions = adds_more (Each_does ClearsTransition) x xs m.transitions o.transitions n.transitions first.transitions rest.transitions;
@@ -297,7 +297,7 @@ module _ (i : Inputs) where
     clearing = adds_more (Each_does KeepsEvent) x xs m.clearing o.clearing n.clearing first.clearing rest.clearing;
   }
 
-  charts_together : (xs ys : List Turn) (m o n : ChartMarks) → MarkCharts declared own xs m o → MarkCharts declared own ys o n → MarkCharts declared own (xs ++ ys) m n
+  charts_together : (xs ys : List Taking) (m o n : ChartMarks) → MarkCharts declared own xs m o → MarkCharts declared own ys o n → MarkCharts declared own (xs ++ ys) m n
   charts_together xs ys m o n first rest = record {
     states = adds_append (Each_does EntersState) xs ys m.states o.states n.states first.states rest.states;
     transitions = adds_append (Each_does ClearsTransition) xs ys m.transitions o.transitions n.transitions first.transitions rest.transitions;
@@ -306,10 +306,10 @@ module _ (i : Inputs) where
     clearing = adds_append (Each_does KeepsEvent) xs ys m.clearing o.clearing n.clearing first.clearing rest.clearing;
   }
 
-  turns_mark : AreAccepted i → (xs : List Turn) (m n : ChartMarks) → TurnsMark declared own xs m n → MarkCharts declared own xs m n
-  turns_mark accepted [] m n same = marks_none m n same
-  turns_mark accepted (x ∷ xs) m n (o, first, rest) =
-      marks_next x xs m o n (turn_marks i accepted x (own.kind x.first.at) m o refl first) (turns_mark accepted xs o n rest)
+  takings_mark : AreAccepted i → (xs : List Taking) (m n : ChartMarks) → TakingsMark declared own xs m n → MarkCharts declared own xs m n
+  takings_mark accepted [] m n same = marks_none m n same
+  takings_mark accepted (x ∷ xs) m n (o, first, rest) =
+      marks_next x xs m o n (taking_marks i accepted x (own.kind x.first.at) m o refl first) (takings_mark accepted xs o n rest)
 
 -- ---- Ports
 
@@ -341,9 +341,9 @@ lines_mark (l ∷ ls) m n same =
 -- ---- All marks
 
 pub marked_by :
-    (i : Inputs) → AreAccepted i → (h : History) (old new : Marks) → TurnsMark i.library.blocks (system_of i) h.turns old.charts new.charts → new.ports ≡ lines_marked h.lines old.ports
+    (i : Inputs) → AreAccepted i → (h : History) (old new : Marks) → TakingsMark i.library.blocks (system_of i) h.takings old.charts new.charts → new.ports ≡ lines_marked h.lines old.ports
     → AreMarkedBy i h old new
-marked_by i accepted h old new charts ports = record { charts = turns_mark i accepted h.turns old.charts new.charts charts; ports = lines_mark h.lines old.ports new.ports ports }
+marked_by i accepted h old new charts ports = record { charts = takings_mark i accepted h.takings old.charts new.charts charts; ports = lines_mark h.lines old.ports new.ports ports }
 
 pub marked_none : (i : Inputs) (m n : Marks) → n ≡ m → AreMarkedBy i (together []) m n
 marked_none i m n same = record { charts = marks_none i m.charts n.charts (ap (λ (b : Marks). b.charts) same); ports = lines_mark [] m.ports n.ports (ap (λ (b : Marks). b.ports) same) }
@@ -351,7 +351,7 @@ marked_none i m n same = record { charts = marks_none i m.charts n.charts (ap (�
 pub marked_more :
     (i : Inputs) (h : History) (hs : List History) (m o n : Marks) → AreMarkedBy i h m o → AreMarkedBy i (together hs) o n → AreMarkedBy i (together (h ∷ hs)) m n
 marked_more i h hs m o n first rest = record {
-  charts = charts_together i h.turns (together hs).turns m.charts o.charts n.charts first.charts rest.charts;
+  charts = charts_together i h.takings (together hs).takings m.charts o.charts n.charts first.charts rest.charts;
   ports = record {
     inputs = adds_append (IsOfPort true) h.lines (together hs).lines m.ports.inputs o.ports.inputs n.ports.inputs first.ports.inputs rest.ports.inputs;
     outputs = adds_append (IsOfPort false) h.lines (together hs).lines m.ports.outputs o.ports.outputs n.ports.outputs first.ports.outputs rest.ports.outputs;

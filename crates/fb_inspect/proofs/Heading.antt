@@ -1,7 +1,7 @@
 -- The head of a dump with the inside of blocks, instance by instance and resource by resource.
-use Rattle.std.proofs.Common.{◌≡◌, ℕ, ◌+◌, ◌-◌, ◌<◌, ◌≤◌, Bool, cond, true, List, [], ◌∷◌, ◌++◌, length, drop, get_or, refl, sym, ap, ◌∙◌, arith, append_assoc, append-nil}
+use Rattle.std.proofs.Common.{◌≡◌, ℕ, ◌+◌, ◌-◌, ◌<◌, Bool, cond, true, List, [], ◌∷◌, ◌++◌, length, drop, get_or, sym, ap, ◌∙◌, append_assoc}
 use Rattle.std.proofs.lemmas.Bool.{eq-eqb, ne_eqb}
-use Rattle.std.proofs.lemmas.List.{drop_all, drop_more}
+use Rattle.std.proofs.lemmas.List.{drop_more}
 use Rattle.fb_types.specs.Names.{Name, Path}
 use Rattle.fb_types.specs.Numbers.{path_at, ports_at}
 use Rattle.fb_types.specs.Systems.{System}
@@ -49,12 +49,6 @@ opened_past sys r depth i text all within other soFar =
     ap (λ (k : ℕ). text ++ instances_opened true sys r depth k (drop (i + 1) sys.paths)) (first_signal-next sys i within)
     ∙ ap (λ (l : List ℕ). text ++ l) (sym split) ∙ soFar
 
-pub opened_all :
-    (sys : System) (r depth i s : ℕ) (text all : List ℕ) → length sys.paths ≤ i → text ++ instances_opened true sys r depth s (drop i sys.paths) ≡ all
-    → text ++ closed depth ≡ all
-opened_all sys r depth i s text all past soFar =
-    ap (λ (l : List ℕ). text ++ l) (sym (ap (instances_opened true sys r depth s) (drop_all i sys.paths past))) ∙ soFar
-
 -- ---- Beginnings
 
 pub insides_on :
@@ -65,10 +59,6 @@ insides_on sys i text new all within put soFar =
     let rest : List ℕ = insides_begun true sys (drop (i + 1) sys.paths) in
     ap (λ (l : List ℕ). l ++ rest) put ∙ append_assoc text own rest
     ∙ ap (λ (l : List ℕ). text ++ l) (sym (ap (insides_begun true sys) (paths_from sys i within))) ∙ soFar
-
-pub insides_all : (sys : System) (i : ℕ) (text all : List ℕ) → length sys.paths ≤ i → text ++ insides_begun true sys (drop i sys.paths) ≡ all → text ≡ all
-insides_all sys i text all past soFar =
-    sym (append-nil text) ∙ ap (λ (l : List ℕ). text ++ l) (sym (ap (insides_begun true sys) (drop_all i sys.paths past))) ∙ soFar
 
 -- ---- Resources
 
@@ -89,8 +79,3 @@ resources_on sys r n a b c d all within at one two three soFar =
   where
     regroup : (a o i k r : List ℕ) → (((a ++ o) ++ i) ++ k) ++ r ≡ a ++ (((o ++ i) ++ k) ++ r)
     regroup a o i k r = simp append_assoc
-
-pub resources_all :
-    (sys : System) (r : ℕ) (text all : List ℕ) → length sys.resource_names ≤ r → text ++ resources_opened true sys r (drop r sys.resource_names) ≡ all → text ≡ all
-resources_all sys r text all past soFar =
-    sym (append-nil text) ∙ ap (λ (l : List ℕ). text ++ l) (sym (ap (resources_opened true sys r) (drop_all r sys.resource_names past))) ∙ soFar

@@ -20,7 +20,7 @@ use Rattle.fb_wave.specs.Lines.{IsEndOf, IsLineOf, IsTextOf}
 use Rattle.fb_wave.specs.Named.{HasNames}
 use Rattle.fb_inspect.specs.Inspections.{all_lines, last_look}
 use Rattle.fb_inspect.specs.Lines.{IsNext}
-use Rattle.fb_inspect.specs.Looks.{Turn, opening_look}
+use Rattle.fb_inspect.specs.Looks.{Taking, opening_look}
 use Rattle.fb_inspect.specs.Refusals.{IsWrongAfter, IsWrongLine, OfRefusal}
 use Rattle.fb_inspect.specs.Standing.{AreApart, AreNumbered, IsStepsStop, Stands, StandsAt, StandsOn, StandsWell, Watches}
 use Rattle.fb_inspect.specs.Walking.{MayEnd}
@@ -35,9 +35,9 @@ use Rattle.fb_inspect.proofs.Watched.{too_many_wrong}
 
 -- the next line is that of an event
 pub event_at :
-    (sys : System) (form : Form) (turns : List Turn) (w : Walk) (bad : Next) (ahead last rest text : List ℕ) → HasNames sys → AreNumbered sys → AreApart sys → StandsOn sys form turns w ahead last rest text
-    → (line : Line) → next.Event line ≡ w.trail.reading.next → StandsAt sys form turns (record w { trail = record (w.trail) { reading = record (w.trail.reading) { next = bad } } }) ahead last line rest text
-event_at sys form turns w bad ahead last rest text names numbers apart on line is =
+    (sys : System) (form : Form) (takings : List Taking) (w : Walk) (bad : Next) (ahead last rest text : List ℕ) → HasNames sys → AreNumbered sys → AreApart sys → StandsOn sys form takings w ahead last rest text
+    → (line : Line) → next.Event line ≡ w.trail.reading.next → StandsAt sys form takings (record w { trail = record (w.trail) { reading = record (w.trail.reading) { next = bad } } }) ahead last line rest text
+event_at sys form takings w bad ahead last rest text names numbers apart on line is =
     let here = subst (λ (n : Next). IsNext sys form (last_tick 0 on.stands.lines) w.trail.reading.line.items n) (sym is) on.next in
     record {
       stands = on.stands;
@@ -52,7 +52,7 @@ event_at sys form turns w bad ahead last rest text names numbers apart on line i
 -- ---- The line itself is wrong
 
 module _ (sys : System) (form : Form) (steps : ℕ) (w : Walk) (a : Ahead) (rest text : List ℕ) (names : HasNames sys) (well : StandsWell sys form steps w a rest text) where
-  abbrev stands : Stands sys form well.turns w a.text.items a.last.items rest text
+  abbrev stands : Stands sys form well.takings w a.text.items a.last.items rest text
   stands = well.on.stands
 
   formed_at :
@@ -61,7 +61,7 @@ module _ (sys : System) (form : Form) (steps : ℕ) (w : Walk) (a : Ahead) (rest
   formed_at [] is empty f m at = stands.formed f m (record { line = at.line; is = ap (take_through 10) is ∙ sym stands.alone ∙ at.is })
   formed_at (l ∷ ls) is empty f m at = absurd (cc)
 
-  wrong_line : IsWrongAfter sys form steps (last_tick 0 stands.lines) well.turns [] w.trail.reading.line.items text → IsWrongLine sys steps w.trail.reading.number text
+  wrong_line : IsWrongAfter sys form steps (last_tick 0 stands.lines) well.takings [] w.trail.reading.line.items text → IsWrongLine sys steps w.trail.reading.number text
   wrong_line wrong = record {
     form = form;
     before = stands.lines;
@@ -74,9 +74,9 @@ module _ (sys : System) (form : Form) (steps : ℕ) (w : Walk) (a : Ahead) (rest
       alone = stands.alone;
       formed = formed_at stands.lines stands.is;
     };
-    turns = well.turns;
+    takings = well.takings;
     begun = [];
-    taken = record { chain = stands.chain; goes_on = stands.goes_on; lines_are = stands.lines_are ∙ sym (append-nil (all_lines well.turns)) };
+    taken = record { chain = stands.chain; goes_on = stands.goes_on; lines_are = stands.lines_are ∙ sym (append-nil (all_lines well.takings)) };
     wrong = wrong;
   }
 
@@ -84,10 +84,10 @@ module _ (sys : System) (form : Form) (steps : ℕ) (w : Walk) (a : Ahead) (rest
   pub bad_line : next.Bad ≡ w.trail.reading.next → IsWrongLine sys steps w.trail.reading.number text
   bad_line is =
       let none = (subst (λ (n : Next). IsNext sys form (last_tick 0 stands.lines) w.trail.reading.line.items n) (sym is) well.on.next) names in
-      wrong_line (inl (inl (refl, record { no_turn = λ m at plain later x first turn. none.0 m at later; no_end = none.1 })))
+      wrong_line (inl (inl (refl, record { no_taking = λ m at plain later x first taking. none.0 m at later; no_end = none.1 })))
 
   -- .. or an end that may not come there
-  module _ (end : Outcome) (is : next.End end ≡ w.trail.reading.next) (other : IsEndOf sys (ending_of end) → MayEnd sys steps (last_look (opening_look sys) well.turns) (ending_of end) → ⊥) where
+  module _ (end : Outcome) (is : next.End end ≡ w.trail.reading.next) (other : IsEndOf sys (ending_of end) → MayEnd sys steps (last_look (opening_look sys) well.takings) (ending_of end) → ⊥) where
     here : IsNext sys form (last_tick 0 stands.lines) w.trail.reading.line.items (next.End end)
     here = subst (λ (n : Next). IsNext sys form (last_tick 0 stands.lines) w.trail.reading.line.items n) (sym is) well.on.next
 
@@ -96,36 +96,36 @@ module _ (sys : System) (form : Form) (steps : ℕ) (w : Walk) (a : Ahead) (rest
         wrong_line (inl (inr (inl (refl, record { end = ending_of end; can = here.0.can; is = here.0.is; other = other here.0.can; near = stands.near }))))
 
     -- .. since a resource had used too many steps before
-    many : (m : StopMark) → end ≡ Stop m → m.reason ≡ Steps → (k : ℕ) (event : List ℕ) → Watches sys form steps well.turns k event true → IsWrongLine sys steps k text
+    many : (m : StopMark) → end ≡ Stop m → m.reason ≡ Steps → (k : ℕ) (event : List ℕ) → Watches sys form steps well.takings k event true → IsWrongLine sys steps k text
     many m end_is reason k event watched =
         let stop_is : ending_of end ≡ AtStop m.tick m.resource Steps = ap ending_of end_is ∙ ap (AtStop m.tick m.resource) reason in
         let line_is : w.trail.reading.line.items ≡ last_line sys (AtStop m.tick m.resource Steps) = here.0.is ∙ ap (last_line sys) stop_is in
-        too_many_wrong sys form names steps well.turns w a.text.items a.last.items rest text stands k event watched [] (All-nil (IsLineOf sys)) m.tick m.resource (subst (IsEndOf sys) stop_is here.0.can) (a.text.items ++ rest)
+        too_many_wrong sys form names steps well.takings w a.text.items a.last.items rest text stands k event watched [] (All-nil (IsLineOf sys)) m.tick m.resource (subst (IsEndOf sys) stop_is here.0.can) (a.text.items ++ rest)
         (stands.is
-        ∙ ap (λ (ls : List model.Line). lines_text form sys ls ++ (w.trail.reading.line.items ++ (a.text.items ++ rest))) (stands.lines_are ∙ sym (append-nil (all_lines well.turns)))
-        ∙ ap (λ (u : List ℕ). lines_text form sys (all_lines well.turns ++ []) ++ (u ++ (a.text.items ++ rest))) line_is)
+        ∙ ap (λ (ls : List model.Line). lines_text form sys ls ++ (w.trail.reading.line.items ++ (a.text.items ++ rest))) (stands.lines_are ∙ sym (append-nil (all_lines well.takings)))
+        ∙ ap (λ (u : List ℕ). lines_text form sys (all_lines well.takings ++ []) ++ (u ++ (a.text.items ++ rest))) line_is)
         (λ front z e none t kind same. stands.near front z e t kind (line_is ∙ same))
 
 pub wrong_end :
     (sys : System) (form : Form) (steps : ℕ) (w : Walk) (a : Ahead) (rest text : List ℕ) → HasNames sys → (well : StandsWell sys form steps w a rest text) → (end : Outcome) → next.End end ≡ w.trail.reading.next
-    → (IsEndOf sys (ending_of end) → MayEnd sys steps (last_look (opening_look sys) well.turns) (ending_of end) → ⊥) → (error : InspectError)
+    → (IsEndOf sys (ending_of end) → MayEnd sys steps (last_look (opening_look sys) well.takings) (ending_of end) → ⊥) → (error : InspectError)
     → (a.watched.is_excess ≡ true → IsStepsStop end → error ≡ Refused a.watched.number) → (a.watched.is_excess ≡ false → error ≡ Refused w.trail.reading.number)
     → ((IsStepsStop end → ⊥) → error ≡ Refused w.trail.reading.number) → OfRefusal (λ n. IsWrongLine sys steps n text) error
 wrong_end sys form steps w a rest text names well end is other error back none apart = by a.watched.is_excess refl well.watched end refl
   where
-    not : IsEndOf sys (ending_of end) → MayEnd sys steps (last_look (opening_look sys) well.turns) (ending_of end) → ⊥
+    not : IsEndOf sys (ending_of end) → MayEnd sys steps (last_look (opening_look sys) well.takings) (ending_of end) → ⊥
     not can = other can
 
     plain : error ≡ Refused w.trail.reading.number → OfRefusal (λ n. IsWrongLine sys steps n text) error
     plain e = of_number (λ n. IsWrongLine sys steps n text) error w.trail.reading.number e (nothing sys form steps w a rest text names well end is not)
 
-    for_steps : (m : StopMark) → end ≡ Stop m → a.watched.is_excess ≡ true → Watches sys form steps well.turns a.watched.number a.watched.text.items true → (r : Reason) → m.reason ≡ r → OfRefusal (λ n. IsWrongLine sys steps n text) error
+    for_steps : (m : StopMark) → end ≡ Stop m → a.watched.is_excess ≡ true → Watches sys form steps well.takings a.watched.number a.watched.text.items true → (r : Reason) → m.reason ≡ r → OfRefusal (λ n. IsWrongLine sys steps n text) error
     for_steps m e set watched Steps reason =
         of_number (λ n. IsWrongLine sys steps n text) error a.watched.number (back set (subst IsStepsStop (sym e) reason)) (many sys form steps w a rest text names well end is not m e reason a.watched.number a.watched.text.items watched)
     for_steps m e set watched Divide reason = plain (apart (λ s. let h : m.reason ≡ Steps = subst IsStepsStop e s in let both : Steps ≡ Divide = sym h ∙ reason in cc))
     for_steps m e set watched Range reason = plain (apart (λ s. let h : m.reason ≡ Steps = subst IsStepsStop e s in let both : Steps ≡ Range = sym h ∙ reason in cc))
 
-    by : (x : Bool) → a.watched.is_excess ≡ x → Watches sys form steps well.turns a.watched.number a.watched.text.items x → (o : Outcome) → end ≡ o → OfRefusal (λ n. IsWrongLine sys steps n text) error
+    by : (x : Bool) → a.watched.is_excess ≡ x → Watches sys form steps well.takings a.watched.number a.watched.text.items x → (o : Outcome) → end ≡ o → OfRefusal (λ n. IsWrongLine sys steps n text) error
     by false set watched o e = plain (none set)
     by true set watched (End h) e = plain (apart (λ s. subst IsStepsStop e s))
     by true set watched (Stop m) e = for_steps m e set watched m.reason refl

@@ -1,5 +1,5 @@
 -- No trace of a run is wrong at a line.
-use Rattle.std.proofs.Common.{◌≡◌, ◌⊎◌, ◌≤◌, ℕ, ◌+◌, true, List, [], ◌∷◌, ◌++◌, length, map, Some, None, All, refl, sym, ap, subst, ◌∙◌, inl, inr, append-nil, append_assoc, arith}
+use Rattle.std.proofs.Common.{◌≡◌, ◌⊎◌, ◌≤◌, ℕ, List, [], ◌∷◌, ◌++◌, length, map, Some, None, All, refl, sym, ap, subst, ◌∙◌, inl, inr, append-nil, append_assoc, arith}
 use Rattle.std.specs.Io.BufRead.{take_through}
 use Rattle.std.proofs.lemmas.List.{append_cancel_left, map-append}
 use Rattle.std.proofs.lemmas.List.Elements.{All-append, All-cons, All-head, All-nil, All-tail, All-weaker}
@@ -22,9 +22,9 @@ use Rattle.fb_wave.specs.Lines.{IsEndOf, IsInRange, IsLineOf, IsTextOf}
 use Rattle.fb_wave.specs.Named.{HasNames}
 use Rattle.fb_wave.specs.Waves.{EndsAfter, RiseFrom}
 use Rattle.fb_wave.proofs.Lining.{last_one, line_not_last}
-use Rattle.fb_inspect.specs.Inspections.{AreTurns, EndsBySteps, EndsSo, IsOwnLine, KeepSteps, KeepsLimit, NoneStops, RunsOut, all_lines, last_look, limited}
+use Rattle.fb_inspect.specs.Inspections.{AreTakings, EndsBySteps, EndsSo, IsOwnLine, KeepSteps, KeepsLimit, NoneStops, RunsOut, all_lines, last_look, limited}
 use Rattle.fb_inspect.specs.Lines.{IsPlain}
-use Rattle.fb_inspect.specs.Looks.{Look, Turn, Turns, emission_line, left_at, most, opening_look, turn_lines}
+use Rattle.fb_inspect.specs.Looks.{IsTaking, Look, Taking, emission_line, left_at, most, opening_look, taking_lines}
 use Rattle.fb_inspect.specs.Refusals.{BeginsNothing, EndsNothing, GoesOnAfter, GoesOtherwise, IsAccepted, IsAfterLast, IsNoStepsStop, IsOther, IsWrongAfter, IsWrongAt, IsWrongFreely, IsWrongLast, IsWrongLine, StopsOtherwise, StopsSoon, UsesTooMany, steps_stop}
 use Rattle.fb_inspect.specs.Walking.{MayEnd}
 use Rattle.fb_inspect.proofs.Aligned.{IsAligned, Next, aligned, seen, through}
@@ -32,7 +32,7 @@ use Rattle.fb_inspect.proofs.Bare.{bare, shown}
 use Rattle.fb_inspect.proofs.Lasts.{not_divide, not_horizon, not_range, stop_once}
 use Rattle.fb_inspect.proofs.OneTaking.{nothing, taking_one}
 use Rattle.fb_inspect.proofs.Rightly.{GoesRight, IsNearest, IsRowOf, StopsLast, StopsRight, each_at, steps_nearest}
-use Rattle.fb_inspect.proofs.Shown.{IsExactly, IsLike, after_shown, all_shown, at_shown, both_shown, chain_shown, ends_shown, exact_shown, first_shown, joined_shown, like, lines_shown, look_shown, no_turns, none_shown, one_shown, resource_shown, shown_lines, shown_turn, shown_turns, stop_shown, taken_shown, tick_shown, turns_shown, two_heads, unshown}
+use Rattle.fb_inspect.proofs.Shown.{IsExactly, IsLike, after_shown, all_shown, at_shown, both_shown, chain_shown, ends_shown, exact_shown, first_shown, joined_shown, like, lines_shown, look_shown, no_takings, none_shown, one_shown, resource_shown, shown_lines, shown_taking, shown_takings, stop_shown, taken_shown, takings_shown, tick_shown, two_heads, unshown}
 use Rattle.fb_inspect.proofs.Splits.{IsBasic}
 use Rattle.fb_inspect.proofs.Wrongs.{begins_right, ends_right, goes_right, stops_right, too_many}
 
@@ -95,7 +95,7 @@ no_lines_left f [] e = refl
 no_lines_left f (l ∷ ls) e = absurd (no_first (f l) (map f ls) e)
 
 module _ (i : Inputs) (accepted : AreAccepted i) (names : HasNames (system_of i)) (limit : ℕ) (within : limit ≤ most) (text : List ℕ) (a : IsAccepted (system_of i) limit text)
-    (exact : IsExactly (system_of i) limit a.turns a.end a.ends) where
+    (exact : IsExactly (system_of i) limit a.takings a.end a.ends) where
   abbrev sys : System
   sys = system_of i
 
@@ -105,11 +105,11 @@ module _ (i : Inputs) (accepted : AreAccepted i) (names : HasNames (system_of i)
   abbrev view : run.Line → Line
   view l = seen i accepted names F l
 
-  abbrev rows : List Turn
-  rows = shown_turns F a.turns
+  abbrev rows : List Taking
+  rows = shown_takings F a.takings
 
   abbrev row_ends : EndsSo sys limit rows a.end
-  row_ends = ends_shown sys F limit a.turns a.end a.ends
+  row_ends = ends_shown sys F limit a.takings a.end a.ends
 
   seen_all : (form : Form) (ls : List run.Line) → shown_lines form (map (line_of sys) ls) ≡ map (seen i accepted names form) ls
   seen_all One [] = refl
@@ -127,7 +127,7 @@ module _ (i : Inputs) (accepted : AreAccepted i) (names : HasNames (system_of i)
 
   lines_so : (f : Form) (bs : List run.Line) (line rest : List ℕ) (al : Aligned f bs line rest) → all_lines rows ≡ shown_lines F (map (line_of sys) bs) ++ map view al.back
   lines_so f bs line rest al =
-      all_shown F a.turns ∙ ap (shown_lines F) (sym a.lines_are) ∙ seen_all F a.lines ∙ al.lines ∙ ap (λ (ls : List Line). ls ++ map view al.back) (sym (seen_all F bs))
+      all_shown F a.takings ∙ ap (shown_lines F) (sym a.lines_are) ∙ seen_all F a.lines ∙ al.lines ∙ ap (λ (ls : List Line). ls ++ map view al.back) (sym (seen_all F bs))
 
   -- where the text says of an end, its lines are over
   record IsOver (f : Form) (bs : List run.Line) (line rest : List ℕ) (al : Aligned f bs line rest) : Type 0 where
@@ -154,10 +154,10 @@ module _ (i : Inputs) (accepted : AreAccepted i) (names : HasNames (system_of i)
     resource : ℕ
     is : a.end ≡ AtStop tick resource Steps
     ends : EndsBySteps sys limit tick resource rows
-    apart : ends.limited_so.last ≡ [] → (front : List Turn) (z : Turn) → ends.limited_so.before ≡ front ++ z ∷ [] → z.first.key.tick ≡ tick → z.first.key.resource ≡ resource → ⊥
+    apart : ends.limited_so.last ≡ [] → (front : List Taking) (z : Taking) → ends.limited_so.before ≡ front ++ z ∷ [] → z.first.key.tick ≡ tick → z.first.key.resource ≡ resource → ⊥
 
   stop_is : (k r : ℕ) → last_line sys (AtStop k r Steps) ≡ last_line sys a.end → IsStop
-  stop_is k r e = by a.end refl row_ends (exact_shown sys limit F a.turns a.end a.ends exact) e
+  stop_is k r e = by a.end refl row_ends (exact_shown sys limit F a.takings a.end a.ends exact) e
     where
       by : (end : Ending) → a.end ≡ end → (ends : EndsSo sys limit rows end) → IsExactly sys limit rows end ends → last_line sys (AtStop k r Steps) ≡ last_line sys end → IsStop
       by (AtHorizon h) is ends exact e = absurd (not_horizon sys k r Steps h e)
@@ -173,18 +173,18 @@ module _ (i : Inputs) (accepted : AreAccepted i) (names : HasNames (system_of i)
   -- ---- A wrong line
 
   module _ (f : Form) (before : List run.Line) (line rest : List ℕ) (of : All (IsLineOf sys) before) (al : Aligned f before line rest)
-      (formed : before ≡ [] → (g : Form) (m : run.Line) → IsTextOf sys g m line → g ≡ f) (ys : List Turn) (chain : AreTurns sys most (opening_look sys) ys) (goes : NoneStops ys) (begun : List Line)
+      (formed : before ≡ [] → (g : Form) (m : run.Line) → IsTextOf sys g m line → g ≡ f) (ys : List Taking) (chain : AreTakings sys most (opening_look sys) ys) (goes : NoneStops ys) (begun : List Line)
       (taken : map (line_of sys) before ≡ all_lines ys ++ begun) where
     abbrev back : List Line
     back = map view al.back
 
-    abbrev ahead : List Turn
-    ahead = shown_turns F ys
+    abbrev ahead : List Taking
+    ahead = shown_takings F ys
 
     abbrev seen_begun : List Line
     seen_begun = shown_lines F begun
 
-    ahead_chain : AreTurns sys most (opening_look sys) ahead
+    ahead_chain : AreTakings sys most (opening_look sys) ahead
     ahead_chain = chain_shown sys F most (opening_look sys) ys chain
 
     abbrev here : Look
@@ -255,10 +255,6 @@ module _ (i : Inputs) (accepted : AreAccepted i) (names : HasNames (system_of i)
 
     -- ---- No taking begins with it
 
-    plain_key : (form : Form) (k : Key) → IsPlain form (shown form (record { key = k; taken = true; at = []; event = []; values = [] })).key
-    plain_key One k = (refl, refl, refl)
-    plain_key Two k = tt
-
     shown_range : (form : Form) (l : Line) → IsInRange l.key → IsInRange (shown form l).key
     shown_range One l h = record { tick = h.tick; class = omega arith; a = omega arith; b = omega arith }
     shown_range Two l h = h
@@ -272,7 +268,7 @@ module _ (i : Inputs) (accepted : AreAccepted i) (names : HasNames (system_of i)
     shown_plain Two l = tt
 
     not_begun :
-        (T : Turn → Type 0) → BeginsNothing T sys f (last_tick 0 before) line → ((l : Line) (more : List Line) → back ≡ l ∷ more → (x : Turn) × (x.first ≡ l) × T x) → ⊥
+        (T : Taking → Type 0) → BeginsNothing T sys f (last_tick 0 before) line → ((l : Line) (more : List Line) → back ≡ l ∷ more → (x : Taking) × (x.first ≡ l) × T x) → ⊥
     not_begun T wrong begins = by al.back refl
       where
         by : (ls : List run.Line) → al.back ≡ ls → ⊥
@@ -289,7 +285,7 @@ module _ (i : Inputs) (accepted : AreAccepted i) (names : HasNames (system_of i)
             (subst (λ (l : Line). last_tick 0 before ≤ l.key.tick) n.is (subst (λ (j : ℕ). last_tick 0 before ≤ j) (sym (tick_shown F (line_of sys n.number))) n.late))
             in
             let form = form_is n.number n.text_is in
-            wrong.no_turn found.number (subst (λ (g : Form). IsTextOf sys g found.number line) form found.text)
+            wrong.no_taking found.number (subst (λ (g : Form). IsTextOf sys g found.number line) form found.text)
             (subst (λ (g : Form). IsPlain g found.number.key) form (subst (IsPlain F) (sym key) (shown_plain F (line_of sys m)))) late x.0 (x.1 ∙ sym found.is) x.2
 
     -- ---- An end that can't be
@@ -305,22 +301,22 @@ module _ (i : Inputs) (accepted : AreAccepted i) (names : HasNames (system_of i)
     may_be (AtStop j s Divide) (AtStop k r reason) can its says may = absurd may
     may_be (AtStop j s Range) (AtStop k r reason) can its says may = absurd may
 
-    basic_shown : (w : Turn) → IsBasic sys (shown_turn F w).first → IsBasic sys w.first
+    basic_shown : (w : Taking) → IsBasic sys (shown_taking F w).first → IsBasic sys w.first
     basic_shown w basic = (basic.0, ap sys.kind (sym (ap (λ (l : Line). l.at) (first_shown F w) ∙ at_shown F w.first)) ∙ basic.1)
 
-    stop_of_shown : (w : Turn) → AtStop (shown_turn F w).first.key.tick (shown_turn F w).first.key.resource Steps ≡ AtStop w.first.key.tick w.first.key.resource Steps
+    stop_of_shown : (w : Taking) → AtStop (shown_taking F w).first.key.tick (shown_taking F w).first.key.resource Steps ≡ AtStop w.first.key.tick w.first.key.resource Steps
     stop_of_shown w =
         ap (λ (l : Line). AtStop l.key.tick l.key.resource Steps) (first_shown F w) ∙ ap (λ (n : ℕ). AtStop n (shown F w.first).key.resource Steps) (tick_shown F w.first)
         ∙ ap (λ (n : ℕ). AtStop w.first.key.tick n Steps) (resource_shown F w.first)
 
     reason_of_shown :
-        (w : Turn) (reason : Reason) → AtStop (shown_turn F w).first.key.tick (shown_turn F w).first.key.resource reason ≡ AtStop w.first.key.tick w.first.key.resource reason
+        (w : Taking) (reason : Reason) → AtStop (shown_taking F w).first.key.tick (shown_taking F w).first.key.resource reason ≡ AtStop w.first.key.tick w.first.key.resource reason
     reason_of_shown w reason =
         ap (λ (l : Line). AtStop l.key.tick l.key.resource reason) (first_shown F w) ∙ ap (λ (n : ℕ). AtStop n (shown F w.first).key.resource reason) (tick_shown F w.first)
         ∙ ap (λ (n : ℕ). AtStop w.first.key.tick n reason) (resource_shown F w.first)
 
     -- the text does not say so, where the line is not that stop
-    no_stop_there : (w : Turn) → IsNoStepsStop sys w.first line → IsBasic sys (shown_turn F w).first → al.back ≡ [] → a.end ≡ AtStop (shown_turn F w).first.key.tick (shown_turn F w).first.key.resource Steps → ⊥
+    no_stop_there : (w : Taking) → IsNoStepsStop sys w.first line → IsBasic sys (shown_taking F w).first → al.back ≡ [] → a.end ≡ AtStop (shown_taking F w).first.key.tick (shown_taking F w).first.key.resource Steps → ⊥
     no_stop_there w near basic none is = let own = basic_shown w basic in near own.0 own.1 (at_end none ∙ ap (last_line sys) (is ∙ stop_of_shown w))
 
     not_ended : begun ≡ [] → EndsNothing sys limit ys line → ⊥
@@ -333,65 +329,65 @@ module _ (i : Inputs) (accepted : AreAccepted i) (names : HasNames (system_of i)
         by o (inl may) = wrong.other (may_be a.end wrong.end wrong.can a.trace.last (sym wrong.is ∙ o.is) (subst (λ (g : Look). MayEnd sys limit g a.end) look_is may))
         by o (inr stops) =
             let w = unshown F ys stops.0 stops.1 stops.2 in
-            let basic : IsBasic sys (shown_turn F w.1).first = subst (λ (z : Turn). IsBasic sys z.first) (sym w.3) stops.3 in
-            no_stop_there w.1 (wrong.near w.0 w.1 w.2) basic o.none (stops.4 ∙ ap (λ (z : Turn). AtStop z.first.key.tick z.first.key.resource Steps) (sym w.3))
+            let basic : IsBasic sys (shown_taking F w.1).first = subst (λ (z : Taking). IsBasic sys z.first) (sym w.3) stops.3 in
+            no_stop_there w.1 (wrong.near w.0 w.1 w.2) basic o.none (stops.4 ∙ ap (λ (z : Taking). AtStop z.first.key.tick z.first.key.resource Steps) (sym w.3))
 
     -- ---- Lines of a taking
 
     -- What holds of a taking that begins with the lines that were begun, and goes on.
-    module _ (T : Turn → Type 0) (wrong : GoesOtherwise T sys f begun line) where
-      abbrev z : Turn
-      z = shown_turn F wrong.turn
+    module _ (T : Taking → Type 0) (wrong : GoesOtherwise T sys f begun line) where
+      abbrev z : Taking
+      z = shown_taking F wrong.taking
 
       abbrev passed : List Line
       passed = shown_lines F wrong.passed
 
       begun_is : seen_begun ≡ z.first ∷ passed
       begun_is =
-          ap (shown_lines F) wrong.begins ∙ one_shown F wrong.turn.first wrong.passed ∙ ap (λ (l : Line). l ∷ passed) (sym (first_shown F wrong.turn))
+          ap (shown_lines F) wrong.begins ∙ one_shown F wrong.taking.first wrong.passed ∙ ap (λ (l : Line). l ∷ passed) (sym (first_shown F wrong.taking))
 
-      parts_are : turn_lines z ≡ (z.first ∷ passed) ++ shown F wrong.next ∷ shown_lines F wrong.more
+      parts_are : taking_lines z ≡ (z.first ∷ passed) ++ shown F wrong.next ∷ shown_lines F wrong.more
       parts_are =
-          lines_shown F wrong.turn ∙ ap (shown_lines F) wrong.parts ∙ both_shown F begun (wrong.next ∷ wrong.more)
+          lines_shown F wrong.taking ∙ ap (shown_lines F) wrong.parts ∙ both_shown F begun (wrong.next ∷ wrong.more)
           ∙ ap (λ (ls : List Line). ls ++ shown_lines F (wrong.next ∷ wrong.more)) begun_is ∙ ap (λ (ls : List Line). (z.first ∷ passed) ++ ls) (one_shown F wrong.next wrong.more)
 
       next_range : IsInRange wrong.next.key
       next_range =
-          let first : Line = wrong.turn.first in
-          let tail : map (emission_line first) wrong.turn.emits ≡ wrong.passed ++ wrong.next ∷ wrong.more =
+          let first : Line = wrong.taking.first in
+          let tail : map (emission_line first) wrong.taking.emits ≡ wrong.passed ++ wrong.next ∷ wrong.more =
           (two_heads first first _ _ (wrong.parts ∙ ap (λ (ls : List Line). ls ++ wrong.next ∷ wrong.more) wrong.begins)).1
           in
           let key : wrong.next.key ≡ first.key =
-          each_at (λ (l : Line). l.key ≡ first.key) wrong.passed wrong.next wrong.more (subst (Each (λ (l : Line). l.key ≡ first.key)) tail (emissions_key first wrong.turn.emits))
+          each_at (λ (l : Line). l.key ≡ first.key) wrong.passed wrong.next wrong.more (subst (Each (λ (l : Line). l.key ≡ first.key)) tail (emissions_key first wrong.taking.emits))
           in
           subst IsInRange (sym key) (range_at sys before (all_lines ys) first wrong.passed of (taken ∙ ap (λ (ls : List Line). all_lines ys ++ ls) wrong.begins))
 
       not_next : (more : List Line) → back ≡ shown F wrong.next ∷ more → ⊥
       not_next more e = not_other wrong.next more e next_range wrong.other
 
-    not_gone : (wrong : GoesOtherwise (Turns sys most here) sys f begun line) → IsNoStepsStop sys wrong.turn.first line → ⊥
+    not_gone : (wrong : GoesOtherwise (IsTaking sys most here) sys f begun line) → IsNoStepsStop sys wrong.taking.first line → ⊥
     not_gone wrong near =
         by
-        (goes_right sys limit within ahead ahead_chain rows a.end row_ends (shown_turn F wrong.turn) (shown_lines F wrong.passed) (shown F wrong.next) (shown_lines F wrong.more) back
-        (subst (λ (g : Look). Turns sys most g (shown_turn F wrong.turn)) (sym look_is) (turns_shown sys F most here wrong.turn wrong.turns)) (parts_are (Turns sys most here) wrong)
-        (whole ∙ ap (λ (ls : List Line). all_lines ahead ++ (ls ++ back)) (begun_is (Turns sys most here) wrong)))
+        (goes_right sys limit within ahead ahead_chain rows a.end row_ends (shown_taking F wrong.taking) (shown_lines F wrong.passed) (shown F wrong.next) (shown_lines F wrong.more) back
+        (subst (λ (g : Look). IsTaking sys most g (shown_taking F wrong.taking)) (sym look_is) (takings_shown sys F most here wrong.taking wrong.is_taking)) (parts_are (IsTaking sys most here) wrong)
+        (whole ∙ ap (λ (ls : List Line). all_lines ahead ++ (ls ++ back)) (begun_is (IsTaking sys most here) wrong)))
       where
-        by : GoesRight sys limit within ahead ahead_chain (shown_turn F wrong.turn) (shown F wrong.next) back a.end → ⊥
-        by (inl goes) = not_next (Turns sys most here) wrong goes.0 goes.1
-        by (inr stops) = no_stop_there wrong.turn near stops.1 (no_back stops.0) stops.2
+        by : GoesRight sys limit within ahead ahead_chain (shown_taking F wrong.taking) (shown F wrong.next) back a.end → ⊥
+        by (inl goes) = not_next (IsTaking sys most here) wrong goes.0 goes.1
+        by (inr stops) = no_stop_there wrong.taking near stops.1 (no_back stops.0) stops.2
 
-    not_stopped : (wrong : StopsOtherwise (Turns sys most here) sys begun line) → IsNoStepsStop sys wrong.turn.first line → ⊥
+    not_stopped : (wrong : StopsOtherwise (IsTaking sys most here) sys begun line) → IsNoStepsStop sys wrong.taking.first line → ⊥
     not_stopped wrong near =
-        let z = shown_turn F wrong.turn in
-        let begun_is : seen_begun ≡ turn_lines z = sym (lines_shown F wrong.turn ∙ ap (shown_lines F) wrong.lines_are) in
+        let z = shown_taking F wrong.taking in
+        let begun_is : seen_begun ≡ taking_lines z = sym (lines_shown F wrong.taking ∙ ap (shown_lines F) wrong.lines_are) in
         by
         (stops_right sys limit within ahead ahead_chain rows a.end row_ends z wrong.reason back
-        (subst (λ (g : Look). Turns sys most g z) (sym look_is) (turns_shown sys F most here wrong.turn wrong.turns)) (stop_shown F wrong.turn ∙ wrong.stop)
+        (subst (λ (g : Look). IsTaking sys most g z) (sym look_is) (takings_shown sys F most here wrong.taking wrong.is_taking)) (stop_shown F wrong.taking ∙ wrong.stop)
         (whole ∙ ap (λ (ls : List Line). all_lines ahead ++ (ls ++ back)) begun_is))
       where
-        by : StopsRight sys limit within ahead ahead_chain (shown_turn F wrong.turn) wrong.reason back a.end → ⊥
-        by (none, inl is) = wrong.other (at_end (no_back none) ∙ ap (last_line sys) (is ∙ reason_of_shown wrong.turn wrong.reason))
-        by (none, inr stops) = no_stop_there wrong.turn near stops.0 (no_back none) stops.1
+        by : StopsRight sys limit within ahead ahead_chain (shown_taking F wrong.taking) wrong.reason back a.end → ⊥
+        by (none, inl is) = wrong.other (at_end (no_back none) ∙ ap (last_line sys) (is ∙ reason_of_shown wrong.taking wrong.reason))
+        by (none, inr stops) = no_stop_there wrong.taking near stops.0 (no_back none) stops.1
 
     -- ---- A stop for steps that comes soon
 
@@ -458,11 +454,11 @@ module _ (i : Inputs) (accepted : AreAccepted i) (names : HasNames (system_of i)
       resource_is : nearest.x.first.key.resource ≡ first.key.resource
       resource_is = ap (λ (l : Line). l.key.resource) nearest.first_is ∙ resource_shown F (line_of sys first)
 
-      nearest_turns : Turns sys limit less nearest.x
-      nearest_turns =
-          subst (λ (g : Look). Turns sys limit (limited limit first.key.tick first.key.resource g) nearest.x) look_is
-          (subst (λ (n : ℕ). Turns sys limit (limited limit first.key.tick n (last_look (opening_look sys) ahead)) nearest.x) resource_is
-          (subst (λ (n : ℕ). Turns sys limit (limited limit n nearest.x.first.key.resource (last_look (opening_look sys) ahead)) nearest.x) tick_is nearest.near))
+      nearest_takings : IsTaking sys limit less nearest.x
+      nearest_takings =
+          subst (λ (g : Look). IsTaking sys limit (limited limit first.key.tick first.key.resource g) nearest.x) look_is
+          (subst (λ (n : ℕ). IsTaking sys limit (limited limit first.key.tick n (last_look (opening_look sys) ahead)) nearest.x) resource_is
+          (subst (λ (n : ℕ). IsTaking sys limit (limited limit n nearest.x.first.key.resource (last_look (opening_look sys) ahead)) nearest.x) tick_is nearest.near))
 
       nearest_keeps : KeepsLimit limit first.key.tick first.key.resource here
       nearest_keeps =
@@ -474,49 +470,49 @@ module _ (i : Inputs) (accepted : AreAccepted i) (names : HasNames (system_of i)
       begun_back = append_cancel_left (all_lines ahead) (seen_begun ++ back) (view first ∷ map view soon.rows) (sym whole ∙ near_lines)
 
       -- a taking that begins with the line is the nearest one
-      same_turn : (z0 : Turn) (more : List Line) → Turns sys limit less z0 → seen_begun ≡ (shown_turn F z0).first ∷ more → nearest.x ≡ shown_turn F z0
-      same_turn z0 more turns e =
-          let z = shown_turn F z0 in
+      same_taking : (z0 : Taking) (more : List Line) → IsTaking sys limit less z0 → seen_begun ≡ (shown_taking F z0).first ∷ more → nearest.x ≡ shown_taking F z0
+      same_taking z0 more is_taking e =
+          let z = shown_taking F z0 in
           let first_is : z.first ≡ view first = (two_heads z.first (view first) (more ++ back) (map view soon.rows) (ap (λ (ls : List Line). ls ++ back) (sym e) ∙ begun_back)).0 in
-          taking_one sys limit less nearest.x z nearest_turns (turns_shown sys F limit less z0 turns) (nearest.first_is ∙ sym first_is)
+          taking_one sys limit less nearest.x z nearest_takings (takings_shown sys F limit less z0 is_taking) (nearest.first_is ∙ sym first_is)
 
-      not_last_gone : GoesOtherwise (Turns sys limit less) sys f begun line → ⊥
+      not_last_gone : GoesOtherwise (IsTaking sys limit less) sys f begun line → ⊥
       not_last_gone wrong =
-          let z = shown_turn F wrong.turn in
-          let T : Turn → Type 0 = Turns sys limit less in
+          let z = shown_taking F wrong.taking in
+          let T : Taking → Type 0 = IsTaking sys limit less in
           let e : seen_begun ≡ z.first ∷ shown_lines F wrong.passed = begun_is T wrong in
-          let same = same_turn wrong.turn (shown_lines F wrong.passed) wrong.turns e in
+          let same = same_taking wrong.taking (shown_lines F wrong.passed) wrong.is_taking e in
           let all : seen_begun ++ (shown F wrong.next ∷ shown_lines F wrong.more) ≡ seen_begun ++ back =
-          ap (λ (ls : List Line). ls ++ (shown F wrong.next ∷ shown_lines F wrong.more)) e ∙ sym (parts_are T wrong) ∙ ap turn_lines (sym same) ∙ nearest.lines ∙ sym begun_back
+          ap (λ (ls : List Line). ls ++ (shown F wrong.next ∷ shown_lines F wrong.more)) e ∙ sym (parts_are T wrong) ∙ ap taking_lines (sym same) ∙ nearest.lines ∙ sym begun_back
           in
           not_next T wrong (shown_lines F wrong.more) (sym (append_cancel_left seen_begun (shown F wrong.next ∷ shown_lines F wrong.more) back all))
 
-      not_on_after : GoesOnAfter (Turns sys limit less) sys limit less begun line → ⊥
+      not_on_after : GoesOnAfter (IsTaking sys limit less) sys limit less begun line → ⊥
       not_on_after wrong =
-          let z0 = wrong.turn in
-          let z = shown_turn F z0 in
-          let e : seen_begun ≡ turn_lines z = sym (lines_shown F z0 ∙ ap (shown_lines F) wrong.lines_are) in
-          let same : nearest.x ≡ z = same_turn z0 _ wrong.turns e in
+          let z0 = wrong.taking in
+          let z = shown_taking F z0 in
+          let e : seen_begun ≡ taking_lines z = sym (lines_shown F z0 ∙ ap (shown_lines F) wrong.lines_are) in
+          let same : nearest.x ≡ z = same_taking z0 _ wrong.is_taking e in
           let none : back ≡ [] =
-          append_cancel_left seen_begun back [] (begun_back ∙ sym nearest.lines ∙ ap turn_lines same ∙ sym e ∙ sym (append-nil seen_begun))
+          append_cancel_left seen_begun back [] (begun_back ∙ sym nearest.lines ∙ ap taking_lines same ∙ sym e ∙ sym (append-nil seen_begun))
           in
-          let tick : z0.first.key.tick ≡ first.key.tick = sym (ap (λ (l : Line). l.key.tick) (first_shown F z0) ∙ tick_shown F z0.first) ∙ ap (λ (v : Turn). v.first.key.tick) (sym same) ∙ tick_is in
+          let tick : z0.first.key.tick ≡ first.key.tick = sym (ap (λ (l : Line). l.key.tick) (first_shown F z0) ∙ tick_shown F z0.first) ∙ ap (λ (v : Taking). v.first.key.tick) (sym same) ∙ tick_is in
           let resource : z0.first.key.resource ≡ first.key.resource =
-          sym (ap (λ (l : Line). l.key.resource) (first_shown F z0) ∙ resource_shown F z0.first) ∙ ap (λ (v : Turn). v.first.key.resource) (sym same) ∙ resource_is
+          sym (ap (λ (l : Line). l.key.resource) (first_shown F z0) ∙ resource_shown F z0.first) ∙ ap (λ (v : Taking). v.first.key.resource) (sym same) ∙ resource_is
           in
           let says : line ≡ steps_stop sys z0.first =
           at_end (no_back none) ∙ sym near_over.is ∙ ap (λ (n : ℕ). last_line sys (AtStop n first.key.resource Steps)) (sym tick) ∙ ap (λ (n : ℕ). last_line sys (AtStop z0.first.key.tick n Steps)) (sym resource)
           in
           wrong.other says (out z0 same (tick_is ∙ sym tick) (resource_is ∙ sym resource) nearest.out)
         where
-          out : (z0 : Turn) → nearest.x ≡ shown_turn F z0 → nearest.x.first.key.tick ≡ z0.first.key.tick → nearest.x.first.key.resource ≡ z0.first.key.resource
+          out : (z0 : Taking) → nearest.x ≡ shown_taking F z0 → nearest.x.first.key.tick ≡ z0.first.key.tick → nearest.x.first.key.resource ≡ z0.first.key.resource
               → (nearest.x.stop ≡ Some Steps) ⊎ ((nearest.x.stop ≡ None) × (left_at limit nearest.x.first.key.tick (nearest.x.after.steps nearest.x.first.key.resource) ≡ 0))
               → RunsOut limit z0.first.key.tick z0.first.key.resource less (z0 ∷ [])
-          out z0 same tick resource (inl stop) = inl (sym (stop_shown F z0) ∙ ap (λ (v : Turn). v.stop) (sym same) ∙ stop)
+          out z0 same tick resource (inl stop) = inl (sym (stop_shown F z0) ∙ ap (λ (v : Taking). v.stop) (sym same) ∙ stop)
           out z0 same tick resource (inr h) =
-              let after : nearest.x.after ≡ z0.after = ap (λ (v : Turn). v.after) same ∙ after_shown F z0 in
+              let after : nearest.x.after ≡ z0.after = ap (λ (v : Taking). v.after) same ∙ after_shown F z0 in
               inr (
-                sym (stop_shown F z0) ∙ ap (λ (v : Turn). v.stop) (sym same) ∙ h.0,
+                sym (stop_shown F z0) ∙ ap (λ (v : Taking). v.stop) (sym same) ∙ h.0,
                 subst (λ (n : ℕ). left_at limit z0.first.key.tick (z0.after.steps n) ≡ 0) resource
                     (subst (λ (n : ℕ). left_at limit n (z0.after.steps nearest.x.first.key.resource) ≡ 0) tick
                     (subst (λ (g : Look). left_at limit nearest.x.first.key.tick (g.steps nearest.x.first.key.resource) ≡ 0) after h.1)),
@@ -525,7 +521,7 @@ module _ (i : Inputs) (accepted : AreAccepted i) (names : HasNames (system_of i)
       not_last : IsWrongLast sys f limit (last_tick 0 before) ys first begun line → ⊥
       not_last (inl wrong) = wrong.1 nearest_keeps
       not_last (inr (inl wrong)) =
-          not_begun (Turns sys limit less) wrong.1 (λ l more e. (nearest.x, nearest.first_is ∙ sym (first_back l more wrong.0 e), nearest_turns))
+          not_begun (IsTaking sys limit less) wrong.1 (λ l more e. (nearest.x, nearest.first_is ∙ sym (first_back l more wrong.0 e), nearest_takings))
         where
           none_first : (form : Form) → shown_lines form [] ≡ []
           none_first One = refl
@@ -543,7 +539,7 @@ module _ (i : Inputs) (accepted : AreAccepted i) (names : HasNames (system_of i)
     not_over wrong =
         let read = wrong.read ++ wrong.untaken in
         let stop_line = last_line sys (AtStop wrong.tick wrong.resource Steps) in
-        let are : map (line_of sys) read ≡ all_lines (ys ++ wrong.turn ∷ wrong.later) ++ map (line_of sys) wrong.untaken =
+        let are : map (line_of sys) read ≡ all_lines (ys ++ wrong.taking ∷ wrong.later) ++ map (line_of sys) wrong.untaken =
         map-append (line_of sys) wrong.read wrong.untaken ∙ ap (λ (ls : List Line). ls ++ map (line_of sys) wrong.untaken) wrong.read_are
         in
         let al2 =
@@ -552,32 +548,32 @@ module _ (i : Inputs) (accepted : AreAccepted i) (names : HasNames (system_of i)
         in
         let o = over f read stop_line wrong.rest al2 (AtStop wrong.tick wrong.resource Steps) refl in
         let s = stop_is wrong.tick wrong.resource o.is in
-        let z = shown_turn F wrong.turn in
-        let joined = joined_shown F ys wrong.turn wrong.later in
-        let chain2 = subst (λ (ts : List Turn). AreTurns sys most (opening_look sys) ts) joined (chain_shown sys F most (opening_look sys) (ys ++ wrong.turn ∷ wrong.later) wrong.chain) in
-        let lines : all_lines rows ≡ all_lines (ahead ++ z ∷ shown_turns F wrong.later) ++ map view wrong.untaken =
-        none_left f read stop_line wrong.rest al2 o.none ∙ ap (shown_lines F) are ∙ both_shown F (all_lines (ys ++ wrong.turn ∷ wrong.later)) (map (line_of sys) wrong.untaken)
-        ∙ ap (λ (ls : List Line). ls ++ shown_lines F (map (line_of sys) wrong.untaken)) (sym (all_shown F (ys ++ wrong.turn ∷ wrong.later)) ∙ ap all_lines joined)
-        ∙ ap (λ (ls : List Line). all_lines (ahead ++ z ∷ shown_turns F wrong.later) ++ ls) (seen_all F wrong.untaken)
+        let z = shown_taking F wrong.taking in
+        let joined = joined_shown F ys wrong.taking wrong.later in
+        let chain2 = subst (λ (ts : List Taking). AreTakings sys most (opening_look sys) ts) joined (chain_shown sys F most (opening_look sys) (ys ++ wrong.taking ∷ wrong.later) wrong.chain) in
+        let lines : all_lines rows ≡ all_lines (ahead ++ z ∷ shown_takings F wrong.later) ++ map view wrong.untaken =
+        none_left f read stop_line wrong.rest al2 o.none ∙ ap (shown_lines F) are ∙ both_shown F (all_lines (ys ++ wrong.taking ∷ wrong.later)) (map (line_of sys) wrong.untaken)
+        ∙ ap (λ (ls : List Line). ls ++ shown_lines F (map (line_of sys) wrong.untaken)) (sym (all_shown F (ys ++ wrong.taking ∷ wrong.later)) ∙ ap all_lines joined)
+        ∙ ap (λ (ls : List Line). all_lines (ahead ++ z ∷ shown_takings F wrong.later) ++ ls) (seen_all F wrong.untaken)
         in
         let last =
-        too_many sys limit within ahead z (shown_turns F wrong.later) chain2 (λ kept. wrong.over (subst (KeepSteps sys limit) (after_shown F wrong.turn) kept)) s.tick s.resource rows s.ends (map view wrong.untaken) lines
+        too_many sys limit within ahead z (shown_takings F wrong.later) chain2 (λ kept. wrong.over (subst (KeepSteps sys limit) (after_shown F wrong.taking) kept)) s.tick s.resource rows s.ends (map view wrong.untaken) lines
         in
-        let basic = basic_shown wrong.turn last.basic in
-        let end : AtStop s.tick s.resource Steps ≡ AtStop wrong.turn.first.key.tick wrong.turn.first.key.resource Steps =
-        ap (λ (n : ℕ). AtStop n s.resource Steps) (sym last.tick) ∙ ap (λ (n : ℕ). AtStop z.first.key.tick n Steps) (sym last.resource) ∙ stop_of_shown wrong.turn
+        let basic = basic_shown wrong.taking last.basic in
+        let end : AtStop s.tick s.resource Steps ≡ AtStop wrong.taking.first.key.tick wrong.taking.first.key.resource Steps =
+        ap (λ (n : ℕ). AtStop n s.resource Steps) (sym last.tick) ∙ ap (λ (n : ℕ). AtStop z.first.key.tick n Steps) (sym last.resource) ∙ stop_of_shown wrong.taking
         in
-        wrong.near (no_turns F wrong.later last.no_later) (no_lines_left view wrong.untaken last.no_line) basic.0 basic.1 (o.is ∙ ap (last_line sys) (s.is ∙ end))
+        wrong.near (no_takings F wrong.later last.no_later) (no_lines_left view wrong.untaken last.no_line) basic.0 basic.1 (o.is ∙ ap (last_line sys) (s.is ∙ end))
 
     -- ---- All kinds
 
     not_freely : IsWrongFreely sys f limit (last_tick 0 before) ys begun line → ⊥
-    not_freely (inl wrong) = not_begun (Turns sys most here) wrong.1 begins
+    not_freely (inl wrong) = not_begun (IsTaking sys most here) wrong.1 begins
       where
-        begins : (l : Line) (more : List Line) → back ≡ l ∷ more → (x : Turn) × (x.first ≡ l) × Turns sys most here x
+        begins : (l : Line) (more : List Line) → back ≡ l ∷ more → (x : Taking) × (x.first ≡ l) × IsTaking sys most here x
         begins l more e =
             let x = begins_right sys limit within ahead ahead_chain rows a.end row_ends l more (whole_none wrong.0 ∙ ap (λ (ls : List Line). all_lines ahead ++ ls) e) in
-            (x.0, x.1, subst (λ (g : Look). Turns sys most g x.0) look_is x.2)
+            (x.0, x.1, subst (λ (g : Look). IsTaking sys most g x.0) look_is x.2)
     not_freely (inr (inl wrong)) = not_ended wrong.0 wrong.1
     not_freely (inr (inr (inl wrong))) = not_gone wrong.0 wrong.1
     not_freely (inr (inr (inr wrong))) = not_stopped wrong.0 wrong.1
@@ -590,7 +586,7 @@ module _ (i : Inputs) (accepted : AreAccepted i) (names : HasNames (system_of i)
   not_line : (n : ℕ) → IsWrongLine sys limit n text → ⊥
   not_line n w =
       let al = align w.form w.before w.line w.at.rest w.at.are.each w.at.is w.at.alone in
-      not_after w.form w.before w.line w.at.rest w.at.are.each al w.at.formed w.turns w.taken.chain w.taken.goes_on w.begun w.taken.lines_are w.wrong
+      not_after w.form w.before w.line w.at.rest w.at.are.each al w.at.formed w.takings w.taken.chain w.taken.goes_on w.begun w.taken.lines_are w.wrong
 
   not_past : (n : ℕ) → IsAfterLast sys limit n text → ⊥
   not_past n w =

@@ -16,7 +16,7 @@ use Rattle.fb_inspect.specs.Inspections.{KeepSteps, limited}
 use Rattle.fb_inspect.specs.Lines.{IsNext}
 use Rattle.fb_inspect.specs.Looks.{Left, Look, left_at, most}
 use Rattle.fb_inspect.specs.Stepping.{EndsAfter, GoesOn, IsStopped, IsUsedUp, LineGoes, StepGoes, stop_at}
-use Rattle.fb_inspect.specs.Walking.{AreCutOff, HasLimited, IsLookOf, IsSevered, TurnGoes, unread}
+use Rattle.fb_inspect.specs.Walking.{AreCutOff, HasLimited, IsLookOf, IsSevered, WalkTakes, unread}
 use Rattle.fb_inspect.specs.declared.ahead.Ahead.{Ahead}
 use Rattle.fb_inspect.specs.declared.blocks.Remembered.{Remembered}
 use Rattle.fb_inspect.specs.declared.reading.Next.{Next}
@@ -24,7 +24,7 @@ use Rattle.fb_inspect.specs.declared.reading.Next.TheVariants as next
 use Rattle.fb_inspect.specs.declared.walk.Step.{Step}
 use Rattle.fb_inspect.specs.declared.walk.Step.TheVariants.{Taken, Ended, CutOff}
 use Rattle.fb_inspect.specs.declared.walk.Walk.{Walk}
-use Rattle.fb_inspect.proofs.Stepped.{look_limited, turn_from, turn_next, turn_reread}
+use Rattle.fb_inspect.proofs.Stepped.{look_limited, taking_from, taking_next, taking_reread}
 
 -- two facts of what a call answers
 pub ok_both : {A E : Type 0} (r : Result A E) (P Q R : A → Type 0) → IfOk r P → IfOk r Q → ((x : A) → P x → Q x → R x) → IfOk r R
@@ -41,18 +41,18 @@ ended_whole end same = absurd (cc)
 module _ (types : List BlockType) (sys : System) (form : Form) (steps : ℕ) (look : Look) (line : Line) where
   -- the event is taken with the greatest limit
   pub free_goes :
-      (old new : Walk) (remaining rest : Option (List ℕ)) (limit : ℕ) (stop : Option Reason) → limit ≡ most → stop ≡ None → TurnGoes types sys form limit look line stop old new remaining rest
+      (old new : Walk) (remaining rest : Option (List ℕ)) (limit : ℕ) (stop : Option Reason) → limit ≡ most → stop ≡ None → WalkTakes types sys form limit look line stop old new remaining rest
       → IsNext sys form line.key.tick new.trail.reading.line.items new.trail.reading.next → GoesOn types sys form look line old new remaining rest
   free_goes old new remaining rest limit stop same none goes here = record {
-    goes = subst (λ (n : ℕ). TurnGoes types sys form n look line None old new remaining rest) same
-        (subst (λ (o : Option Reason). TurnGoes types sys form limit look line o old new remaining rest) none goes);
+    goes = subst (λ (n : ℕ). WalkTakes types sys form n look line None old new remaining rest) same
+        (subst (λ (o : Option Reason). WalkTakes types sys form limit look line o old new remaining rest) none goes);
     next = here;
   }
 
   -- .. and its resource stops
   pub free_ends :
       (old new : Walk) (remaining rest : Option (List ℕ)) (limit : ℕ) (stop : Option Reason) (r : Reason) (end : Outcome) → limit ≡ most → stop ≡ Some r → (r ≡ Steps → ⊥)
-      → TurnGoes types sys form limit look line stop old new remaining rest → IsNext sys form line.key.tick new.trail.reading.line.items new.trail.reading.next
+      → WalkTakes types sys form limit look line stop old new remaining rest → IsNext sys form line.key.tick new.trail.reading.line.items new.trail.reading.next
       → new.trail.reading.next ≡ next.End (stop_at line r) → end ≡ stop_at line r → EndsAfter types sys form steps look line end old new remaining rest
   free_ends old new remaining rest limit stop r end same stops other goes here last is =
       let at = subst (λ (n : Next). IsNext sys form line.key.tick new.trail.reading.line.items n) (last ∙ ap next.End (sym is)) here in
@@ -61,8 +61,8 @@ module _ (types : List BlockType) (sys : System) (form : Form) (steps : ℕ) (lo
             (record {
               reason = r;
               other = other;
-              goes = subst (λ (n : ℕ). TurnGoes types sys form n look line (Some r) old new remaining rest) same
-                  (subst (λ (o : Option Reason). TurnGoes types sys form limit look line o old new remaining rest) stops goes);
+              goes = subst (λ (n : ℕ). WalkTakes types sys form n look line (Some r) old new remaining rest) same
+                  (subst (λ (o : Option Reason). WalkTakes types sys form limit look line o old new remaining rest) stops goes);
               is = is;
             });
         last = at.0;
@@ -73,7 +73,7 @@ module _ (types : List BlockType) (sys : System) (form : Form) (steps : ℕ) (lo
   pub limited_ends :
       (old between new : Walk) (remaining rest : Option (List ℕ)) (stop : Option Reason) (end : Outcome) → KeepSteps sys steps look → between.shown ≡ old.shown → between.trail ≡ old.trail → between.blocks ≡ old.blocks
       → IsLookOf sys old.blocks.items old.steps.items look → HasLimited steps line.key old.steps.items between.steps.items
-      → ((l : Look) → IsLookOf sys between.blocks.items between.steps.items l → TurnGoes types sys form steps l line stop between new remaining rest)
+      → ((l : Look) → IsLookOf sys between.blocks.items between.steps.items l → WalkTakes types sys form steps l line stop between new remaining rest)
       → ((l : Look) → IsLookOf sys new.blocks.items new.steps.items l → (stop ≡ Some Steps) ⊎ ((stop ≡ None) × (left_at steps line.key.tick (l.steps line.key.resource) ≡ 0)))
       → IsNext sys form line.key.tick new.trail.reading.line.items new.trail.reading.next → new.trail.reading.next ≡ next.End (stop_at line Steps) → end ≡ stop_at line Steps
       → EndsAfter types sys form steps look line end old new remaining rest
@@ -82,7 +82,7 @@ module _ (types : List BlockType) (sys : System) (form : Form) (steps : ℕ) (lo
       let is_near : IsLookOf sys between.blocks.items between.steps.items near =
       subst (λ (b : Vec Remembered). IsLookOf sys b.items between.steps.items near) (sym blocks_same)
       (look_limited sys steps line.key look old.blocks.items old.steps.items between.steps.items is_look has) in
-      let own = turn_from types sys form steps near line stop old between new remaining rest shown_same trail_same (goes near is_near) in
+      let own = taking_from types sys form steps near line stop old between new remaining rest shown_same trail_same (goes near is_near) in
       let at = subst (λ (n : Next). IsNext sys form line.key.tick new.trail.reading.line.items n) (last ∙ ap next.End (sym is)) here in
       record {
         how = inr
@@ -91,7 +91,7 @@ module _ (types : List BlockType) (sys : System) (form : Form) (steps : ℕ) (lo
               within = subst (λ (l : Left). most ≤ left_at most line.key.tick l + steps) (sym (is_look.lefts line.key.resource has.before has.stood)) has.within;
               stop = stop;
               goes = own;
-              out = by own (out own.turn.after own.look_after);
+              out = by own (out own.taking.after own.look_after);
               is = is;
             });
         last = at.0;
@@ -99,9 +99,9 @@ module _ (types : List BlockType) (sys : System) (form : Form) (steps : ℕ) (lo
       }
     where
       by :
-          (own : TurnGoes types sys form steps (limited steps line.key.tick line.key.resource look) line stop old new remaining rest)
-          → (stop ≡ Some Steps) ⊎ ((stop ≡ None) × (left_at steps line.key.tick (own.turn.after.steps line.key.resource) ≡ 0))
-          → (own.turn.stop ≡ Some Steps) ⊎ ((own.turn.stop ≡ None) × (left_at steps line.key.tick (own.turn.after.steps line.key.resource) ≡ 0))
+          (own : WalkTakes types sys form steps (limited steps line.key.tick line.key.resource look) line stop old new remaining rest)
+          → (stop ≡ Some Steps) ⊎ ((stop ≡ None) × (left_at steps line.key.tick (own.taking.after.steps line.key.resource) ≡ 0))
+          → (own.taking.stop ≡ Some Steps) ⊎ ((own.taking.stop ≡ None) × (left_at steps line.key.tick (own.taking.after.steps line.key.resource) ≡ 0))
       by own (inl stopped) = inl (own.stop_is ∙ stopped)
       by own (inr (on, used)) = inr (own.stop_is ∙ on, used)
 
@@ -125,12 +125,12 @@ module _ (types : List BlockType) (sys : System) (form : Form) (steps : ℕ) (lo
   -- from what was not read ahead yet
   module _ (old new : Walk) (r s rest : Option (List ℕ)) (back : (bytes : List ℕ) → Consumes s rest bytes → Consumes r rest bytes) where
     used_reread : (end : Outcome) → IsUsedUp types sys form steps look line end old new s rest → IsUsedUp types sys form steps look line end old new r rest
-    unfolding turn_reread
+    unfolding taking_reread
     used_reread end x = record {
       kept = x.kept;
       within = x.within;
       stop = x.stop;
-      goes = turn_reread types sys form steps (limited steps line.key.tick line.key.resource look) line x.stop old new r s rest back x.goes;
+      goes = taking_reread types sys form steps (limited steps line.key.tick line.key.resource look) line x.stop old new r s rest back x.goes;
       out = x.out;
       is = x.is;
     }
@@ -141,12 +141,12 @@ module _ (types : List BlockType) (sys : System) (form : Form) (steps : ℕ) (lo
         by :
             IsStopped types sys form look line end old new s rest ⊎ IsUsedUp types sys form steps look line end old new s rest
             → IsStopped types sys form look line end old new r rest ⊎ IsUsedUp types sys form steps look line end old new r rest
-        by (inl x) = inl (record { reason = x.reason; other = x.other; goes = turn_reread types sys form most look line (Some x.reason) old new r s rest back x.goes; is = x.is })
+        by (inl x) = inl (record { reason = x.reason; other = x.other; goes = taking_reread types sys form most look line (Some x.reason) old new r s rest back x.goes; is = x.is })
         by (inr x) = inr (used_reread end x)
 
     pub line_reread :
         (ahead : Ahead) (step : Step) → (step ≡ CutOff → ⊥) → LineGoes types sys form steps look line old new ahead s rest step → LineGoes types sys form steps look line old new ahead r rest step
-    line_reread ahead Taken whole goes = record { goes = turn_reread types sys form most look line None old new r s rest back goes.goes; next = goes.next }
+    line_reread ahead Taken whole goes = record { goes = taking_reread types sys form most look line None old new r s rest back goes.goes; next = goes.next }
     line_reread ahead (Ended end) whole goes = ends_reread end goes
     line_reread ahead CutOff whole goes = absurd (whole refl)
 
@@ -156,12 +156,12 @@ module _ (types : List BlockType) (sys : System) (form : Form) (steps : ℕ) (lo
     past = record old { trail = record (old.trail) { reading = record (old.trail.reading) { next = bad } } }
 
     used_next : (end : Outcome) → IsUsedUp types sys form steps look line end past new remaining rest → IsUsedUp types sys form steps look line end old new remaining rest
-    unfolding turn_next
+    unfolding taking_next
     used_next end x = record {
       kept = x.kept;
       within = x.within;
       stop = x.stop;
-      goes = turn_next types sys form steps (limited steps line.key.tick line.key.resource look) line x.stop old bad new remaining rest x.goes;
+      goes = taking_next types sys form steps (limited steps line.key.tick line.key.resource look) line x.stop old bad new remaining rest x.goes;
       out = x.out;
       is = x.is;
     }
@@ -172,12 +172,12 @@ module _ (types : List BlockType) (sys : System) (form : Form) (steps : ℕ) (lo
         by :
             IsStopped types sys form look line end past new remaining rest ⊎ IsUsedUp types sys form steps look line end past new remaining rest
             → IsStopped types sys form look line end old new remaining rest ⊎ IsUsedUp types sys form steps look line end old new remaining rest
-        by (inl x) = inl (record { reason = x.reason; other = x.other; goes = turn_next types sys form most look line (Some x.reason) old bad new remaining rest x.goes; is = x.is })
+        by (inl x) = inl (record { reason = x.reason; other = x.other; goes = taking_next types sys form most look line (Some x.reason) old bad new remaining rest x.goes; is = x.is })
         by (inr x) = inr (used_next end x)
 
     pub line_next :
         (ahead : Ahead) (step : Step) → LineGoes types sys form steps look line past new ahead remaining rest step → LineGoes types sys form steps look line old new ahead remaining rest step
-    line_next ahead Taken goes = record { goes = turn_next types sys form most look line None old bad new remaining rest goes.goes; next = goes.next }
+    line_next ahead Taken goes = record { goes = taking_next types sys form most look line None old bad new remaining rest goes.goes; next = goes.next }
     line_next ahead (Ended end) goes = ends_next end goes
     line_next ahead CutOff goes = goes
 
@@ -196,7 +196,7 @@ pub severed_next :
     → IsSevered types first sys form only w input old mid
     → IsSevered types first sys form only (record w { trail = record (w.trail) { reading = record (w.trail.reading) { next = after } } }) input old mid
 severed_next types first sys form only w after input old mid off = record {
-  turns = off.turns;
+  takings = off.takings;
   goes_on = off.goes_on;
   chain = off.chain;
   lines = off.lines;

@@ -124,9 +124,6 @@ module _ (sys : System) (k : ℕ) where
 
 -- ---- All of them
 
-pub open_none : (sys : System) → OpenAll sys 0 []
-open_none sys = record { all = refl; each = λ k b at. absurd (cc) }
-
 pub open_more : (sys : System) (n : ℕ) (old new : List Remembered) (b : Remembered) → OpenAll sys n old → OpensAs sys n b → new ≡ old ++ b ∷ [] → OpenAll sys (n + 1) new
 open_more sys n old new b are here is = subst (λ (l : List Remembered). OpenAll sys (n + 1) l) (sym is) (record {
   all = let e = are.all in omega (arith, e, length-append old (b ∷ []));

@@ -21,8 +21,8 @@ use Rattle.fb_types.proofs.PathLaws.{same_path_is, same_path_itself}
 use Rattle.fb_types.proofs.ReactionLaws.{emitted_all-left, emitted_all-lines, emitted_all-publishes, emitted_all-stop, emitted_all-timer, kept_at}
 use Rattle.fb_net.proofs.Sampling.{sampled-paired, sampled-wrote}
 use Rattle.fb_inspect.specs.Chains.{Piece, ShowsReaction}
-use Rattle.fb_inspect.specs.Looks.{Look, Seen, Turn, TurnsAt, due_after, emissions_by, emits_pieces, memory_pieces, reacted, with_left, with_seen}
-use Rattle.fb_inspect.specs.RunTurns.{CanReact, GoesOff, IsLeaf, IsSeenIn, IsTurnOf, MayHaveMore, RunsAfter, due_before}
+use Rattle.fb_inspect.specs.Looks.{IsTakingAt, Look, Seen, Taking, due_after, emissions_by, emits_pieces, memory_pieces, reacted, with_left, with_seen}
+use Rattle.fb_inspect.specs.RunTakings.{CanReact, GoesOff, IsLeaf, IsSeenIn, IsTakingOf, MayHaveMore, RunsAfter, due_before}
 use Rattle.fb_inspect.proofs.MoreReactions.{reaction_longer}
 use Rattle.fb_inspect.proofs.ShowingLaws.{reaction_shows}
 use Rattle.fb_inspect.proofs.TimerKept.{KeepsRunning, expiry_runs, reaction_runs}
@@ -127,9 +127,9 @@ module _ (sys : System) (k : Key) (w : World) (q : Port) (left more : ℕ) (look
       (subst (λ (n : ℕ). ShowsReaction t e p stop (record c { left = n }) ps) last h)
   shown_longer t e p stop c ps h (inr goes) = reaction_longer more t e p stop c ps h goes
 
-  chart_turn :
-      (t : BasicType) → sys.kind q.at ≡ Some (Basic t) → (o : Outcome) → ReactsAt sys k w q left (Some (Basic t)) o → MayHaveMore more o.stop → (x : Turn) × IsTurnOf sys k q.at left more look here.due o x
-  chart_turn t kind o h may =
+  taking_of_chart :
+      (t : BasicType) → sys.kind q.at ≡ Some (Basic t) → (o : Outcome) → ReactsAt sys k w q left (Some (Basic t)) o → MayHaveMore more o.stop → (x : Taking) × IsTakingOf sys k q.at left more look here.due o x
+  taking_of_chart t kind o h may =
       let ns = inputs_with t.ports q.name in
       let vars = sampled sys k.resource w q.at ns in
       let begun = taking sys k w q t.ports left in
@@ -150,7 +150,7 @@ module _ (sys : System) (k : Key) (w : World) (q : Port) (left more : ℕ) (look
       let longer = shown_longer t q.name start stop c shown.0 shown.1 (subst (MayHaveMore more) stop_is may) in
       let s : Seen = record here { memory = InState c.state; variables = c.vars } in
       let after : Look = with_seen q.at s (with_left k (c.left + more) look) in
-      let x : Turn = record { first = first; emits = c.emitted; pieces = shown.0; stop = stop; after = after } in
+      let x : Taking = record { first = first; emits = c.emitted; pieces = shown.0; stop = stop; after = after } in
       let b : Block = begun.world.blocks q.at in
       let all = emitted_all-publishes sys k q.at c.emitted set in
       let base = record (w.blocks q.at) { variables = vars } in
@@ -161,7 +161,7 @@ module _ (sys : System) (k : Key) (w : World) (q : Port) (left more : ℕ) (look
           at_is = refl;
           lines_are = sym (ap (λ (y : Outcome). y.lines) h.3 ∙ emitted_all-lines sys k q.at c.emitted set);
           stop_is = sym stop_is;
-          turns = subst (λ (o : Option Kind). TurnsAt (left + more) look o x) (sym kind) (record { taken = refl; end = record c { left = c.left + more }; shown = longer; emitted = refl; is = refl });
+          is_taking = subst (λ (o : Option Kind). IsTakingAt (left + more) look o x) (sym kind) (record { taken = refl; end = record c { left = c.left + more }; shown = longer; emitted = refl; is = refl });
           seen = seen_after sys look w seen q.at s after o.world (λ z. refl) (InState c.state) c.vars refl refl
               (λ z. ap (λ (y : Outcome). (y.world.blocks z).memory) h.3 ∙ all.memory z ∙ part_twice (λ (y : Block). y.memory) (same_path z q.at) new base (w.blocks z))
               (λ z. ap (λ (y : Outcome). (y.world.blocks z).variables) h.3 ∙ all.variables z ∙ part_twice (λ (y : Block). y.variables) (same_path z q.at) new base (w.blocks z));
@@ -178,9 +178,9 @@ module _ (sys : System) (k : Key) (w : World) (q : Port) (left more : ℕ) (look
   abbrev reaction_here : EventKind → blocks.Reaction
   reaction_here kind = blocks.reaction kind (memory_of here.memory) q.name k.tick (with_values (line_at (ports_of (Event kind))).values here.variables)
 
-  event_turn :
-      (kind : EventKind) → sys.kind q.at ≡ Some (Event kind) → (o : Outcome) → ReactsAt sys k w q left (Some (Event kind)) o → (x : Turn) × IsTurnOf sys k q.at left more look here.due o x
-  event_turn kind is o h =
+  taking_of_event :
+      (kind : EventKind) → sys.kind q.at ≡ Some (Event kind) → (o : Outcome) → ReactsAt sys k w q left (Some (Event kind)) o → (x : Taking) × IsTakingOf sys k q.at left more look here.due o x
+  taking_of_event kind is o h =
       let ports = ports_of (Event kind) in
       let ns = inputs_with ports q.name in
       let vars = sampled sys k.resource w q.at ns in
@@ -203,7 +203,7 @@ module _ (sys : System) (k : Key) (w : World) (q : Port) (left more : ℕ) (look
       let all = emitted_all-publishes sys k q.at es kept in
       let s : Seen = reacted here r said here.due in
       let after : Look = with_seen q.at s (with_left k (left + more) look) in
-      let x : Turn = record { first = first; emits = es; pieces = memory_pieces here s ++ emits_pieces es; stop = None; after = after } in
+      let x : Taking = record { first = first; emits = es; pieces = memory_pieces here s ++ emits_pieces es; stop = None; after = after } in
       let new : Block = record (begun.world.blocks q.at) { memory = Remembers r.memory } in (
         x,
         record {
@@ -211,7 +211,7 @@ module _ (sys : System) (k : Key) (w : World) (q : Port) (left more : ℕ) (look
           at_is = refl;
           lines_are = sym (ap (λ (y : Outcome). y.lines) o_is ∙ emitted_all-lines sys k q.at es kept);
           stop_is = sym (ap (λ (y : Outcome). y.stop) o_is ∙ emitted_all-stop sys k q.at es kept);
-          turns = subst (λ (o : Option Kind). TurnsAt (left + more) look o x) (sym is) (inl (record { taken = refl; goes_on = refl; is = (refl, refl, refl) }));
+          is_taking = subst (λ (o : Option Kind). IsTakingAt (left + more) look o x) (sym is) (inl (record { taken = refl; goes_on = refl; is = (refl, refl, refl) }));
           seen = seen_after sys look w seen q.at s after o.world (λ z. refl) (Remembers r.memory) vars refl same
               (λ z. ap (λ (y : Outcome). (y.world.blocks z).memory) o_is ∙ all.memory z ∙ part_twice (λ (y : Block). y.memory) (same_path z q.at) new base (w.blocks z))
               (λ z. ap (λ (y : Outcome). (y.world.blocks z).variables) o_is ∙ all.variables z ∙ part_twice (λ (y : Block). y.variables) (same_path z q.at) new base (w.blocks z)
@@ -234,20 +234,20 @@ module _ (sys : System) (k : Key) (w : World) (q : Port) (left more : ℕ) (look
       by true e = absurd (subst IsLeaf (ap sys.kind (same_path_is z q.at e) ∙ is) leaf)
       by false e = refl
 
-  composite_turn :
+  taking_of_composite :
       (t : CompositeType) → sys.kind q.at ≡ Some (Composite t) → (o : Outcome) (c : Bool) → o ≡ (if c then crossing_in sys k q (taking sys k w q t.ports left) else crossing_out sys k w q t.ports left)
-      → (x : Turn) × IsTurnOf sys k q.at left more look here.due o x
-  composite_turn t is o true h =
+      → (x : Taking) × IsTakingOf sys k q.at left more look here.due o x
+  taking_of_composite t is o true h =
       let ns = inputs_with t.ports q.name in
       let base = record (w.blocks q.at) { variables = sampled sys k.resource w q.at ns } in
-      let x : Turn = record { first = line_at t.ports; emits = []; pieces = []; stop = None; after = with_left k (left + more) look } in (
+      let x : Taking = record { first = line_at t.ports; emits = []; pieces = []; stop = None; after = with_left k (left + more) look } in (
         x,
         record {
           key_is = refl;
           at_is = refl;
           lines_are = sym (ap (λ (y : Outcome). y.lines) h);
           stop_is = sym (ap (λ (y : Outcome). y.stop) h);
-          turns = subst (λ (o : Option Kind). TurnsAt (left + more) look o x) (sym is) (record { none = refl; silent = refl; goes_on = refl; is = refl });
+          is_taking = subst (λ (o : Option Kind). IsTakingAt (left + more) look o x) (sym is) (record { none = refl; silent = refl; goes_on = refl; is = refl });
           seen = record {
             memory = λ z. seen.memory z ∙ sym (ap (λ (y : Outcome). (y.world.blocks z).memory) h ∙ kept_at (λ (y : Block). y.memory) q.at base w.blocks refl z);
             variables = λ z leaf. seen.variables z leaf ∙ sym (composite_variables o.world base t is (λ (v : Path). ap (λ (y : Outcome). y.world.blocks v) h) z leaf);
@@ -259,10 +259,10 @@ module _ (sys : System) (k : Key) (w : World) (q : Port) (left more : ℕ) (look
           runs = λ other same. absurd (composite_or_event t other (sym is ∙ same));
         },
       )
-  composite_turn t is o false h =
+  taking_of_composite t is o false h =
       let values = bound (outputs_with t.ports q.name) (from_inside sys k.resource w q.at) in
       let base = record (w.blocks q.at) { published = with_values values (w.blocks q.at).published } in
-      let x : Turn =
+      let x : Taking =
       record { first = record { key = k; taken = false; at = q.at; event = q.name; values = values }; emits = []; pieces = []; stop = None; after = with_left k (left + more) look }
       in (
         x,
@@ -271,7 +271,7 @@ module _ (sys : System) (k : Key) (w : World) (q : Port) (left more : ℕ) (look
           at_is = refl;
           lines_are = sym (ap (λ (y : Outcome). y.lines) h);
           stop_is = sym (ap (λ (y : Outcome). y.stop) h);
-          turns = subst (λ (o : Option Kind). TurnsAt (left + more) look o x) (sym is) (record { none = refl; silent = refl; goes_on = refl; is = refl });
+          is_taking = subst (λ (o : Option Kind). IsTakingAt (left + more) look o x) (sym is) (record { none = refl; silent = refl; goes_on = refl; is = refl });
           seen = record {
             memory = λ z. seen.memory z ∙ sym (ap (λ (y : Outcome). (y.world.blocks z).memory) h ∙ kept_at (λ (y : Block). y.memory) q.at base w.blocks refl z);
             variables = λ z leaf. seen.variables z leaf ∙ sym (ap (λ (y : Outcome). (y.world.blocks z).variables) h ∙ kept_at (λ (y : Block). y.variables) q.at base w.blocks refl z);
@@ -285,16 +285,16 @@ module _ (sys : System) (k : Key) (w : World) (q : Port) (left more : ℕ) (look
       )
 
   -- an event at a port of an instance
-  port_turn : (kind : Kind) → sys.kind q.at ≡ Some kind → (o : Outcome) → ReactsAt sys k w q left (Some kind) o → MayHaveMore more o.stop → (x : Turn) × IsTurnOf sys k q.at left more look here.due o x
-  port_turn (Basic t) is o h may = chart_turn t is o h may
-  port_turn (Event kind) is o h may = event_turn kind is o h
-  port_turn (Composite t) is o h may = composite_turn t is o (is_event_input t.ports q.name) h
+  taking_of_port : (kind : Kind) → sys.kind q.at ≡ Some kind → (o : Outcome) → ReactsAt sys k w q left (Some kind) o → MayHaveMore more o.stop → (x : Taking) × IsTakingOf sys k q.at left more look here.due o x
+  taking_of_port (Basic t) is o h may = taking_of_chart t is o h may
+  taking_of_port (Event kind) is o h may = taking_of_event kind is o h
+  taking_of_port (Composite t) is o h may = taking_of_composite t is o (is_event_input t.ports q.name) h
 
 -- ---- Timers
 
 module _ (sys : System) (k : Key) (w : World) (p : Path) (left more : ℕ) (look : Look) (seen : IsSeenIn sys look w) where
-  timer_turn : (kind : EventKind) → sys.kind p ≡ Some (Event kind) → (o : Outcome) → o ≡ expires sys k w p left (Some (Event kind)) → GoesOff kind (look.blocks p) k.tick → (x : Turn) × IsTurnOf sys k p left more look None o x
-  timer_turn kind is o h goes =
+  taking_of_timer : (kind : EventKind) → sys.kind p ≡ Some (Event kind) → (o : Outcome) → o ≡ expires sys k w p left (Some (Event kind)) → GoesOff kind (look.blocks p) k.tick → (x : Taking) × IsTakingOf sys k p left more look None o x
+  taking_of_timer kind is o h goes =
       let b = look.blocks p in
       let r = blocks.expiry kind (memory_of b.memory) k.tick in
       let ports = ports_of (Event kind) in
@@ -307,7 +307,7 @@ module _ (sys : System) (k : Key) (w : World) (p : Path) (left more : ℕ) (look
       let all = emitted_all-publishes sys k p (emissions_by kind r) kept in
       let s : Seen = reacted b r b.variables None in
       let after : Look = with_seen p s (with_left k (left + more) look) in
-      let x : Turn =
+      let x : Taking =
       record { first = record { key = k; taken = false; at = p; event = e.event; values = e.values }; emits = es; pieces = memory_pieces b s ++ emits_pieces es; stop = None; after = after }
       in
       let leaf : IsLeaf (sys.kind p) = subst IsLeaf (sym is) tt in
@@ -318,7 +318,7 @@ module _ (sys : System) (k : Key) (w : World) (p : Path) (left more : ℕ) (look
           at_is = refl;
           lines_are = sym (ap (λ (y : Outcome). y.lines) o_is ∙ emitted_all-lines sys k p (emissions_by kind r) kept ∙ ap (map (emission_line k p)) all_are);
           stop_is = sym (ap (λ (y : Outcome). y.stop) o_is ∙ emitted_all-stop sys k p (emissions_by kind r) kept);
-          turns = subst (λ (o : Option Kind). TurnsAt (left + more) look o x) (sym is) (inr (record { emitted = refl; due = goes.due; goes_on = refl; is = (sym all_are, refl, refl) }));
+          is_taking = subst (λ (o : Option Kind). IsTakingAt (left + more) look o x) (sym is) (inr (record { emitted = refl; due = goes.due; goes_on = refl; is = (sym all_are, refl, refl) }));
           seen = seen_after sys look w seen p s after o.world (λ z. refl) (Remembers r.memory) (w.blocks p).variables refl (seen.variables p leaf)
               (λ z. ap (λ (y : Outcome). (y.world.blocks z).memory) o_is ∙ all.memory z ∙ part_of (λ (y : Block). y.memory) (same_path z p) new (w.blocks z))
               (λ z. ap (λ (y : Outcome). (y.world.blocks z).variables) o_is ∙ all.variables z ∙ part_of (λ (y : Block). y.variables) (same_path z p) new (w.blocks z));
@@ -342,15 +342,15 @@ slots_seen sys look w p bs seen =
       variables = λ z leaf. seen.variables z leaf ∙ sym (kept_at (λ (y : Block). y.variables) p b w.blocks refl z);
     }
 
-pub reacts_turn :
+pub reacts_taking :
     (sys : System) (k : Key) (w : World) (event : AnEvent) (left more : ℕ) (look : Look) (o : Outcome) → IsSeenIn sys look w → CanReact sys look k event → Reacts sys k w event left o
-    → MayHaveMore more o.stop → (x : Turn) × IsTurnOf sys k (path_of event) left more look (due_before look event) o x
-reacts_turn sys k w (Stimulated q bs) left more look o seen can h may =
-    port_turn sys k (with_slots q.at bs w) q left more look (slots_seen sys look w q.at bs seen) can.0 can.1 o (subst (λ (kind : Option Kind). ReactsAt sys k (with_slots q.at bs w) q left kind o) can.1 h) may
-reacts_turn sys k w (Expired p) left more look o seen can h may =
-    timer_turn sys k w p left more look seen can.0 can.1 o (h ∙ ap (expires sys k w p left) can.1) can.2
-reacts_turn sys k w (Arrived q cs) left more look o seen can h may =
-    port_turn sys k (record w { held = hold_all cs w.held }) q left more look (record { memory = seen.memory; variables = seen.variables }) can.0 can.1 o
+    → MayHaveMore more o.stop → (x : Taking) × IsTakingOf sys k (path_of event) left more look (due_before look event) o x
+reacts_taking sys k w (Stimulated q bs) left more look o seen can h may =
+    taking_of_port sys k (with_slots q.at bs w) q left more look (slots_seen sys look w q.at bs seen) can.0 can.1 o (subst (λ (kind : Option Kind). ReactsAt sys k (with_slots q.at bs w) q left kind o) can.1 h) may
+reacts_taking sys k w (Expired p) left more look o seen can h may =
+    taking_of_timer sys k w p left more look seen can.0 can.1 o (h ∙ ap (expires sys k w p left) can.1) can.2
+reacts_taking sys k w (Arrived q cs) left more look o seen can h may =
+    taking_of_port sys k (record w { held = hold_all cs w.held }) q left more look (record { memory = seen.memory; variables = seen.variables }) can.0 can.1 o
     (subst (λ (kind : Option Kind). ReactsAt sys k (record w { held = hold_all cs w.held }) q left kind o) can.1 h) may
-reacts_turn sys k w (Raised q) left more look o seen can h may =
-    port_turn sys k w q left more look seen can.0 can.1 o (subst (λ (kind : Option Kind). ReactsAt sys k w q left kind o) can.1 h) may
+reacts_taking sys k w (Raised q) left more look o seen can h may =
+    taking_of_port sys k w q left more look seen can.0 can.1 o (subst (λ (kind : Option Kind). ReactsAt sys k w q left kind o) can.1 h) may

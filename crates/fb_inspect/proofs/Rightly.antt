@@ -9,23 +9,23 @@ use Rattle.fb_types.specs.Systems.{System}
 use Rattle.fb_types.specs.declared.library.BasicType.{BasicType}
 use Rattle.fb_types.specs.declared.value.Reason.{Reason}
 use Rattle.fb_types.specs.declared.value.Reason.TheVariants.{Steps}
-use Rattle.fb_inspect.specs.Inspections.{AreTurns, EndsBySteps, KeepSteps, NoneStops, NothingAfter, RunsOut, all_lines, last_look, limited, stop_of}
-use Rattle.fb_inspect.specs.Looks.{Look, Turn, Turns, TurnsAt, emission_line, left_at, most, opening_look, turn_lines}
+use Rattle.fb_inspect.specs.Inspections.{AreTakings, EndsBySteps, KeepSteps, NoneStops, NothingAfter, RunsOut, all_lines, last_look, limited, stop_of}
+use Rattle.fb_inspect.specs.Looks.{IsTaking, IsTakingAt, Look, Taking, emission_line, left_at, most, opening_look, taking_lines}
 use Rattle.fb_inspect.specs.Walking.{MayEnd}
-use Rattle.fb_inspect.proofs.GoesOn.{all_both, last_none, limited_at, tails, turn_after}
+use Rattle.fb_inspect.proofs.GoesOn.{all_both, last_none, limited_at, tails, taking_after}
 use Rattle.fb_inspect.proofs.OneTaking.{first_line, nothing, taking_one}
-use Rattle.fb_inspect.proofs.Splits.{EndsIn, GoesPast, IsBasic, IsLast, Keeps, Near, basic_or_not, begins, free_after, free_keeps, free_there, last_there, near_after, no_length, no_lines, no_part, plain_emits, plain_stops, split, turns_at}
+use Rattle.fb_inspect.proofs.Splits.{EndsIn, GoesPast, IsBasic, IsLast, Keeps, Near, basic_or_not, begins, free_after, free_keeps, free_there, last_there, near_after, no_length, no_lines, no_part, plain_emits, plain_stops, split, takings_at}
 
 -- ---- Rows
 
 pub none_stops : (s : Option Reason) (r : Reason) → s ≡ None → s ≡ Some r → ⊥
 none_stops s r a b = cc
 
-pub none_at : (ys zs : List Turn) (z : Turn) → NoneStops (ys ++ z ∷ zs) → z.stop ≡ None
+pub none_at : (ys zs : List Taking) (z : Taking) → NoneStops (ys ++ z ∷ zs) → z.stop ≡ None
 none_at [] zs z h = h.0
 none_at (y ∷ ys) zs z h = none_at ys zs z h.1
 
-pub stop_none : (ys : List Turn) (e : Ending) → NoneStops ys → stop_of ys ≡ Some e → ⊥
+pub stop_none : (ys : List Taking) (e : Ending) → NoneStops ys → stop_of ys ≡ Some e → ⊥
 stop_none [] e h is = let clash : None ≡ Some e = is in cc
 stop_none (y ∷ []) e h is =
     let none : stop_of (y ∷ []) ≡ None = ap (λ (s : Option Reason). elim s [ None ↦ None | Some r ↦ Some (AtStop y.first.key.tick y.first.key.resource r) ]) h.0 in
@@ -33,39 +33,39 @@ stop_none (y ∷ []) e h is =
     cc
 stop_none (y ∷ x ∷ ys) e h is = stop_none (x ∷ ys) e h.1 is
 
-pub stop_push : (ys : List Turn) (z : Turn) → stop_of (ys ++ z ∷ []) ≡ stop_of (z ∷ [])
+pub stop_push : (ys : List Taking) (z : Taking) → stop_of (ys ++ z ∷ []) ≡ stop_of (z ∷ [])
 stop_push [] z = refl
 stop_push (y ∷ []) z = refl
 stop_push (y ∷ x ∷ ys) z = stop_push (x ∷ ys) z
 
-pub look_push : (look : Look) (ys zs : List Turn) (z : Turn) → last_look look (ys ++ z ∷ zs) ≡ last_look z.after zs
+pub look_push : (look : Look) (ys zs : List Taking) (z : Taking) → last_look look (ys ++ z ∷ zs) ≡ last_look z.after zs
 look_push look [] zs z = refl
 look_push look (y ∷ ys) zs z = look_push y.after ys zs z
 
-pub chain_after : (sys : System) (look : Look) (ys zs : List Turn) (z : Turn) → AreTurns sys most look (ys ++ z ∷ zs) → NothingAfter z.stop zs × AreTurns sys most z.after zs
+pub chain_after : (sys : System) (look : Look) (ys zs : List Taking) (z : Taking) → AreTakings sys most look (ys ++ z ∷ zs) → NothingAfter z.stop zs × AreTakings sys most z.after zs
 chain_after sys look [] zs z h = (h.1, h.2)
 chain_after sys look (y ∷ ys) zs z h = chain_after sys y.after ys zs z h.2
 
-heads : (x y : Turn) (xs ys : List Turn) → x ∷ xs ≡ y ∷ ys → (x ≡ y) × (xs ≡ ys)
+heads : (x y : Taking) (xs ys : List Taking) → x ∷ xs ≡ y ∷ ys → (x ≡ y) × (xs ≡ ys)
 heads x y xs ys e = (cc, cc)
 
-some_turn : (x : Turn) (xs : List Turn) → [] ≡ x ∷ xs → ⊥
-some_turn x xs e = cc
+some_taking : (x : Taking) (xs : List Taking) → [] ≡ x ∷ xs → ⊥
+some_taking x xs e = cc
 
-none_pushed : (front : List Turn) (z : Turn) (more : List Turn) → [] ≡ front ++ z ∷ more → ⊥
-none_pushed [] z more e = some_turn z more e
-none_pushed (y ∷ front) z more e = some_turn y (front ++ z ∷ more) e
+none_pushed : (front : List Taking) (z : Taking) (more : List Taking) → [] ≡ front ++ z ∷ more → ⊥
+none_pushed [] z more e = some_taking z more e
+none_pushed (y ∷ front) z more e = some_taking y (front ++ z ∷ more) e
 
 -- what stands before the last taking of a row
-pub unpush : (xs : List Turn) (b : Turn) (bs cs : List Turn) (w : Turn) → xs ++ b ∷ bs ≡ cs ++ w ∷ [] → ((bs ≡ []) × (xs ≡ cs) × (b ≡ w)) ⊎ ((mid : List Turn) × (cs ≡ xs ++ b ∷ mid))
+pub unpush : (xs : List Taking) (b : Taking) (bs cs : List Taking) (w : Taking) → xs ++ b ∷ bs ≡ cs ++ w ∷ [] → ((bs ≡ []) × (xs ≡ cs) × (b ≡ w)) ⊎ ((mid : List Taking) × (cs ≡ xs ++ b ∷ mid))
 unpush [] b bs [] w e = let h = heads b w bs [] e in inl (h.1, refl, h.0)
-unpush [] b bs (c ∷ cs) w e = inr (cs, ap (λ (z : Turn). z ∷ cs) (sym (heads b c bs (cs ++ w ∷ []) e).0))
+unpush [] b bs (c ∷ cs) w e = inr (cs, ap (λ (z : Taking). z ∷ cs) (sym (heads b c bs (cs ++ w ∷ []) e).0))
 unpush (a ∷ xs) b bs [] w e = absurd (none_pushed xs b bs (sym (heads a w (xs ++ b ∷ bs) [] e).1))
 unpush (a ∷ xs) b bs (c ∷ cs) w e = by (unpush xs b bs cs w (heads a c (xs ++ b ∷ bs) (cs ++ w ∷ []) e).1)
   where
-    by : ((bs ≡ []) × (xs ≡ cs) × (b ≡ w)) ⊎ ((mid : List Turn) × (cs ≡ xs ++ b ∷ mid)) → ((bs ≡ []) × (a ∷ xs ≡ c ∷ cs) × (b ≡ w)) ⊎ ((mid : List Turn) × (c ∷ cs ≡ (a ∷ xs) ++ b ∷ mid))
-    by (inl h) = inl (h.0, ap (λ (z : Turn). z ∷ xs) (heads a c (xs ++ b ∷ bs) (cs ++ w ∷ []) e).0 ∙ ap (λ (zs : List Turn). c ∷ zs) h.1, h.2)
-    by (inr h) = inr (h.0, ap (λ (z : Turn). z ∷ cs) (sym (heads a c (xs ++ b ∷ bs) (cs ++ w ∷ []) e).0) ∙ ap (λ (zs : List Turn). a ∷ zs) h.1)
+    by : ((bs ≡ []) × (xs ≡ cs) × (b ≡ w)) ⊎ ((mid : List Taking) × (cs ≡ xs ++ b ∷ mid)) → ((bs ≡ []) × (a ∷ xs ≡ c ∷ cs) × (b ≡ w)) ⊎ ((mid : List Taking) × (c ∷ cs ≡ (a ∷ xs) ++ b ∷ mid))
+    by (inl h) = inl (h.0, ap (λ (z : Taking). z ∷ xs) (heads a c (xs ++ b ∷ bs) (cs ++ w ∷ []) e).0 ∙ ap (λ (zs : List Taking). c ∷ zs) h.1, h.2)
+    by (inr h) = inr (h.0, ap (λ (z : Taking). z ∷ cs) (sym (heads a c (xs ++ b ∷ bs) (cs ++ w ∷ []) e).0) ∙ ap (λ (zs : List Taking). a ∷ zs) h.1)
 
 pub each_at : {A : Type 0} (P : A → Type 0) (xs : List A) (y : A) (zs : List A) → Each P (xs ++ y ∷ zs) → P y
 each_at P [] y zs h = h.0
@@ -76,65 +76,62 @@ abbrev pub IsRowOf : Line → Line → Type 0
 IsRowOf first l = (l.taken ≡ false) × (l.at ≡ first.at)
 
 -- the lines of a taking, and of one that goes further
-lines_begin : (x z : Turn) → z.first ≡ x.first → (rest : List Emission) → z.emits ≡ x.emits ++ rest → turn_lines z ≡ turn_lines x ++ map (emission_line x.first) rest
+lines_begin : (x z : Taking) → z.first ≡ x.first → (rest : List Emission) → z.emits ≡ x.emits ++ rest → taking_lines z ≡ taking_lines x ++ map (emission_line x.first) rest
 lines_begin x z first rest e =
     ap (λ (l : Line). l ∷ map (emission_line l) z.emits) first
     ∙ ap (λ (es : List Emission). x.first ∷ map (emission_line x.first) es) e
     ∙ ap (λ (ls : List Line). x.first ∷ ls) (map-append (emission_line x.first) x.emits rest)
 
-lines_length : (x : Turn) → length (turn_lines x) ≡ suc (length x.emits)
+lines_length : (x : Taking) → length (taking_lines x) ≡ suc (length x.emits)
 lines_length x = ap suc (length-map x.emits (emission_line x.first))
 
 -- what comes after some lines of a taking, where all of them are there
 pub after_part :
-    (z : Turn) (passed : List Line) (next : Line) (more back rest : List Line) → turn_lines z ≡ (z.first ∷ passed) ++ next ∷ more → turn_lines z ++ rest ≡ (z.first ∷ passed) ++ back → next ∷ (more ++ rest) ≡ back
+    (z : Taking) (passed : List Line) (next : Line) (more back rest : List Line) → taking_lines z ≡ (z.first ∷ passed) ++ next ∷ more → taking_lines z ++ rest ≡ (z.first ∷ passed) ++ back → next ∷ (more ++ rest) ≡ back
 after_part z passed next more back rest parts all =
     append_cancel_left (z.first ∷ passed) (next ∷ (more ++ rest)) back (sym (append_assoc (z.first ∷ passed) (next ∷ more) rest) ∙ ap (λ (ls : List Line). ls ++ rest) (sym parts) ∙ all)
 
-module _ (sys : System) (limit : ℕ) (within : limit ≤ most) (ys : List Turn) (are : AreTurns sys most (opening_look sys) ys) where
+module _ (sys : System) (limit : ℕ) (within : limit ≤ most) (ys : List Taking) (are : AreTakings sys most (opening_look sys) ys) where
   abbrev look : Look
   look = opening_look sys
 
   abbrev pub here : Look
   here = last_look look ys
 
-  abbrev the_same : (z w : Turn) → z ≡ w → turn_lines z ≡ turn_lines w
-  the_same z w e = ap turn_lines e
-
   -- ---- Rows without a last taking of its own
 
   -- the taking after these, of a row that goes on
-  first_is : (xs : List Turn) → AreTurns sys most look xs → (zs : List Turn) (z w : Turn) → xs ≡ ys ++ w ∷ zs → Turns sys most here z → w.first ≡ z.first → w ≡ z
-  first_is xs chain zs z w parts turns first = taking_one sys most here w z (turn_after sys look ys zs w (subst (λ (ts : List Turn). AreTurns sys most look ts) parts chain)) turns first
+  first_is : (xs : List Taking) → AreTakings sys most look xs → (zs : List Taking) (z w : Taking) → xs ≡ ys ++ w ∷ zs → IsTaking sys most here z → w.first ≡ z.first → w ≡ z
+  first_is xs chain zs z w parts is_taking first = taking_one sys most here w z (taking_after sys look ys zs w (subst (λ (ts : List Taking). AreTakings sys most look ts) parts chain)) is_taking first
 
   -- ---- What may come
 
   -- the taking of a basic block that a row ends with, and that stops it for its steps
   abbrev pub StopsLast : Ending → Type 0
-  StopsLast end = (front : List Turn) × (z : Turn) × (ys ≡ front ++ z ∷ []) × IsBasic sys z.first × (end ≡ AtStop z.first.key.tick z.first.key.resource Steps)
+  StopsLast end = (front : List Taking) × (z : Taking) × (ys ≡ front ++ z ∷ []) × IsBasic sys z.first × (end ≡ AtStop z.first.key.tick z.first.key.resource Steps)
 
   -- what comes after some lines of a taking is its next line, or the taking is of a basic block and the run stops there for its steps
-  abbrev pub GoesRight : Turn → Line → (back : List Line) → Ending → Type 0
+  abbrev pub GoesRight : Taking → Line → (back : List Line) → Ending → Type 0
   GoesRight z next back end = ((rest : List Line) × (back ≡ next ∷ rest)) ⊎ ((back ≡ []) × IsBasic sys z.first × (end ≡ AtStop z.first.key.tick z.first.key.resource Steps))
 
   -- after a taking that stops its resource comes the end
-  abbrev pub StopsRight : Turn → Reason → (back : List Line) → Ending → Type 0
+  abbrev pub StopsRight : Taking → Reason → (back : List Line) → Ending → Type 0
   StopsRight z reason back end =
       (back ≡ []) × ((end ≡ AtStop z.first.key.tick z.first.key.resource reason) ⊎ (IsBasic sys z.first × (end ≡ AtStop z.first.key.tick z.first.key.resource Steps)))
 
   -- ---- The rows of a run that stops for its steps
 
-  module _ (t r : ℕ) (xs : List Turn) (ends : EndsBySteps sys limit t r xs) where
-    abbrev before : List Turn
+  module _ (t r : ℕ) (xs : List Taking) (ends : EndsBySteps sys limit t r xs) where
+    abbrev before : List Taking
     before = ends.limited_so.before
 
-    abbrev last : List Turn
+    abbrev last : List Taking
     last = ends.limited_so.last
 
     abbrev at : Look
     at = last_look look before
 
-    abbrev Last : Turn → Type 0
+    abbrev Last : Taking → Type 0
     Last x = IsLast sys limit within look ys are before last ends.limited_so.chain t r ends.limited_so.one ends.limited_so.within ends.limited_so.judged x
 
     abbrev Past : List Line → Type 0
@@ -148,16 +145,16 @@ module _ (sys : System) (limit : ℕ) (within : limit ≤ most) (ys : List Turn)
         split sys limit within look ys are before last ends.limited_so.chain t r ends.limited_so.one ends.limited_so.within ends.limited_so.judged rest
         (sym (all_both sys before last) ∙ ap all_lines (sym ends.limited_so.parts) ∙ e)
 
-    is_last : (x : Turn) (xs : List Turn) → last ≡ x ∷ xs → Last x
+    is_last : (x : Taking) (xs : List Taking) → last ≡ x ∷ xs → Last x
     is_last x xs e = last_there sys limit within look ys are before last ends.limited_so.chain t r ends.limited_so.one ends.limited_so.within ends.limited_so.judged x xs e
 
     at_here : before ≡ ys ++ [] → at ≡ here
     at_here e = ap (last_look look) e ∙ last_none sys look ys
 
-    stops_at : (x : Turn) → Last x → AtStop t r Steps ≡ AtStop x.first.key.tick x.first.key.resource Steps
+    stops_at : (x : Taking) → Last x → AtStop t r Steps ≡ AtStop x.first.key.tick x.first.key.resource Steps
     stops_at x is = ap (λ (n : ℕ). AtStop n r Steps) (sym is.tick) ∙ ap (λ (n : ℕ). AtStop x.first.key.tick n Steps) (sym is.resource)
 
-    runs_out : (x : Turn) → Last x → (x.stop ≡ Some Steps) ⊎ ((x.stop ≡ None) × (left_at limit x.first.key.tick (x.after.steps x.first.key.resource) ≡ 0))
+    runs_out : (x : Taking) → Last x → (x.stop ≡ Some Steps) ⊎ ((x.stop ≡ None) × (left_at limit x.first.key.tick (x.after.steps x.first.key.resource) ≡ 0))
     runs_out x is =
         let out : RunsOut limit t r (limited limit t r at) (x ∷ []) = subst (RunsOut limit t r (limited limit t r at)) is.last_is ends.runs_out in
         by out
@@ -171,25 +168,25 @@ module _ (sys : System) (limit : ℕ) (within : limit ≤ most) (ys : List Turn)
             )
 
     -- a taking after the others
-    next_past : (l : Line) (more : List Line) → Past (l ∷ more) → (x : Turn) × (x.first ≡ l) × Turns sys most here x
+    next_past : (l : Line) (more : List Line) → Past (l ∷ more) → (x : Taking) × (x.first ≡ l) × IsTaking sys most here x
     next_past l more past = by past.more past.parts past.lines
       where
-        from_last : (ls : List Turn) → last ≡ ls → before ≡ ys ++ [] → all_lines last ≡ l ∷ more → (x : Turn) × (x.first ≡ l) × Turns sys most here x
+        from_last : (ls : List Taking) → last ≡ ls → before ≡ ys ++ [] → all_lines last ≡ l ∷ more → (x : Taking) × (x.first ≡ l) × IsTaking sys most here x
         from_last [] e parts lines = absurd (nothing l more (ap all_lines (sym e) ∙ lines))
         from_last (x ∷ ls) e parts lines =
             let is = is_last x ls e in
             let first : x.first ≡ l = first_line x.first l _ more (ap all_lines (sym is.last_is) ∙ lines) in
             let free = free_there sys limit within at x is.keeps_so is.near in
-            (free.0, free.1 ∙ first, subst (λ (g : Look). Turns sys most g free.0) (at_here parts) free.2)
+            (free.0, free.1 ∙ first, subst (λ (g : Look). IsTaking sys most g free.0) (at_here parts) free.2)
 
-        by : (zs : List Turn) → before ≡ ys ++ zs → all_lines zs ++ all_lines last ≡ l ∷ more → (x : Turn) × (x.first ≡ l) × Turns sys most here x
+        by : (zs : List Taking) → before ≡ ys ++ zs → all_lines zs ++ all_lines last ≡ l ∷ more → (x : Taking) × (x.first ≡ l) × IsTaking sys most here x
         by [] parts lines = from_last last refl parts lines
-        by (z ∷ zs) parts lines = (z, first_line z.first l _ more lines, turn_after sys look ys zs z (subst (λ (ts : List Turn). AreTurns sys most look ts) parts ends.limited_so.chain))
+        by (z ∷ zs) parts lines = (z, first_line z.first l _ more lines, taking_after sys look ys zs z (subst (λ (ts : List Taking). AreTakings sys most look ts) parts ends.limited_so.chain))
 
-    pub steps_begin : (l : Line) (more : List Line) → all_lines xs ≡ all_lines ys ++ l ∷ more → (x : Turn) × (x.first ≡ l) × Turns sys most here x
+    pub steps_begin : (l : Line) (more : List Line) → all_lines xs ≡ all_lines ys ++ l ∷ more → (x : Taking) × (x.first ≡ l) × IsTaking sys most here x
     steps_begin l more e = by (parted (l ∷ more) e)
       where
-        by : Past (l ∷ more) ⊎ Inside (l ∷ more) → (x : Turn) × (x.first ≡ l) × Turns sys most here x
+        by : Past (l ∷ more) ⊎ Inside (l ∷ more) → (x : Taking) × (x.first ≡ l) × IsTaking sys most here x
         by (inl past) = next_past l more past
         by (inr inside) = absurd (nothing l more (sym inside.none))
 
@@ -201,7 +198,7 @@ module _ (sys : System) (limit : ℕ) (within : limit ≤ most) (ys : List Turn)
         free_end : Past [] → MayEnd sys limit here (AtStop t r Steps)
         free_end past =
             let none = no_part (all_lines past.more) (all_lines last) past.lines in
-            let parts : before ≡ ys ++ [] = past.parts ∙ ap (λ (ts : List Turn). ys ++ ts) (no_lines past.more none.0) in
+            let parts : before ≡ ys ++ [] = past.parts ∙ ap (λ (ts : List Taking). ys ++ ts) (no_lines past.more none.0) in
             let out : RunsOut limit t r (limited limit t r at) [] = subst (RunsOut limit t r (limited limit t r at)) (no_lines last none.1) ends.runs_out in
             let left = limited_at sys limit within at t r in
             let keeps = ends.limited_so.within in
@@ -227,7 +224,7 @@ module _ (sys : System) (limit : ℕ) (within : limit ≤ most) (ys : List Turn)
               subst (KeepSteps sys limit) (sym last_here) (free_keeps sys limit within at x z is.keeps_so is.near inside.free inside.first plain ends.limited_so.kept),
             )
           where
-            used : (x : Turn) → (x.stop ≡ Some Steps) ⊎ ((x.stop ≡ None) × (left_at limit x.first.key.tick (x.after.steps x.first.key.resource) ≡ 0)) → x.stop ≡ None
+            used : (x : Taking) → (x.stop ≡ Some Steps) ⊎ ((x.stop ≡ None) × (left_at limit x.first.key.tick (x.after.steps x.first.key.resource) ≡ 0)) → x.stop ≡ None
                 → left_at limit x.first.key.tick (x.after.steps x.first.key.resource) ≡ 0
             used x (inl stop) none = absurd (none_stops x.stop Steps none stop)
             used x (inr h) none = h.1
@@ -249,28 +246,28 @@ module _ (sys : System) (limit : ℕ) (within : limit ≤ most) (ys : List Turn)
 
     -- ---- After the first lines of a taking
 
-    pub steps_go : (z : Turn) (passed : List Line) (next : Line) (more back : List Line) → Turns sys most here z → turn_lines z ≡ (z.first ∷ passed) ++ next ∷ more
+    pub steps_go : (z : Taking) (passed : List Line) (next : Line) (more back : List Line) → IsTaking sys most here z → taking_lines z ≡ (z.first ∷ passed) ++ next ∷ more
         → all_lines xs ≡ all_lines ys ++ ((z.first ∷ passed) ++ back) → GoesRight z next back (AtStop t r Steps)
-    steps_go z passed next more back turns parts e = by (parted ((z.first ∷ passed) ++ back) e)
+    steps_go z passed next more back is_taking parts e = by (parted ((z.first ∷ passed) ++ back) e)
       where
-        from_last : (ls : List Turn) → last ≡ ls → before ≡ ys ++ [] → all_lines last ≡ (z.first ∷ passed) ++ back → GoesRight z next back (AtStop t r Steps)
+        from_last : (ls : List Taking) → last ≡ ls → before ≡ ys ++ [] → all_lines last ≡ (z.first ∷ passed) ++ back → GoesRight z next back (AtStop t r Steps)
         from_last [] none whole lines = absurd (nothing z.first (passed ++ back) (ap all_lines (sym none) ∙ lines))
         from_last (x ∷ ls) is whole lines = stopped x (is_last x ls is)
           where
-            stopped : (x : Turn) → Last x → GoesRight z next back (AtStop t r Steps)
+            stopped : (x : Taking) → Last x → GoesRight z next back (AtStop t r Steps)
             stopped x is_x =
-                let all : turn_lines x ++ [] ≡ (z.first ∷ passed) ++ back = ap all_lines (sym is_x.last_is) ∙ lines in
+                let all : taking_lines x ++ [] ≡ (z.first ∷ passed) ++ back = ap all_lines (sym is_x.last_is) ∙ lines in
                 let first : z.first ≡ x.first = sym (first_line x.first z.first _ _ all) in
-                let free : Turns sys most at z = subst (λ (g : Look). Turns sys most g z) (sym (at_here whole)) turns in
+                let free : IsTaking sys most at z = subst (λ (g : Look). IsTaking sys most g z) (sym (at_here whole)) is_taking in
                 let b = begins sys limit within at x z is_x.keeps_so is_x.near free first in
                 let tail = map (emission_line x.first) b.0 in
                 let rest : next ∷ more ≡ back ++ tail =
                 append_cancel_left (z.first ∷ passed) (next ∷ more) (back ++ tail)
-                (sym parts ∙ lines_begin x z first b.0 b.1 ∙ ap (λ (ls : List Line). ls ++ tail) (sym (append-nil (turn_lines x)) ∙ all) ∙ append_assoc (z.first ∷ passed) back tail)
+                (sym parts ∙ lines_begin x z first b.0 b.1 ∙ ap (λ (ls : List Line). ls ++ tail) (sym (append-nil (taking_lines x)) ∙ all) ∙ append_assoc (z.first ∷ passed) back tail)
                 in
                 at_back back tail rest all
               where
-                at_back : (back tail : List Line) → next ∷ more ≡ back ++ tail → turn_lines x ++ [] ≡ (z.first ∷ passed) ++ back → GoesRight z next back (AtStop t r Steps)
+                at_back : (back tail : List Line) → next ∷ more ≡ back ++ tail → taking_lines x ++ [] ≡ (z.first ∷ passed) ++ back → GoesRight z next back (AtStop t r Steps)
                 at_back (l ∷ ls) tail rest all = inl (ls, ap (λ (m : Line). m ∷ ls) (sym (first_line next l more (ls ++ tail) rest)))
                 at_back [] tail rest all = basic (basic_or_not sys z.first)
                   where
@@ -280,11 +277,11 @@ module _ (sys : System) (limit : ℕ) (within : limit ≤ most) (ys : List Turn)
                         inr (refl, is, stops_at x is_x ∙ ap (λ (l : Line). AtStop l.key.tick l.key.resource Steps) first)
                     basic (inr other) =
                         let first : z.first ≡ x.first = sym (first_line x.first z.first _ _ all) in
-                        let free : Turns sys most at z = subst (λ (g : Look). Turns sys most g z) (sym (at_here whole)) turns in
+                        let free : IsTaking sys most at z = subst (λ (g : Look). IsTaking sys most g z) (sym (at_here whole)) is_taking in
                         let same = plain_emits sys limit within at x z is_x.keeps_so is_x.near free first (subst (λ (l : Line). IsBasic sys l → ⊥) first other) in
                         let one = ap length all in
                         let two = ap length parts in
-                        let three = length-append (turn_lines x) [] in
+                        let three = length-append (taking_lines x) [] in
                         let four = length-append (z.first ∷ passed) [] in
                         let five = length-append (z.first ∷ passed) (next ∷ more) in
                         let six = lines_length x in
@@ -292,12 +289,12 @@ module _ (sys : System) (limit : ℕ) (within : limit ≤ most) (ys : List Turn)
                         let eight = ap length same in
                         absurd (omega (arith, one, two, three, four, five, six, seven, eight))
 
-        by_row : (zs : List Turn) → before ≡ ys ++ zs → all_lines zs ++ all_lines last ≡ (z.first ∷ passed) ++ back → GoesRight z next back (AtStop t r Steps)
+        by_row : (zs : List Taking) → before ≡ ys ++ zs → all_lines zs ++ all_lines last ≡ (z.first ∷ passed) ++ back → GoesRight z next back (AtStop t r Steps)
         by_row [] whole lines = from_last last refl whole lines
         by_row (w ∷ zs) whole lines =
-            let same : w ≡ z = first_is before ends.limited_so.chain zs z w whole turns (first_line w.first z.first _ _ lines) in
-            let all : turn_lines z ++ (all_lines zs ++ all_lines last) ≡ (z.first ∷ passed) ++ back =
-            ap (λ (v : Turn). turn_lines v ++ (all_lines zs ++ all_lines last)) (sym same) ∙ sym (append_assoc (turn_lines w) (all_lines zs) (all_lines last)) ∙ lines
+            let same : w ≡ z = first_is before ends.limited_so.chain zs z w whole is_taking (first_line w.first z.first _ _ lines) in
+            let all : taking_lines z ++ (all_lines zs ++ all_lines last) ≡ (z.first ∷ passed) ++ back =
+            ap (λ (v : Taking). taking_lines v ++ (all_lines zs ++ all_lines last)) (sym same) ∙ sym (append_assoc (taking_lines w) (all_lines zs) (all_lines last)) ∙ lines
             in
             inl (more ++ (all_lines zs ++ all_lines last), sym (after_part z passed next more back (all_lines zs ++ all_lines last) parts all))
 
@@ -307,18 +304,18 @@ module _ (sys : System) (limit : ℕ) (within : limit ≤ most) (ys : List Turn)
 
     -- ---- After a taking that stops its resource
 
-    pub steps_stop_at : (z : Turn) (reason : Reason) (back : List Line) → Turns sys most here z → z.stop ≡ Some reason → all_lines xs ≡ all_lines ys ++ (turn_lines z ++ back) → StopsRight z reason back (AtStop t r Steps)
-    steps_stop_at z reason back turns stop e = by (parted (turn_lines z ++ back) e)
+    pub steps_stop_at : (z : Taking) (reason : Reason) (back : List Line) → IsTaking sys most here z → z.stop ≡ Some reason → all_lines xs ≡ all_lines ys ++ (taking_lines z ++ back) → StopsRight z reason back (AtStop t r Steps)
+    steps_stop_at z reason back is_taking stop e = by (parted (taking_lines z ++ back) e)
       where
-        stopped : (x : Turn) → Last x → before ≡ ys ++ [] → all_lines last ≡ turn_lines z ++ back → StopsRight z reason back (AtStop t r Steps)
+        stopped : (x : Taking) → Last x → before ≡ ys ++ [] → all_lines last ≡ taking_lines z ++ back → StopsRight z reason back (AtStop t r Steps)
         stopped x is_x whole lines =
-            let all : turn_lines x ++ [] ≡ turn_lines z ++ back = ap all_lines (sym is_x.last_is) ∙ lines in
+            let all : taking_lines x ++ [] ≡ taking_lines z ++ back = ap all_lines (sym is_x.last_is) ∙ lines in
             let first : z.first ≡ x.first = sym (first_line x.first z.first _ _ all) in
-            let free : Turns sys most at z = subst (λ (g : Look). Turns sys most g z) (sym (at_here whole)) turns in
+            let free : IsTaking sys most at z = subst (λ (g : Look). IsTaking sys most g z) (sym (at_here whole)) is_taking in
             let b = begins sys limit within at x z is_x.keeps_so is_x.near free first in
             let one = ap length all in
-            let two = length-append (turn_lines x) [] in
-            let three = length-append (turn_lines z) back in
+            let two = length-append (taking_lines x) [] in
+            let three = length-append (taking_lines z) back in
             let four = lines_length x in
             let five = lines_length z in
             let six = ap length b.1 in
@@ -326,87 +323,87 @@ module _ (sys : System) (limit : ℕ) (within : limit ≤ most) (ys : List Turn)
             let none : length back ≡ 0 = omega (arith, one, two, three, four, five, six, seven) in
             (no_length back none, basic first free (basic_or_not sys z.first))
           where
-            basic : z.first ≡ x.first → Turns sys most at z → IsBasic sys z.first ⊎ (IsBasic sys z.first → ⊥)
+            basic : z.first ≡ x.first → IsTaking sys most at z → IsBasic sys z.first ⊎ (IsBasic sys z.first → ⊥)
                 → (AtStop t r Steps ≡ AtStop z.first.key.tick z.first.key.resource reason) ⊎ (IsBasic sys z.first × (AtStop t r Steps ≡ AtStop z.first.key.tick z.first.key.resource Steps))
             basic first free (inl is) = inr (is, stops_at x is_x ∙ ap (λ (l : Line). AtStop l.key.tick l.key.resource Steps) (sym first))
             basic first free (inr other) =
                 absurd
                 (none_stops z.stop reason (plain_stops sys limit within at x z is_x.keeps_so is_x.near free first (subst (λ (l : Line). IsBasic sys l → ⊥) first other)).1 stop)
 
-        from_last : (ls : List Turn) → last ≡ ls → before ≡ ys ++ [] → all_lines last ≡ turn_lines z ++ back → StopsRight z reason back (AtStop t r Steps)
+        from_last : (ls : List Taking) → last ≡ ls → before ≡ ys ++ [] → all_lines last ≡ taking_lines z ++ back → StopsRight z reason back (AtStop t r Steps)
         from_last [] none whole lines = absurd (nothing z.first _ (ap all_lines (sym none) ∙ lines))
         from_last (x ∷ ls) is whole lines = stopped x (is_last x ls is) whole lines
 
-        by_row : (zs : List Turn) → before ≡ ys ++ zs → all_lines zs ++ all_lines last ≡ turn_lines z ++ back → StopsRight z reason back (AtStop t r Steps)
+        by_row : (zs : List Taking) → before ≡ ys ++ zs → all_lines zs ++ all_lines last ≡ taking_lines z ++ back → StopsRight z reason back (AtStop t r Steps)
         by_row [] whole lines = from_last last refl whole lines
         by_row (w ∷ zs) whole lines =
-            let same : w ≡ z = first_is before ends.limited_so.chain zs z w whole turns (first_line w.first z.first _ _ lines) in
+            let same : w ≡ z = first_is before ends.limited_so.chain zs z w whole is_taking (first_line w.first z.first _ _ lines) in
             let on : w.stop ≡ None = none_at ys zs w (subst NoneStops whole ends.limited_so.goes_on) in
-            absurd (none_stops z.stop reason (ap (λ (v : Turn). v.stop) (sym same) ∙ on) stop)
+            absurd (none_stops z.stop reason (ap (λ (v : Taking). v.stop) (sym same) ∙ on) stop)
 
-        by : Past (turn_lines z ++ back) ⊎ Inside (turn_lines z ++ back) → StopsRight z reason back (AtStop t r Steps)
+        by : Past (taking_lines z ++ back) ⊎ Inside (taking_lines z ++ back) → StopsRight z reason back (AtStop t r Steps)
         by (inl past) = by_row past.more past.parts past.lines
         by (inr inside) = absurd (nothing z.first _ (sym inside.none))
 
     -- ---- The taking of a basic block that the run stops in
 
     pub record IsNearest (first : Line) (rows : List Line) : Type 0 where
-      pub x : Turn
+      pub x : Taking
       pub first_is : x.first ≡ first
       pub keeps : Keeps sys limit within here x
       pub near : Near sys limit within here x
-      pub lines : turn_lines x ≡ first ∷ rows
+      pub lines : taking_lines x ≡ first ∷ rows
       pub out : (x.stop ≡ Some Steps) ⊎ ((x.stop ≡ None) × (left_at limit x.first.key.tick (x.after.steps x.first.key.resource) ≡ 0))
 
     module _ (first : Line) (rows : List Line) (basic : IsBasic sys first) (own : Each (IsRowOf first) rows) where
-      basic_taken : (left : ℕ) (g : Look) (b : BasicType) (k : Option Kind) (x : Turn) → k ≡ Some (Basic b) → TurnsAt left g k x → x.first.taken ≡ true
-      basic_taken left g b k x e h = taken (subst (λ (o : Option Kind). TurnsAt left g o x) e h)
+      basic_taken : (left : ℕ) (g : Look) (b : BasicType) (k : Option Kind) (x : Taking) → k ≡ Some (Basic b) → IsTakingAt left g k x → x.first.taken ≡ true
+      basic_taken left g b k x e h = taken (subst (λ (o : Option Kind). IsTakingAt left g o x) e h)
         where
-          taken : TurnsAt left g (Some (Basic b)) x → x.first.taken ≡ true
+          taken : IsTakingAt left g (Some (Basic b)) x → x.first.taken ≡ true
           taken h = h.taken
 
       -- none of the rows begins a taking
-      not_own : (l : Line) → IsRowOf first l → (limit : ℕ) (g : Look) (x : Turn) → x.first ≡ l → Turns sys limit g x → ⊥
-      not_own l row limit g x e turns =
-          let at = turns_at sys limit g x turns in
+      not_own : (l : Line) → IsRowOf first l → (limit : ℕ) (g : Look) (x : Taking) → x.first ≡ l → IsTaking sys limit g x → ⊥
+      not_own l row limit g x e is_taking =
+          let at = takings_at sys limit g x is_taking in
           let kind : sys.kind x.first.at ≡ Some (Basic basic.0) = ap (λ (m : Line). sys.kind m.at) e ∙ ap sys.kind row.1 ∙ basic.1 in
           let taken : x.first.taken ≡ true = basic_taken at.0 g basic.0 (sys.kind x.first.at) x kind at.1 in
           let clash : true ≡ false = sym taken ∙ ap (λ (m : Line). m.taken) e ∙ row.0 in
           cc
 
       pub steps_nearest :
-          (last ≡ [] → (front : List Turn) (z : Turn) → before ≡ front ++ z ∷ [] → z.first.key.tick ≡ t → z.first.key.resource ≡ r → ⊥) → first.key.tick ≡ t → first.key.resource ≡ r
+          (last ≡ [] → (front : List Taking) (z : Taking) → before ≡ front ++ z ∷ [] → z.first.key.tick ≡ t → z.first.key.resource ≡ r → ⊥) → first.key.tick ≡ t → first.key.resource ≡ r
           → all_lines xs ≡ all_lines ys ++ first ∷ rows → IsNearest first rows
       steps_nearest apart tick resource e = by (parted (first ∷ rows) e)
         where
-          found : (x : Turn) → Last x → before ≡ ys ++ [] → all_lines last ≡ first ∷ rows → IsNearest first rows
+          found : (x : Taking) → Last x → before ≡ ys ++ [] → all_lines last ≡ first ∷ rows → IsNearest first rows
           found x is whole lines =
-              let all : turn_lines x ++ [] ≡ first ∷ rows = ap all_lines (sym is.last_is) ∙ lines in
+              let all : taking_lines x ++ [] ≡ first ∷ rows = ap all_lines (sym is.last_is) ∙ lines in
               record {
                 x = x;
                 first_is = first_line x.first first _ rows all;
                 keeps = subst (λ (g : Look). Keeps sys limit within g x) (at_here whole) is.keeps_so;
                 near = subst (λ (g : Look). Near sys limit within g x) (at_here whole) is.near;
-                lines = sym (append-nil (turn_lines x)) ∙ all;
+                lines = sym (append-nil (taking_lines x)) ∙ all;
                 out = runs_out x is;
               }
 
-          from_last : (ls : List Turn) → last ≡ ls → before ≡ ys ++ [] → all_lines last ≡ first ∷ rows → IsNearest first rows
+          from_last : (ls : List Taking) → last ≡ ls → before ≡ ys ++ [] → all_lines last ≡ first ∷ rows → IsNearest first rows
           from_last [] none whole lines = absurd (nothing first rows (ap all_lines (sym none) ∙ lines))
           from_last (x ∷ ls) is whole lines = found x (is_last x ls is) whole lines
 
           -- the taking with the greatest limit is the last one of the row, which it can't be
-          ended : (z : Turn) → before ≡ ys ++ z ∷ [] → z.first ≡ first → (ls : List Turn) → last ≡ ls → map (emission_line z.first) z.emits ++ all_lines last ≡ rows → ⊥
+          ended : (z : Taking) → before ≡ ys ++ z ∷ [] → z.first ≡ first → (ls : List Taking) → last ≡ ls → map (emission_line z.first) z.emits ++ all_lines last ≡ rows → ⊥
           ended z whole is [] none lines = apart none ys z whole (ap (λ (l : Line). l.key.tick) is ∙ tick) (ap (λ (l : Line). l.key.resource) is ∙ resource)
           ended z whole is (x ∷ ls) e lines =
               let is_x = is_last x ls e in
               let rest : map (emission_line z.first) z.emits ++ x.first ∷ (map (emission_line x.first) x.emits ++ []) ≡ rows =
-              ap (λ (ts : List Turn). map (emission_line z.first) z.emits ++ all_lines ts) (sym is_x.last_is) ∙ lines
+              ap (λ (ts : List Taking). map (emission_line z.first) z.emits ++ all_lines ts) (sym is_x.last_is) ∙ lines
               in
               not_own x.first (each_at (IsRowOf first) (map (emission_line z.first) z.emits) x.first (map (emission_line x.first) x.emits ++ []) (subst (Each (IsRowOf first)) (sym rest) own)) limit
               (limited limit x.first.key.tick x.first.key.resource at) x refl is_x.near
 
-          by_row : (zs : List Turn) → before ≡ ys ++ zs → all_lines zs ++ all_lines last ≡ first ∷ rows → IsNearest first rows
+          by_row : (zs : List Taking) → before ≡ ys ++ zs → all_lines zs ++ all_lines last ≡ first ∷ rows → IsNearest first rows
           by_row [] whole lines = from_last last refl whole lines
           by_row (z ∷ []) whole lines =
               let is : z.first ≡ first = first_line z.first first _ rows lines in
@@ -418,7 +415,7 @@ module _ (sys : System) (limit : ℕ) (within : limit ≤ most) (ys : List Turn)
               in
               let row = each_at (IsRowOf first) f w.first ((map (emission_line w.first) w.emits ++ all_lines zs) ++ all_lines last) (subst (Each (IsRowOf first)) (sym rest) own) in
               let whole_so : before ≡ (ys ++ z ∷ []) ++ w ∷ zs = whole ∙ sym (append_assoc ys (z ∷ []) (w ∷ zs)) in
-              absurd (not_own w.first row most (last_look look (ys ++ z ∷ [])) w refl (turn_after sys look (ys ++ z ∷ []) zs w (subst (λ (ts : List Turn). AreTurns sys most look ts) whole_so ends.limited_so.chain)))
+              absurd (not_own w.first row most (last_look look (ys ++ z ∷ [])) w refl (taking_after sys look (ys ++ z ∷ []) zs w (subst (λ (ts : List Taking). AreTakings sys most look ts) whole_so ends.limited_so.chain)))
 
           by : Past (first ∷ rows) ⊎ Inside (first ∷ rows) → IsNearest first rows
           by (inl past) = by_row past.more past.parts past.lines

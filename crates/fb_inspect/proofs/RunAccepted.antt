@@ -21,10 +21,10 @@ use Rattle.fb_system.specs.Networks.{AreNarrow}
 use Rattle.fb_wave.specs.Lines.{IsEndOf, IsInRange, IsLineOf}
 use Rattle.fb_wave.specs.Waves.{EndsAfter}
 use Rattle.fb_inspect.specs.Inspections.{EndsSo, all_lines}
-use Rattle.fb_inspect.specs.Looks.{Turn, most}
+use Rattle.fb_inspect.specs.Looks.{Taking, most}
 use Rattle.fb_inspect.specs.Refusals.{IsAccepted}
 use Rattle.fb_inspect.specs.RunLines.{HaveRoom, IsGiven, bare_key}
-use Rattle.fb_inspect.proofs.Bare.{bare, bare_text, bare_turn, lines_bare}
+use Rattle.fb_inspect.proofs.Bare.{bare, bare_taking, bare_text, lines_bare}
 use Rattle.fb_inspect.proofs.Followed.{IsExact, run_row}
 use Rattle.fb_inspect.proofs.LineThere.{IsLineThere, line_there}
 use Rattle.fb_inspect.proofs.RunGiven.{IsGivenTaking, run_given}
@@ -52,10 +52,10 @@ lines_there sys (l ∷ ls) h =
 
 -- A text of lines of the system that are those of takings is accepted.
 accepted_by :
-    (sys : System) (steps : ℕ) (form : Form) (text : List ℕ) (ls : List Line) (end : Ending) (turns : List Turn) → Each (IsLineThere sys) ls → Rises 0 ls → IsEndOf sys end
-    → EndsAfter (last_of 0 ls) end → text ≡ trace_text form sys ls end → all_lines turns ≡ ls → (ends : EndsSo sys steps turns end) → IsExactly sys steps turns end ends
-    → (a : IsAccepted sys steps text) × IsExactly sys steps a.turns a.end a.ends
-accepted_by sys steps form text ls end turns each rises can after is lines ends exact =
+    (sys : System) (steps : ℕ) (form : Form) (text : List ℕ) (ls : List Line) (end : Ending) (takings : List Taking) → Each (IsLineThere sys) ls → Rises 0 ls → IsEndOf sys end
+    → EndsAfter (last_of 0 ls) end → text ≡ trace_text form sys ls end → all_lines takings ≡ ls → (ends : EndsSo sys steps takings end) → IsExactly sys steps takings end ends
+    → (a : IsAccepted sys steps text) × IsExactly sys steps a.takings a.end a.ends
+accepted_by sys steps form text ls end takings each rises can after is lines ends exact =
     let there = lines_there sys ls each in (
       record {
         form = form;
@@ -67,7 +67,7 @@ accepted_by sys steps form text ls end turns each rises can after is lines ends 
           ends = subst (λ (t : ℕ). EndsAfter t end) (ap (last_of 0) (sym there.are) ∙ last_is sys 0 there.lines) after;
           is = is ∙ ap (λ (ms : List Line). trace_text form sys ms end) (sym there.are);
         };
-        turns = turns;
+        takings = takings;
         lines_are = there.are ∙ sym lines;
         ends = ends;
       },
@@ -125,10 +125,10 @@ module _ (i : Inputs) (good : AreGood i) (narrow : AreNarrow i.library.blocks) w
     rises : Rises 0 lines
     after : EndsAfter (last_of 0 lines) (ending_of horizon ts)
     text : trace_text form sys (lines_of ts) (ending_of horizon ts) ≡ trace_text form sys lines (ending_of horizon ts)
-    turns : List Turn
-    lines_are : all_lines turns ≡ lines
-    ends : EndsSo sys limit turns (ending_of horizon ts)
-    exact : IsExactly sys limit turns (ending_of horizon ts) ends
+    takings : List Taking
+    lines_are : all_lines takings ≡ lines
+    ends : EndsSo sys limit takings (ending_of horizon ts)
+    exact : IsExactly sys limit takings (ending_of horizon ts) ends
 
   module _ (horizon limit : ℕ) (some : 0 < horizon) (small : horizon ≤ 10 ^ 12) (within : limit ≤ most) (ts : List Taken) (is : IsSimulation sys (stimuli_of i) horizon limit ts) where
     given : Each (IsGivenTaking sys) ts
@@ -147,13 +147,13 @@ module _ (i : Inputs) (good : AreGood i) (narrow : AreNarrow i.library.blocks) w
         chain_ends sys limit horizon ts (opening sys (stimuli_of i)) 0 (λ j v h. omega arith) (keys_rise sys (sound_of i good) limit (stimuli_of i) horizon ts is) given is.chain is.below some
 
     abbrev Row : Type 0
-    Row = (turns : List Turn) × (all_lines turns ≡ lines_of ts) × (ends : EndsSo sys limit turns (ending_of horizon ts)) × IsExact sys limit within (targets_there i good.accepted) turns (ending_of horizon ts) ends
+    Row = (takings : List Taking) × (all_lines takings ≡ lines_of ts) × (ends : EndsSo sys limit takings (ending_of horizon ts)) × IsExact sys limit within (targets_there i good.accepted) takings (ending_of horizon ts) ends
 
-    exact_is : (turns : List Turn) (end : Ending) (e : EndsSo sys limit turns end) → IsExact sys limit within (targets_there i good.accepted) turns end e → IsExactly sys limit turns end e
-    exact_is turns (AtHorizon h) e x = x
-    exact_is turns (AtStop t r Steps) e x = x
-    exact_is turns (AtStop t r Divide) e x = x
-    exact_is turns (AtStop t r Range) e x = x
+    exact_is : (takings : List Taking) (end : Ending) (e : EndsSo sys limit takings end) → IsExact sys limit within (targets_there i good.accepted) takings end e → IsExactly sys limit takings end e
+    exact_is takings (AtHorizon h) e x = x
+    exact_is takings (AtStop t r Steps) e x = x
+    exact_is takings (AtStop t r Divide) e x = x
+    exact_is takings (AtStop t r Range) e x = x
 
     row : Row
     row = run_row sys limit within (targets_there i good.accepted) horizon small (stimuli_of i) (stimuli_there i good.accepted) ts is
@@ -166,7 +166,7 @@ module _ (i : Inputs) (good : AreGood i) (narrow : AreNarrow i.library.blocks) w
           rises = rises_bare 0 (lines_of ts) rises;
           after = subst (λ (t : ℕ). EndsAfter t (ending_of horizon ts)) (sym (last_bare 0 (lines_of ts))) after;
           text = ap (λ (t : List ℕ). t ++ last_line sys (ending_of horizon ts)) (sym (bare_text sys (lines_of ts)));
-          turns = map bare_turn row.0;
+          takings = map bare_taking row.0;
           lines_are = lines_bare row.0 ∙ ap (map bare) row.1;
           ends = ends_shown sys One limit row.0 (ending_of horizon ts) row.2;
           exact = exact_shown sys limit One row.0 (ending_of horizon ts) row.2 (exact_is row.0 (ending_of horizon ts) row.2 row.3);
@@ -179,7 +179,7 @@ module _ (i : Inputs) (good : AreGood i) (narrow : AreNarrow i.library.blocks) w
           rises = rises;
           after = after;
           text = refl;
-          turns = row.0;
+          takings = row.0;
           lines_are = row.1;
           ends = row.2;
           exact = exact_is row.0 (ending_of horizon ts) row.2 row.3;
@@ -188,11 +188,11 @@ module _ (i : Inputs) (good : AreGood i) (narrow : AreNarrow i.library.blocks) w
   -- Each trace of a run is accepted, and its takings are those of the run.
   pub trace_exact :
       (form : Form) (horizon limit : ℕ) (bytes : List ℕ) (end : Ending) → 0 < horizon → horizon ≤ 10 ^ 12 → limit ≤ most → (trace : IsTrace i form horizon limit bytes end)
-      → HaveRoom form (lines_of trace.takings) → (a : IsAccepted sys limit bytes) × IsExactly sys limit a.turns a.end a.ends
+      → HaveRoom form (lines_of trace.takings) → (a : IsAccepted sys limit bytes) × IsExactly sys limit a.takings a.end a.ends
   trace_exact form horizon limit bytes end some small within trace room =
       let ts = trace.takings in
       let run = run_in horizon limit some small within ts trace.simulation form room in
-      accepted_by sys limit form bytes run.lines (ending_of horizon ts) run.turns run.there run.rises (chain_end sys limit horizon ts small trace.simulation.below (homes horizon limit some small within ts trace.simulation))
+      accepted_by sys limit form bytes run.lines (ending_of horizon ts) run.takings run.there run.rises (chain_end sys limit horizon ts small trace.simulation.below (homes horizon limit some small within ts trace.simulation))
       run.after (trace.text ∙ ap (trace_text form sys (lines_of ts)) trace.ending ∙ run.text) run.lines_are run.ends run.exact
 
   pub trace_accepted :

@@ -3,58 +3,14 @@ use Rattle.std.proofs.Common.{◌≡◌, ℕ, zero, suc, List, [], ◌∷◌, �
 use Rattle.fb_types.specs.Names.{Name}
 use Rattle.fb_types.specs.Bodies.{End, Went, Left, Returned, Stopped}
 use Rattle.fb_types.specs.Blocks.{bound, outputs_with, Emission}
-use Rattle.fb_types.specs.Charts.{Position, Moving, Acts, AfterBody, Performs, OrHalts, Enters, Links, ChartReacts, Trial, Clears, NoneClears, Fails, Rests, trial_at, leaving, actions_of, emitting, at_point}
+use Rattle.fb_types.specs.Charts.{Position, Moving, Acts, AfterBody, Performs, Trial, Clears, NoneClears, Fails, Rests, trial_at, leaving, actions_of, emitting, at_point}
 use Rattle.fb_types.specs.Values.{Values}
 use Rattle.fb_types.specs.declared.library.Action.{Action}
 use Rattle.fb_types.specs.declared.library.BasicType.{BasicType}
 use Rattle.fb_types.specs.declared.library.Transition.{Transition}
 use Rattle.fb_types.specs.declared.value.Reason.{Reason}
 use Rattle.fb_ecc.specs.Steps.{first_true}
-use Rattle.fb_inspect.specs.Chains.{Piece, Clears_by, Ran, Emits, Showing, Silent, emission_pieces, ShowsAfter, ShowsPerform, ShowsEmission, ShowsActs, rest_pieces, ShowsOr, ShowsEnters, ShowsLinks, ShowsChain, ShowsReaction}
-
--- ---- What is shown is the reaction of the definitions
-
--- a movement that is shown is one
-abbrev IsOf : Showing → Moving → Type 0
-IsOf shows moves = (p : Position) (stop : Option Reason) (q : Position) (ps : List Piece) → shows p stop q ps → moves p stop q
-
-after-of : (e : End) (S : Showing) (M : Moving) → IsOf S M → IsOf (ShowsAfter e S) (AfterBody e M)
-after-of Went S M of p stop q ps h = of p stop q ps h
-after-of Left S M of p stop q ps h = of p stop q ps h
-after-of Returned S M of p stop q ps h = of p stop q ps h
-after-of (Stopped r) S M of p stop q ps h = (h.0, h.1)
-
-perform-of : (t : BasicType) (a : Option Name) (S : Showing) (M : Moving) → IsOf S M → IsOf (ShowsPerform t a S) (Performs t a M)
-perform-of t None S M of p stop q ps h = of p stop q ps h
-perform-of t (Some a) S M of p stop q ps h = (h.0, h.1, h.3, after-of h.0 S M of (at_point p h.1) stop q h.2 h.5)
-
-acts-of : (t : BasicType) (actions : List Action) (left : ℕ) → IsOf (ShowsActs t actions left) (Acts t actions left)
-acts-of t [] left p stop q ps h = (h.0, h.1)
-acts-of t (a ∷ others) zero p stop q ps h = (h.0, h.1)
-acts-of t (a ∷ others) (suc left) p stop q ps h =
-    perform-of t a.algorithm (λ m stop q ps. ShowsEmission t a.output (λ n stop q ps. ShowsActs t others n.left n stop q ps) m stop q ps)
-    (λ m stop q. let n = emitting t a.output m in Acts t others n.left n stop q)
-    (λ m stop q ps g. acts-of t others (emitting t a.output m).left (emitting t a.output m) stop q g.0 g.2) (record p { left = left }) stop q ps h
-
-or-of : (s : Option Reason) (S : Showing) (M : Moving) → IsOf S M → IsOf (ShowsOr s S) (OrHalts s M)
-or-of None S M of p stop q ps h = of p stop q ps h
-or-of (Some r) S M of p stop q ps h = (h.0, h.1)
-
-enters-of : (t : BasicType) (cleared : Option Transition) (x : Trial) (S : Showing) (M : Moving) → IsOf S M → IsOf (ShowsEnters t cleared x S) (Enters t x M)
-enters-of t cleared (Clears target left) S M of p stop q ps h =
-    (h.1, h.2, acts-of t (actions_of t target) left (record p { state = target; left = left }) h.1 h.2 h.3 h.6, or-of h.1 S M of h.2 stop q h.4 h.7)
-enters-of t cleared (NoneClears left) S M of p stop q ps h = absurd h
-enters-of t cleared (Fails r left) S M of p stop q ps h = absurd h
-
-links-of : (t : BasicType) (n : ℕ) (present : Option Name) → IsOf (ShowsLinks t n present) (Links t n present)
-links-of t zero present p stop q ps h = h.0
-links-of t (suc n) present p stop q ps h =
-    enters-of t (first_true (leaving t p.state) present p.vars) (trial_at t present p) (λ m stop q ps. ShowsLinks t n None m stop q ps) (Links t n None)
-    (λ m stop q ps g. links-of t n None m stop q ps g) p stop q ps h
-
--- the reaction that is shown is the block's
-pub reaction_shown : (t : BasicType) (e : Name) (p : Position) (stop : Option Reason) (q : Position) (ps : List Piece) → ShowsReaction t e p stop q ps → ChartReacts t e p stop q
-reaction_shown t e p stop q ps h = (h.1.0, links-of t h.1.0 (Some e) p stop q h.0 h.1.1)
+use Rattle.fb_inspect.specs.Chains.{Piece, Clears_by, Ran, Emits, Showing, Silent, emission_pieces, ShowsAfter, ShowsPerform, ShowsEmission, ShowsActs, rest_pieces, ShowsOr, ShowsEnters, ShowsLinks, ShowsChain}
 
 -- ---- Actions, one after another
 

@@ -11,23 +11,23 @@ use Rattle.fb_types.specs.declared.run.Form.TheVariants.{One, Two}
 use Rattle.fb_types.specs.declared.run.Line as run
 use Rattle.fb_types.specs.declared.value.Reason.TheVariants.{Steps, Divide, Range}
 use Rattle.fb_wave.specs.Lines.{IsInRange, IsTextOf}
-use Rattle.fb_inspect.specs.Inspections.{AreTurns, EndsSo, NoneStops, all_lines, last_look}
-use Rattle.fb_inspect.specs.Looks.{Look, Turn, Turns, turn_lines}
-use Rattle.fb_inspect.proofs.Bare.{are_bare, bare, bare_turn, ends_bare, lines_bare, look_bare, none_bare, shown, turn_bare, turns_bare}
+use Rattle.fb_inspect.specs.Inspections.{AreTakings, EndsSo, NoneStops, all_lines, last_look}
+use Rattle.fb_inspect.specs.Looks.{IsTaking, Look, Taking, taking_lines}
+use Rattle.fb_inspect.proofs.Bare.{are_bare, bare, bare_taking, ends_bare, lines_bare, look_bare, none_bare, shown, taking_bare, takings_bare}
 
 abbrev pub shown_lines : Form → List Line → List Line
 shown_lines One ls = map bare ls
 shown_lines Two ls = ls
 
-abbrev pub shown_turn : Form → Turn → Turn
-shown_turn One x = bare_turn x
-shown_turn Two x = x
+abbrev pub shown_taking : Form → Taking → Taking
+shown_taking One x = bare_taking x
+shown_taking Two x = x
 
-abbrev pub shown_turns : Form → List Turn → List Turn
-shown_turns One xs = map bare_turn xs
-shown_turns Two xs = xs
+abbrev pub shown_takings : Form → List Taking → List Taking
+shown_takings One xs = map bare_taking xs
+shown_takings Two xs = xs
 
-pub all_shown : (form : Form) (xs : List Turn) → all_lines (shown_turns form xs) ≡ shown_lines form (all_lines xs)
+pub all_shown : (form : Form) (xs : List Taking) → all_lines (shown_takings form xs) ≡ shown_lines form (all_lines xs)
 all_shown One xs = lines_bare xs
 all_shown Two xs = refl
 
@@ -39,23 +39,23 @@ pub one_shown : (form : Form) (l : Line) (ls : List Line) → shown_lines form (
 one_shown One l ls = refl
 one_shown Two l ls = refl
 
-pub joined_shown : (form : Form) (xs : List Turn) (z : Turn) (zs : List Turn) → shown_turns form (xs ++ z ∷ zs) ≡ shown_turns form xs ++ shown_turn form z ∷ shown_turns form zs
-joined_shown One xs z zs = map-append bare_turn xs (z ∷ zs)
+pub joined_shown : (form : Form) (xs : List Taking) (z : Taking) (zs : List Taking) → shown_takings form (xs ++ z ∷ zs) ≡ shown_takings form xs ++ shown_taking form z ∷ shown_takings form zs
+joined_shown One xs z zs = map-append bare_taking xs (z ∷ zs)
 joined_shown Two xs z zs = refl
 
-pub lines_shown : (form : Form) (x : Turn) → turn_lines (shown_turn form x) ≡ shown_lines form (turn_lines x)
-lines_shown One x = turn_bare x
+pub lines_shown : (form : Form) (x : Taking) → taking_lines (shown_taking form x) ≡ shown_lines form (taking_lines x)
+lines_shown One x = taking_bare x
 lines_shown Two x = refl
 
-pub first_shown : (form : Form) (x : Turn) → (shown_turn form x).first ≡ shown form x.first
+pub first_shown : (form : Form) (x : Taking) → (shown_taking form x).first ≡ shown form x.first
 first_shown One x = refl
 first_shown Two x = refl
 
-pub after_shown : (form : Form) (x : Turn) → (shown_turn form x).after ≡ x.after
+pub after_shown : (form : Form) (x : Taking) → (shown_taking form x).after ≡ x.after
 after_shown One x = refl
 after_shown Two x = refl
 
-pub stop_shown : (form : Form) (x : Turn) → (shown_turn form x).stop ≡ x.stop
+pub stop_shown : (form : Form) (x : Taking) → (shown_taking form x).stop ≡ x.stop
 stop_shown One x = refl
 stop_shown Two x = refl
 
@@ -75,19 +75,19 @@ pub taken_shown : (form : Form) (l : Line) → (shown form l).taken ≡ l.taken
 taken_shown One l = refl
 taken_shown Two l = refl
 
-pub chain_shown : (sys : System) (form : Form) (limit : ℕ) (look : Look) (xs : List Turn) → AreTurns sys limit look xs → AreTurns sys limit look (shown_turns form xs)
+pub chain_shown : (sys : System) (form : Form) (limit : ℕ) (look : Look) (xs : List Taking) → AreTakings sys limit look xs → AreTakings sys limit look (shown_takings form xs)
 chain_shown sys One limit look xs h = are_bare sys limit look xs h
 chain_shown sys Two limit look xs h = h
 
-pub turns_shown : (sys : System) (form : Form) (limit : ℕ) (look : Look) (x : Turn) → Turns sys limit look x → Turns sys limit look (shown_turn form x)
-turns_shown sys One limit look x h = turns_bare sys limit look x h
-turns_shown sys Two limit look x h = h
+pub takings_shown : (sys : System) (form : Form) (limit : ℕ) (look : Look) (x : Taking) → IsTaking sys limit look x → IsTaking sys limit look (shown_taking form x)
+takings_shown sys One limit look x h = takings_bare sys limit look x h
+takings_shown sys Two limit look x h = h
 
-pub none_shown : (form : Form) (xs : List Turn) → NoneStops xs → NoneStops (shown_turns form xs)
+pub none_shown : (form : Form) (xs : List Taking) → NoneStops xs → NoneStops (shown_takings form xs)
 none_shown One xs h = none_bare xs h
 none_shown Two xs h = h
 
-pub look_shown : (form : Form) (look : Look) (xs : List Turn) → last_look look (shown_turns form xs) ≡ last_look look xs
+pub look_shown : (form : Form) (look : Look) (xs : List Taking) → last_look look (shown_takings form xs) ≡ last_look look xs
 look_shown One look xs = look_bare look xs
 look_shown Two look xs = refl
 
@@ -136,41 +136,41 @@ pub two_heads : {X : Type 0} (x y : X) (xs ys : List X) → x ∷ xs ≡ y ∷ y
 two_heads x y xs ys e = (cc, cc)
 
 -- the last taking of a row that a form shows
-pub unshown : (form : Form) (ys front : List Turn) (z : Turn) → shown_turns form ys ≡ front ++ z ∷ [] → (g : List Turn) × (w : Turn) × (ys ≡ g ++ w ∷ []) × (shown_turn form w ≡ z)
+pub unshown : (form : Form) (ys front : List Taking) (z : Taking) → shown_takings form ys ≡ front ++ z ∷ [] → (g : List Taking) × (w : Taking) × (ys ≡ g ++ w ∷ []) × (shown_taking form w ≡ z)
 unshown Two ys front z e = (front, z, e, refl)
 unshown One [] [] z e = absurd (let clash : [] ≡ z ∷ [] = e in cc)
 unshown One [] (y ∷ front) z e = absurd (let clash : [] ≡ y ∷ (front ++ z ∷ []) = e in cc)
-unshown One (y ∷ []) [] z e = ([], y, refl, (two_heads (bare_turn y) z [] [] e).0)
-unshown One (y ∷ x ∷ ys) [] z e = absurd (let clash : bare_turn x ∷ map bare_turn ys ≡ [] = (two_heads (bare_turn y) z (bare_turn x ∷ map bare_turn ys) [] e).1 in cc)
+unshown One (y ∷ []) [] z e = ([], y, refl, (two_heads (bare_taking y) z [] [] e).0)
+unshown One (y ∷ x ∷ ys) [] z e = absurd (let clash : bare_taking x ∷ map bare_taking ys ≡ [] = (two_heads (bare_taking y) z (bare_taking x ∷ map bare_taking ys) [] e).1 in cc)
 unshown One (y ∷ ys) (x ∷ front) z e =
-    let h = two_heads (bare_turn y) x (map bare_turn ys) (front ++ z ∷ []) e in
+    let h = two_heads (bare_taking y) x (map bare_taking ys) (front ++ z ∷ []) e in
     let rest = unshown One ys front z h.1 in
-    (y ∷ rest.0, rest.1, ap (λ (ts : List Turn). y ∷ ts) rest.2, rest.3)
+    (y ∷ rest.0, rest.1, ap (λ (ts : List Taking). y ∷ ts) rest.2, rest.3)
 
 -- Where no taking ends a row for its steps, its last taking is not of that resource in that tick.
-abbrev pub IsExactly : (sys : System) (limit : ℕ) (turns : List Turn) (end : Ending) → EndsSo sys limit turns end → Type 0
-IsExactly sys limit turns (AtHorizon h) e = Unit {0}
-IsExactly sys limit turns (AtStop t r Steps) e =
-    e.limited_so.last ≡ [] → (front : List Turn) (z : Turn) → e.limited_so.before ≡ front ++ z ∷ [] → z.first.key.tick ≡ t → z.first.key.resource ≡ r → ⊥
-IsExactly sys limit turns (AtStop t r Divide) e = Unit {0}
-IsExactly sys limit turns (AtStop t r Range) e = Unit {0}
+abbrev pub IsExactly : (sys : System) (limit : ℕ) (takings : List Taking) (end : Ending) → EndsSo sys limit takings end → Type 0
+IsExactly sys limit takings (AtHorizon h) e = Unit {0}
+IsExactly sys limit takings (AtStop t r Steps) e =
+    e.limited_so.last ≡ [] → (front : List Taking) (z : Taking) → e.limited_so.before ≡ front ++ z ∷ [] → z.first.key.tick ≡ t → z.first.key.resource ≡ r → ⊥
+IsExactly sys limit takings (AtStop t r Divide) e = Unit {0}
+IsExactly sys limit takings (AtStop t r Range) e = Unit {0}
 
-abbrev pub ends_shown : (sys : System) (form : Form) (limit : ℕ) (turns : List Turn) (end : Ending) → EndsSo sys limit turns end → EndsSo sys limit (shown_turns form turns) end
-ends_shown sys One limit turns end e = ends_bare sys limit turns end e
-ends_shown sys Two limit turns end e = e
+abbrev pub ends_shown : (sys : System) (form : Form) (limit : ℕ) (takings : List Taking) (end : Ending) → EndsSo sys limit takings end → EndsSo sys limit (shown_takings form takings) end
+ends_shown sys One limit takings end e = ends_bare sys limit takings end e
+ends_shown sys Two limit takings end e = e
 
-pub no_turns : (form : Form) (xs : List Turn) → shown_turns form xs ≡ [] → xs ≡ []
-no_turns Two xs e = e
-no_turns One [] e = refl
-no_turns One (x ∷ xs) e = absurd (let clash : bare_turn x ∷ map bare_turn xs ≡ [] = e in cc)
+pub no_takings : (form : Form) (xs : List Taking) → shown_takings form xs ≡ [] → xs ≡ []
+no_takings Two xs e = e
+no_takings One [] e = refl
+no_takings One (x ∷ xs) e = absurd (let clash : bare_taking x ∷ map bare_taking xs ≡ [] = e in cc)
 
-pub exact_shown : (sys : System) (limit : ℕ) (form : Form) (turns : List Turn) (end : Ending) (e : EndsSo sys limit turns end) → IsExactly sys limit turns end e
-    → IsExactly sys limit (shown_turns form turns) end (ends_shown sys form limit turns end e)
-exact_shown sys limit Two turns end e h = h
-exact_shown sys limit One turns (AtHorizon n) e h = tt
-exact_shown sys limit One turns (AtStop t r Steps) e h =
+pub exact_shown : (sys : System) (limit : ℕ) (form : Form) (takings : List Taking) (end : Ending) (e : EndsSo sys limit takings end) → IsExactly sys limit takings end e
+    → IsExactly sys limit (shown_takings form takings) end (ends_shown sys form limit takings end e)
+exact_shown sys limit Two takings end e h = h
+exact_shown sys limit One takings (AtHorizon n) e h = tt
+exact_shown sys limit One takings (AtStop t r Steps) e h =
     λ none front z parts tick resource.
     let w = unshown One e.limited_so.before front z parts in
-    h (no_turns One e.limited_so.last none) w.0 w.1 w.2 (ap (λ (v : Turn). v.first.key.tick) w.3 ∙ tick) (ap (λ (v : Turn). v.first.key.resource) w.3 ∙ resource)
-exact_shown sys limit One turns (AtStop t r Divide) e h = tt
-exact_shown sys limit One turns (AtStop t r Range) e h = tt
+    h (no_takings One e.limited_so.last none) w.0 w.1 w.2 (ap (λ (v : Taking). v.first.key.tick) w.3 ∙ tick) (ap (λ (v : Taking). v.first.key.resource) w.3 ∙ resource)
+exact_shown sys limit One takings (AtStop t r Divide) e h = tt
+exact_shown sys limit One takings (AtStop t r Range) e h = tt

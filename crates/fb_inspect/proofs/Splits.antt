@@ -11,16 +11,16 @@ use Rattle.fb_types.specs.Systems.{System}
 use Rattle.fb_types.specs.declared.key.Key.{Key}
 use Rattle.fb_types.specs.declared.library.BasicType.{BasicType}
 use Rattle.fb_types.specs.declared.value.Reason.TheVariants.{Steps}
-use Rattle.fb_inspect.specs.Inspections.{AreTurns, IsOneOf, KeepSteps, KeepsLimit, all_lines, last_look, limited}
-use Rattle.fb_inspect.specs.Looks.{Left, Look, Turn, Turns, TurnsAt, TurnsWith, emission_line, left_at, most, reacted, turn_lines, with_left, with_seen}
+use Rattle.fb_inspect.specs.Inspections.{AreTakings, IsOneOf, KeepSteps, KeepsLimit, all_lines, last_look, limited}
+use Rattle.fb_inspect.specs.Looks.{IsTaking, IsTakingAt, IsTakingWith, Left, Look, Taking, emission_line, left_at, most, reacted, taking_lines, with_left, with_seen}
 use Rattle.fb_inspect.proofs.FewerSteps.{Begins}
-use Rattle.fb_inspect.proofs.GoesOn.{compare, limited_at, limited_begins, tails, turn_after}
+use Rattle.fb_inspect.proofs.GoesOn.{compare, limited_at, limited_begins, tails, taking_after}
 use Rattle.fb_inspect.proofs.OneTaking.{at_line, first_line, nothing, rests}
 use Rattle.fb_inspect.proofs.SomeTaking.{taking_there}
 
 -- ---- Lists
 
-pub no_lines : (xs : List Turn) → all_lines xs ≡ [] → xs ≡ []
+pub no_lines : (xs : List Taking) → all_lines xs ≡ [] → xs ≡ []
 no_lines [] e = refl
 no_lines (x ∷ xs) e = absurd (nothing x.first _ (sym e))
 
@@ -87,7 +87,7 @@ basic_or_not sys l = by (sys.kind l.at) refl
     by (Some (Composite c)) e = inr (λ h. let clash : Some (Composite c) ≡ Some (Basic h.0) = sym e ∙ h.1 in cc)
 
 -- what holds of the steps after each taking
-pub steps_after : (left : ℕ) (look : Look) (k : Option Kind) (x : Turn) → TurnsAt left look k x → (n : ℕ) × (x.after.steps ≡ (with_left x.first.key n look).steps)
+pub steps_after : (left : ℕ) (look : Look) (k : Option Kind) (x : Taking) → IsTakingAt left look k x → (n : ℕ) × (x.after.steps ≡ (with_left x.first.key n look).steps)
 steps_after left look None x h = absurd h
 steps_after left look (Some (Basic t)) x h = (h.end.left, ap (λ (l : Look). l.steps) h.is)
 steps_after left look (Some (Event k)) x (inl h) = (left, ap (λ (l : Look). l.steps) h.is.2)
@@ -96,7 +96,7 @@ steps_after left look (Some (Composite c)) x h = (left, ap (λ (l : Look). l.ste
 
 -- .. and after one that is not of a basic block, which goes on
 pub plain_after :
-    (left : ℕ) (look : Look) (k : Option Kind) (x : Turn) → ((t : BasicType) → k ≡ Some (Basic t) → ⊥) → TurnsAt left look k x
+    (left : ℕ) (look : Look) (k : Option Kind) (x : Taking) → ((t : BasicType) → k ≡ Some (Basic t) → ⊥) → IsTakingAt left look k x
     → (x.stop ≡ None) × (x.after.steps ≡ (with_left x.first.key left look).steps)
 plain_after left look None x other h = absurd h
 plain_after left look (Some (Basic t)) x other h = absurd (other t refl)
@@ -106,7 +106,7 @@ plain_after left look (Some (Composite c)) x other h = (h.goes_on, ap (λ (l : L
 
 -- a taking with the same first line from the same memory, with any other steps
 pub other_there :
-    (steps t r left more : ℕ) (look : Look) (k : Option Kind) (x : Turn) → TurnsAt left (limited steps t r look) k x → (y : Turn) × (y.first ≡ x.first) × TurnsAt more look k y
+    (steps t r left more : ℕ) (look : Look) (k : Option Kind) (x : Taking) → IsTakingAt left (limited steps t r look) k x → (y : Taking) × (y.first ≡ x.first) × IsTakingAt more look k y
 other_there steps t r left more look None x h = absurd h
 other_there steps t r left more look (Some (Basic b)) x h = taking_there more look (Basic b) x.first h.taken
 other_there steps t r left more look (Some (Event k)) x (inl h) = taking_there more look (Event k) x.first h.taken
@@ -120,12 +120,12 @@ other_there steps t r left more look (Some (Event k)) x (inr h) =
 other_there steps t r left more look (Some (Composite c)) x h =
     (record { first = x.first; emits = []; pieces = []; stop = None; after = with_left x.first.key more look }, refl, record { none = refl; silent = refl; goes_on = refl; is = refl })
 
-module _ (left more t r limit : ℕ) (look : Look) (y x : Turn) where
+module _ (left more t r limit : ℕ) (look : Look) (y x : Taking) where
   mixed : y.first.taken ≡ true → y.first.taken ≡ false → ⊥
   mixed a b = cc
 
   -- the block emits the same, if it is no basic one
-  same_emits : (k : Option Kind) → ((b : BasicType) → k ≡ Some (Basic b) → ⊥) → TurnsAt left (limited limit t r look) k y → TurnsAt more look k (at_line x y.first) → x.emits ≡ y.emits
+  same_emits : (k : Option Kind) → ((b : BasicType) → k ≡ Some (Basic b) → ⊥) → IsTakingAt left (limited limit t r look) k y → IsTakingAt more look k (at_line x y.first) → x.emits ≡ y.emits
   same_emits None other h i = absurd h
   same_emits (Some (Basic b)) other h i = absurd (other b refl)
   same_emits (Some (Event kind)) other (inl h) (inl i) = i.is.0 ∙ sym h.is.0
@@ -136,52 +136,52 @@ module _ (left more t r limit : ℕ) (look : Look) (y x : Turn) where
 
 module _ (sys : System) (limit : ℕ) (within : limit ≤ most) where
   -- the taking has what is left of the limit in its tick
-  abbrev pub Near : Look → Turn → Type 0
-  Near look x = Turns sys limit (limited limit x.first.key.tick x.first.key.resource look) x
+  abbrev pub Near : Look → Taking → Type 0
+  Near look x = IsTaking sys limit (limited limit x.first.key.tick x.first.key.resource look) x
 
-  abbrev pub Keeps : Look → Turn → Type 0
+  abbrev pub Keeps : Look → Taking → Type 0
   Keeps look x = KeepsLimit limit x.first.key.tick x.first.key.resource look
 
   -- the steps that are left of the limit, and of the greatest one
   near_left :
-      (look : Look) (x : Turn) → Keeps look x
+      (look : Look) (x : Taking) → Keeps look x
       → left_at most x.first.key.tick (look.steps x.first.key.resource) ≡ left_at limit x.first.key.tick ((limited limit x.first.key.tick x.first.key.resource look).steps x.first.key.resource) + (most - limit)
   near_left look x keeps = let own = limited_at sys limit within look x.first.key.tick x.first.key.resource in omega (arith, own, keeps, within)
 
   -- it is there with the greatest limit, too
-  pub free_there : (look : Look) (x : Turn) → Keeps look x → Near look x → (y : Turn) × (y.first ≡ x.first) × Turns sys most look y
+  pub free_there : (look : Look) (x : Taking) → Keeps look x → Near look x → (y : Taking) × (y.first ≡ x.first) × IsTaking sys most look y
   free_there look x keeps h = by (left_at limit x.first.key.tick ((limited limit x.first.key.tick x.first.key.resource look).steps x.first.key.resource)) (near_left look x keeps) h
     where
-      by : (n : ℕ) → left_at most x.first.key.tick (look.steps x.first.key.resource) ≡ n + (most - limit) → TurnsWith sys (limited limit x.first.key.tick x.first.key.resource look) n x
-          → (y : Turn) × (y.first ≡ x.first) × Turns sys most look y
+      by : (n : ℕ) → left_at most x.first.key.tick (look.steps x.first.key.resource) ≡ n + (most - limit) → IsTakingWith sys (limited limit x.first.key.tick x.first.key.resource look) n x
+          → (y : Taking) × (y.first ≡ x.first) × IsTaking sys most look y
       by zero same h = absurd h
       by (suc n) same h =
           let long : left_at most x.first.key.tick (look.steps x.first.key.resource) ≡ suc (n + (most - limit)) = omega (arith, same) in
           let found = other_there limit x.first.key.tick x.first.key.resource n (n + (most - limit)) look (sys.kind x.first.at) x h.1 in
-          let turns : TurnsWith sys look (suc (n + (most - limit))) found.0 =
-          subst (λ (l : Line). (l.key.tick ≤ 10 ^ 12) × TurnsAt (n + (most - limit)) look (sys.kind l.at) found.0) (sym found.1) (h.0, found.2) in
-          (found.0, found.1, subst (λ (l : Line). TurnsWith sys look (left_at most l.key.tick (look.steps l.key.resource)) found.0) (sym found.1) (subst (λ (m : ℕ). TurnsWith sys look m found.0) (sym long) turns))
+          let is_taking : IsTakingWith sys look (suc (n + (most - limit))) found.0 =
+          subst (λ (l : Line). (l.key.tick ≤ 10 ^ 12) × IsTakingAt (n + (most - limit)) look (sys.kind l.at) found.0) (sym found.1) (h.0, found.2) in
+          (found.0, found.1, subst (λ (l : Line). IsTakingWith sys look (left_at most l.key.tick (look.steps l.key.resource)) found.0) (sym found.1) (subst (λ (m : ℕ). IsTakingWith sys look m found.0) (sym long) is_taking))
 
-  module _ (look : Look) (x z : Turn) (keeps : Keeps look x) (near : Near look x) (free : Turns sys most look z) (first : z.first ≡ x.first) where
+  module _ (look : Look) (x z : Taking) (keeps : Keeps look x) (near : Near look x) (free : IsTaking sys most look z) (first : z.first ≡ x.first) where
     abbrev k : Key
     k = x.first.key
 
-    its : Turns sys most look (at_line z x.first)
-    its = subst (λ (l : Line). Turns sys most look (at_line z l)) first free
+    its : IsTaking sys most look (at_line z x.first)
+    its = subst (λ (l : Line). IsTaking sys most look (at_line z l)) first free
 
     -- what holds of both, if the block is no basic one
     pub record AreBoth : Type 0 where
       pub left : ℕ
       pub near_is : left_at limit k.tick ((limited limit k.tick k.resource look).steps k.resource) ≡ suc left
       pub free_is : left_at most k.tick (look.steps k.resource) ≡ suc (left + (most - limit))
-      pub near_at : TurnsAt left (limited limit k.tick k.resource look) (sys.kind x.first.at) x
-      pub free_at : TurnsAt (left + (most - limit)) look (sys.kind x.first.at) (at_line z x.first)
+      pub near_at : IsTakingAt left (limited limit k.tick k.resource look) (sys.kind x.first.at) x
+      pub free_at : IsTakingAt (left + (most - limit)) look (sys.kind x.first.at) (at_line z x.first)
 
     pub both : AreBoth
     both = by (left_at limit k.tick ((limited limit k.tick k.resource look).steps k.resource)) (left_at most k.tick (look.steps k.resource)) refl refl (near_left look x keeps) near its
       where
         by : (n m : ℕ) → left_at limit k.tick ((limited limit k.tick k.resource look).steps k.resource) ≡ n → left_at most k.tick (look.steps k.resource) ≡ m → m ≡ n + (most - limit)
-            → TurnsWith sys (limited limit k.tick k.resource look) n x → TurnsWith sys look m (at_line z x.first) → AreBoth
+            → IsTakingWith sys (limited limit k.tick k.resource look) n x → IsTakingWith sys look m (at_line z x.first) → AreBoth
         by zero m a b same h i = absurd h
         by (suc n) zero a b same h i = absurd i
         by (suc n) (suc m) a b same h i =
@@ -191,7 +191,7 @@ module _ (sys : System) (limit : ℕ) (within : limit ≤ most) where
               near_is = a;
               free_is = b ∙ ap (λ (j : ℕ). suc j) less;
               near_at = h.1;
-              free_at = subst (λ (j : ℕ). TurnsAt j look (sys.kind x.first.at) (at_line z x.first)) less i.1;
+              free_at = subst (λ (j : ℕ). IsTakingAt j look (sys.kind x.first.at) (at_line z x.first)) less i.1;
             }
 
     pub begins : Begins x.emits z.emits
@@ -223,72 +223,72 @@ module _ (sys : System) (limit : ℕ) (within : limit ≤ most) where
 
 -- ---- Steps along a row
 
-pub turns_at : (sys : System) (limit : ℕ) (look : Look) (x : Turn) → Turns sys limit look x → (left : ℕ) × TurnsAt left look (sys.kind x.first.at) x
-turns_at sys limit look x h = by (left_at limit x.first.key.tick (look.steps x.first.key.resource)) h
+pub takings_at : (sys : System) (limit : ℕ) (look : Look) (x : Taking) → IsTaking sys limit look x → (left : ℕ) × IsTakingAt left look (sys.kind x.first.at) x
+takings_at sys limit look x h = by (left_at limit x.first.key.tick (look.steps x.first.key.resource)) h
   where
-    by : (n : ℕ) → TurnsWith sys look n x → (left : ℕ) × TurnsAt left look (sys.kind x.first.at) x
+    by : (n : ℕ) → IsTakingWith sys look n x → (left : ℕ) × IsTakingAt left look (sys.kind x.first.at) x
     by zero h = absurd h
     by (suc n) h = (n, h.1)
 
 -- Where the steps were kept after takings, they were before.
-pub keep_row : (sys : System) (limit : ℕ) (look : Look) (zs : List Turn) → AreTurns sys most look zs → KeepSteps sys limit (last_look look zs) → KeepSteps sys limit look
+pub keep_row : (sys : System) (limit : ℕ) (look : Look) (zs : List Taking) → AreTakings sys most look zs → KeepSteps sys limit (last_look look zs) → KeepSteps sys limit look
 keep_row sys limit look [] are h = h
 keep_row sys limit look (z ∷ zs) are h =
-    let at = turns_at sys most look z are.0 in
+    let at = takings_at sys most look z are.0 in
     let after = steps_after at.0 look (sys.kind z.first.at) z at.1 in
     keep_back sys limit after.0 look z.after z.first.key after.1 (keep_row sys limit z.after zs are.2 h)
 
 -- ---- The split
 
 -- The lines of takings, the last of which may have what is left of a limit, are those of others, and more.
-module _ (sys : System) (limit : ℕ) (within : limit ≤ most) (look : Look) (ys : List Turn) (are : AreTurns sys most look ys) (before last : List Turn) (chain : AreTurns sys most look before) (t r : ℕ)
-    (one : IsOneOf t r last) (keeps : KeepsLimit limit t r (last_look look before)) (judged : AreTurns sys limit (limited limit t r (last_look look before)) last) where
+module _ (sys : System) (limit : ℕ) (within : limit ≤ most) (look : Look) (ys : List Taking) (are : AreTakings sys most look ys) (before last : List Taking) (chain : AreTakings sys most look before) (t r : ℕ)
+    (one : IsOneOf t r last) (keeps : KeepsLimit limit t r (last_look look before)) (judged : AreTakings sys limit (limited limit t r (last_look look before)) last) where
   -- the last taking, where there is one
-  pub record IsLast (x : Turn) : Type 0 where
+  pub record IsLast (x : Taking) : Type 0 where
     pub last_is : last ≡ x ∷ []
     pub tick : x.first.key.tick ≡ t
     pub resource : x.first.key.resource ≡ r
     pub keeps_so : Keeps sys limit within (last_look look before) x
     pub near : Near sys limit within (last_look look before) x
 
-  pub last_there : (x : Turn) (xs : List Turn) → last ≡ x ∷ xs → IsLast x
+  pub last_there : (x : Taking) (xs : List Taking) → last ≡ x ∷ xs → IsLast x
   last_there x [] e =
       let own = subst (IsOneOf t r) e one in
-      let its = subst (AreTurns sys limit (limited limit t r (last_look look before))) e judged in
+      let its = subst (AreTakings sys limit (limited limit t r (last_look look before))) e judged in
       record {
         last_is = e;
         tick = own.0;
         resource = own.1;
         keeps_so = subst (λ (n : ℕ). KeepsLimit limit x.first.key.tick n (last_look look before)) (sym own.1) (subst (λ (n : ℕ). KeepsLimit limit n r (last_look look before)) (sym own.0) keeps);
-        near = subst (λ (n : ℕ). Turns sys limit (limited limit x.first.key.tick n (last_look look before)) x) (sym own.1)
-            (subst (λ (n : ℕ). Turns sys limit (limited limit n r (last_look look before)) x) (sym own.0) its.0);
+        near = subst (λ (n : ℕ). IsTaking sys limit (limited limit x.first.key.tick n (last_look look before)) x) (sym own.1)
+            (subst (λ (n : ℕ). IsTaking sys limit (limited limit n r (last_look look before)) x) (sym own.0) its.0);
       }
   last_there x (y ∷ xs) e = absurd (subst (IsOneOf t r) e one)
 
   -- the takings go on after the others
   pub record GoesPast (rest : List Line) : Type 0 where
-    pub more : List Turn
+    pub more : List Taking
     pub parts : before ≡ ys ++ more
     pub lines : all_lines more ++ all_lines last ≡ rest
 
   -- the last one is that of the others, with the same lines
   pub record EndsIn (rest : List Line) : Type 0 where
-    pub x : Turn
+    pub x : Taking
     pub is_last : IsLast x
-    pub z : Turn
+    pub z : Taking
     pub parts : ys ≡ before ++ z ∷ []
     pub first : z.first ≡ x.first
-    pub free : Turns sys most (last_look look before) z
+    pub free : IsTaking sys most (last_look look before) z
     pub none : rest ≡ []
 
   ends_in :
-      (rest : List Line) (w : Turn) (ws : List Turn) → ys ≡ before ++ w ∷ ws → (xs : List Turn) → last ≡ xs → all_lines last ≡ all_lines (w ∷ ws) ++ rest → EndsIn rest
+      (rest : List Line) (w : Taking) (ws : List Taking) → ys ≡ before ++ w ∷ ws → (xs : List Taking) → last ≡ xs → all_lines last ≡ all_lines (w ∷ ws) ++ rest → EndsIn rest
   ends_in rest w ws parts [] e lines = absurd (nothing w.first _ (ap all_lines (sym e) ∙ lines))
   ends_in rest w ws parts (x ∷ xs) e lines =
       let is = last_there x xs e in
-      let all : turn_lines x ++ [] ≡ all_lines (w ∷ ws) ++ rest = ap all_lines (sym is.last_is) ∙ lines in
+      let all : taking_lines x ++ [] ≡ all_lines (w ∷ ws) ++ rest = ap all_lines (sym is.last_is) ∙ lines in
       let first : w.first ≡ x.first = sym (first_line x.first w.first _ _ all) in
-      let free = turn_after sys look before ws w (subst (λ (ts : List Turn). AreTurns sys most look ts) parts are) in
+      let free = taking_after sys look before ws w (subst (λ (ts : List Taking). AreTakings sys most look ts) parts are) in
       let begins_so = begins sys limit within (last_look look before) x w is.keeps_so is.near free first in
       let long = ap length begins_so.1 ∙ length-append x.emits begins_so.0 in
       let mine = length-map x.emits (emission_line x.first) in
@@ -303,7 +303,7 @@ module _ (sys : System) (limit : ℕ) (within : limit ≤ most) (look : Look) (y
         x = x;
         is_last = is;
         z = w;
-        parts = parts ∙ ap (λ (ts : List Turn). before ++ w ∷ ts) (no_lines ws (no_length (all_lines ws) none_after));
+        parts = parts ∙ ap (λ (ts : List Taking). before ++ w ∷ ts) (no_lines ws (no_length (all_lines ws) none_after));
         first = first;
         free = free;
         none = no_length rest none_rest;
@@ -312,7 +312,7 @@ module _ (sys : System) (limit : ℕ) (within : limit ≤ most) (look : Look) (y
   pub split : (rest : List Line) → all_lines before ++ all_lines last ≡ all_lines ys ++ rest → GoesPast rest ⊎ EndsIn rest
   split rest e = by (compare sys look ys before (all_lines last) rest are chain e)
     where
-      by : ((zs : List Turn) × (before ≡ ys ++ zs) × (all_lines zs ++ all_lines last ≡ rest)) ⊎ ((w : Turn) × (ws : List Turn) × (ys ≡ before ++ w ∷ ws) × (all_lines last ≡ all_lines (w ∷ ws) ++ rest))
+      by : ((zs : List Taking) × (before ≡ ys ++ zs) × (all_lines zs ++ all_lines last ≡ rest)) ⊎ ((w : Taking) × (ws : List Taking) × (ys ≡ before ++ w ∷ ws) × (all_lines last ≡ all_lines (w ∷ ws) ++ rest))
           → GoesPast rest ⊎ EndsIn rest
       by (inl h) = inl (record { more = h.0; parts = h.1; lines = h.2 })
       by (inr h) = inr (ends_in rest h.0 h.1 h.2 last refl h.3)

@@ -30,12 +30,12 @@ use Rattle.fb_wave.specs.Lines.{IsLineOf, IsTextOf}
 use Rattle.fb_coverage.specs.declared.marks.Marks.{Marks}
 use Rattle.fb_net.proofs.Others.{get_set_other, get_set_same}
 use Rattle.fb_inspect.specs.Counted.{left_of}
-use Rattle.fb_inspect.specs.Inspections.{AreLimited, AreTaken, AreTurns, EndsBySteps, EndsByStop, EndsSo, KeepSteps, KeepsLimit, NoneStops, RunsOut, all_text, is_kept, last_look, limited, stop_of}
+use Rattle.fb_inspect.specs.Inspections.{AreLimited, AreTaken, AreTakings, EndsBySteps, EndsByStop, EndsSo, KeepSteps, KeepsLimit, NoneStops, RunsOut, all_text, is_kept, last_look, limited, stop_of}
 use Rattle.fb_inspect.specs.Lines.{IsNext, IsNextLine}
-use Rattle.fb_inspect.specs.Markings.{TurnMarks}
-use Rattle.fb_inspect.specs.Looks.{Left, Look, Turn, Turns, left_at, most, opening_look, turn_text}
+use Rattle.fb_inspect.specs.Markings.{TakingMarks}
+use Rattle.fb_inspect.specs.Looks.{IsTaking, Left, Look, Taking, left_at, most, opening_look, taking_text}
 use Rattle.fb_inspect.specs.Moves.{Goes, IsLineAt, shown_text}
-use Rattle.fb_inspect.specs.Walking.{AreCutOff, AreMarked, HasCovered, HasLimited, IsComplete, IsCutAfter, IsGone, IsLookOf, IsReadOn, IsSevered, MayEnd, TurnGoes, flag_at}
+use Rattle.fb_inspect.specs.Walking.{AreCutOff, AreMarked, HasCovered, HasLimited, IsComplete, IsCutAfter, IsGone, IsLookOf, IsReadOn, IsSevered, MayEnd, WalkTakes, flag_at}
 use Rattle.fb_inspect.specs.declared.blocks.Remembered.{Remembered}
 use Rattle.fb_inspect.specs.declared.reading.Next.{Next}
 use Rattle.fb_inspect.specs.declared.reading.Next.TheVariants as next
@@ -89,7 +89,7 @@ look_limited sys steps key look blocks old new is has = record {
 
 -- ---- How a trace ends
 
-module _ (sys : System) (steps : ℕ) (xs : List Turn) (chain : AreTurns sys most (opening_look sys) xs) (goes_on : NoneStops xs) where
+module _ (sys : System) (steps : ℕ) (xs : List Taking) (chain : AreTakings sys most (opening_look sys) xs) (goes_on : NoneStops xs) where
   abbrev last_seen : Look
   last_seen = last_look (opening_look sys) xs
 
@@ -109,7 +109,7 @@ module _ (sys : System) (steps : ℕ) (xs : List Turn) (chain : AreTurns sys mos
   ends_between (End h) may = (chain, goes_on)
   ends_between (Stop m) may = by_reason m m.reason may
 
-  module _ (x : Turn) (line : Line) (first_is : x.first ≡ line_of sys line) where
+  module _ (x : Taking) (line : Line) (first_is : x.first ≡ line_of sys line) where
     pub key_is : x.first.key ≡ line.key
     key_is = ap (λ (m : model.Line). m.key) first_is
 
@@ -120,17 +120,17 @@ module _ (sys : System) (steps : ℕ) (xs : List Turn) (chain : AreTurns sys mos
     by_stop Range other ends = ends
 
     -- where the last one did, for a reason other than the steps
-    pub ends_stopped : (r : Reason) → Turns sys most last_seen x → x.stop ≡ Some r → (r ≡ Steps → ⊥) → EndsSo sys steps (xs ++ x ∷ []) (AtStop line.key.tick line.key.resource r)
-    ends_stopped r turns stops other =
+    pub ends_stopped : (r : Reason) → IsTaking sys most last_seen x → x.stop ≡ Some r → (r ≡ Steps → ⊥) → EndsSo sys steps (xs ++ x ∷ []) (AtStop line.key.tick line.key.resource r)
+    ends_stopped r is_taking stops other =
         let ended : stop_of (xs ++ x ∷ []) ≡ Some (AtStop line.key.tick line.key.resource r) =
         stop_more xs x ∙ ap (stop_by x) stops ∙ ap (λ (k : Key). Some (AtStop k.tick k.resource r)) key_is in
-        by_stop r other (chain_more sys most (opening_look sys) xs x chain goes_on turns, ended)
+        by_stop r other (chain_more sys most (opening_look sys) xs x chain goes_on is_taking, ended)
 
     -- the last one has what its resource has left there of these steps
     unfoldable pub last_limited :
-        KeepSteps sys steps last_seen → KeepsLimit steps line.key.tick line.key.resource last_seen → Turns sys steps (limited steps line.key.tick line.key.resource last_seen) x
+        KeepSteps sys steps last_seen → KeepsLimit steps line.key.tick line.key.resource last_seen → IsTaking sys steps (limited steps line.key.tick line.key.resource last_seen) x
         → AreLimited sys steps line.key.tick line.key.resource (xs ++ x ∷ [])
-    last_limited kept within turns = record {
+    last_limited kept within is_taking = record {
       before = xs;
       last = x ∷ [];
       parts = refl;
@@ -139,29 +139,29 @@ module _ (sys : System) (steps : ℕ) (xs : List Turn) (chain : AreTurns sys mos
       one = (ap (λ (k : Key). k.tick) key_is, ap (λ (k : Key). k.resource) key_is);
       kept = kept;
       within = within;
-      judged = (turns, nothing x.stop, tt);
+      judged = (is_taking, nothing x.stop, tt);
     }
 
     -- .. and runs out of them
     pub ends_used :
-        KeepSteps sys steps last_seen → KeepsLimit steps line.key.tick line.key.resource last_seen → Turns sys steps (limited steps line.key.tick line.key.resource last_seen) x
+        KeepSteps sys steps last_seen → KeepsLimit steps line.key.tick line.key.resource last_seen → IsTaking sys steps (limited steps line.key.tick line.key.resource last_seen) x
         → RunsOut steps line.key.tick line.key.resource (limited steps line.key.tick line.key.resource last_seen) (x ∷ [])
         → EndsSo sys steps (xs ++ x ∷ []) (AtStop line.key.tick line.key.resource Steps)
     unfolding last_limited
-    ends_used kept within turns out = record { limited_so = last_limited kept within turns; runs_out = out }
+    ends_used kept within is_taking out = record { limited_so = last_limited kept within is_taking; runs_out = out }
 
 -- ---- Takings
 
 module _ (types : List BlockType) (sys : System) (form : Form) (limit : ℕ) (look : Look) (line : Line) (stop : Option Reason) where
   -- in a text that was read ahead, before what is left to read
-  pub turn_joined :
-      (old new : Walk) (s t u v : List ℕ) (remaining : Option (List ℕ)) → TurnGoes types sys form limit look line stop old new (Some s) (Some t) → u ≡ s → v ≡ t
-      → TurnGoes types sys form limit look line stop old new (prepend_known u remaining) (prepend_known v remaining)
-  turn_joined old new s t u v remaining goes same rest = record {
-    turn = goes.turn;
+  pub taking_joined :
+      (old new : Walk) (s t u v : List ℕ) (remaining : Option (List ℕ)) → WalkTakes types sys form limit look line stop old new (Some s) (Some t) → u ≡ s → v ≡ t
+      → WalkTakes types sys form limit look line stop old new (prepend_known u remaining) (prepend_known v remaining)
+  taking_joined old new s t u v remaining goes same rest = record {
+    taking = goes.taking;
     first_is = goes.first_is;
     stop_is = goes.stop_is;
-    turns = goes.turns;
+    is_taking = goes.is_taking;
     look_after = goes.look_after;
     shown_are = goes.shown_are;
     lines = goes.lines;
@@ -186,14 +186,14 @@ module _ (types : List BlockType) (sys : System) (form : Form) (limit : ℕ) (lo
           ap (λ (w : List ℕ). w ++ x) (same ∙ goes.goes.took ∙ ap (λ (w : List ℕ). goes.goes.taken ++ w) (sym rest)) ∙ append_assoc goes.goes.taken v x
 
   -- from what was not read ahead yet
-  unfoldable pub turn_reread :
-      (old new : Walk) (r s rest : Option (List ℕ)) → ((bytes : List ℕ) → Consumes s rest bytes → Consumes r rest bytes) → TurnGoes types sys form limit look line stop old new s rest
-      → TurnGoes types sys form limit look line stop old new r rest
-  turn_reread old new r s rest back goes = record {
-    turn = goes.turn;
+  unfoldable pub taking_reread :
+      (old new : Walk) (r s rest : Option (List ℕ)) → ((bytes : List ℕ) → Consumes s rest bytes → Consumes r rest bytes) → WalkTakes types sys form limit look line stop old new s rest
+      → WalkTakes types sys form limit look line stop old new r rest
+  taking_reread old new r s rest back goes = record {
+    taking = goes.taking;
     first_is = goes.first_is;
     stop_is = goes.stop_is;
-    turns = goes.turns;
+    is_taking = goes.is_taking;
     look_after = goes.look_after;
     shown_are = goes.shown_are;
     lines = goes.lines;
@@ -213,15 +213,15 @@ module _ (types : List BlockType) (sys : System) (form : Form) (limit : ℕ) (lo
   }
 
   -- whatever the next line was
-  unfoldable pub turn_next :
+  unfoldable pub taking_next :
       (old : Walk) (bad : Next) (new : Walk) (remaining rest : Option (List ℕ))
-      → TurnGoes types sys form limit look line stop (record old { trail = record (old.trail) { reading = record (old.trail.reading) { next = bad } } }) new remaining rest
-      → TurnGoes types sys form limit look line stop old new remaining rest
-  turn_next old bad new remaining rest goes = record {
-    turn = goes.turn;
+      → WalkTakes types sys form limit look line stop (record old { trail = record (old.trail) { reading = record (old.trail.reading) { next = bad } } }) new remaining rest
+      → WalkTakes types sys form limit look line stop old new remaining rest
+  taking_next old bad new remaining rest goes = record {
+    taking = goes.taking;
     first_is = goes.first_is;
     stop_is = goes.stop_is;
-    turns = goes.turns;
+    is_taking = goes.is_taking;
     look_after = goes.look_after;
     shown_are = goes.shown_are;
     lines = goes.lines;
@@ -241,22 +241,22 @@ module _ (types : List BlockType) (sys : System) (form : Form) (limit : ℕ) (lo
   }
 
   -- from a walk with the same text, marks and instances that are shown
-  pub turn_from :
-      (old mid new : Walk) (remaining rest : Option (List ℕ)) → mid.shown ≡ old.shown → mid.trail ≡ old.trail → TurnGoes types sys form limit look line stop mid new remaining rest
-      → TurnGoes types sys form limit look line stop old new remaining rest
-  turn_from old mid new remaining rest shown trail goes = record {
-    turn = goes.turn;
+  pub taking_from :
+      (old mid new : Walk) (remaining rest : Option (List ℕ)) → mid.shown ≡ old.shown → mid.trail ≡ old.trail → WalkTakes types sys form limit look line stop mid new remaining rest
+      → WalkTakes types sys form limit look line stop old new remaining rest
+  taking_from old mid new remaining rest shown trail goes = record {
+    taking = goes.taking;
     first_is = goes.first_is;
     stop_is = goes.stop_is;
-    turns = goes.turns;
+    is_taking = goes.is_taking;
     look_after = goes.look_after;
     shown_are = goes.shown_are ∙ shown;
     lines = goes.lines;
     lines_are = goes.lines_are;
-    goes = subst (λ (t : Trail). Goes sys form line.key.tick goes.lines (shown_text (flag_at old.shown.items line.instance) (turn_text form sys goes.turn)) (record t { is_shown = flag_at old.shown.items line.instance }) new.trail remaining rest) trail
-        (subst (λ (v : Vec Bool). Goes sys form line.key.tick goes.lines (shown_text (flag_at v.items line.instance) (turn_text form sys goes.turn)) (record (mid.trail) { is_shown = flag_at v.items line.instance }) new.trail remaining rest) shown
+    goes = subst (λ (t : Trail). Goes sys form line.key.tick goes.lines (shown_text (flag_at old.shown.items line.instance) (taking_text form sys goes.taking)) (record t { is_shown = flag_at old.shown.items line.instance }) new.trail remaining rest) trail
+        (subst (λ (v : Vec Bool). Goes sys form line.key.tick goes.lines (shown_text (flag_at v.items line.instance) (taking_text form sys goes.taking)) (record (mid.trail) { is_shown = flag_at v.items line.instance }) new.trail remaining rest) shown
         goes.goes);
-    marked = subst (λ (t : Trail). TurnMarks types sys goes.turn t.marks.charts new.trail.marks.charts) trail goes.marked;
+    marked = subst (λ (t : Trail). TakingMarks types sys goes.taking t.marks.charts new.trail.marks.charts) trail goes.marked;
   }
 
 -- ---- One step on
@@ -297,7 +297,7 @@ module _ (types : List BlockType) (first : Marks) (sys : System) (form : Form) (
       let gone = covered.gone.gone in (
         record {
           gone = record {
-            turns = covered.gone.turns;
+            takings = covered.gone.takings;
             goes_on = covered.gone.goes_on;
             chain = covered.gone.chain;
             look = covered.gone.look;
@@ -330,7 +330,7 @@ module _ (types : List BlockType) (first : Marks) (sys : System) (form : Form) (
       let gone = covered.gone.gone in (
         record {
           gone = record {
-            turns = covered.gone.turns;
+            takings = covered.gone.takings;
             goes_on = covered.gone.goes_on;
             chain = covered.gone.chain;
             look = covered.gone.look;
@@ -359,7 +359,7 @@ module _ (types : List BlockType) (first : Marks) (sys : System) (form : Form) (
   complete_bad w bad end known r old mid complete =
       let gone = complete.gone in
       record {
-        turns = complete.turns;
+        takings = complete.takings;
         gone = record {
           taken = gone.taken;
           shown = gone.shown;
@@ -380,16 +380,16 @@ module _ (types : List BlockType) (first : Marks) (sys : System) (form : Form) (
 
   module _ (w : Walk) (input remaining old mid : Option (List ℕ)) (covered : HasCovered types first sys form only steps w input remaining old mid) where
     abbrev seen_last : Look
-    seen_last = last_look (opening_look sys) covered.gone.turns
+    seen_last = last_look (opening_look sys) covered.gone.takings
 
     -- the last line comes where no taking stopped its resource
     pub ended_here :
         (end : Outcome) → IsNext sys form (last_tick 0 covered.gone.gone.lines) w.trail.reading.line.items (next.End end) → MayEnd sys steps seen_last (ending_of end)
         → IsComplete types first sys form only steps w end input remaining old mid
     ended_here end here may = record {
-      turns = covered.gone.turns;
+      takings = covered.gone.takings;
       gone = covered.gone.gone;
-      ends = ends_between sys steps covered.gone.turns covered.gone.chain covered.gone.goes_on end may;
+      ends = ends_between sys steps covered.gone.takings covered.gone.chain covered.gone.goes_on end may;
       last = here.0;
       after = here.1;
       marked = covered.marked;
@@ -399,29 +399,29 @@ module _ (types : List BlockType) (first : Marks) (sys : System) (form : Form) (
       within : line.instance < length sys.paths
       within = is.line.belongs.instance
 
-      module _ (done : Walk) (stop : Option Reason) (rest : Option (List ℕ)) (goes : TurnGoes types sys form most seen_last line stop w done remaining rest)
+      module _ (done : Walk) (stop : Option Reason) (rest : Option (List ℕ)) (goes : WalkTakes types sys form most seen_last line stop w done remaining rest)
           (next_is : IsNext sys form line.key.tick done.trail.reading.line.items done.trail.reading.next) where
-        chained : AreTurns sys most (opening_look sys) (covered.gone.turns ++ goes.turn ∷ [])
-        chained = chain_more sys most (opening_look sys) covered.gone.turns goes.turn covered.gone.chain covered.gone.goes_on goes.turns
+        chained : AreTakings sys most (opening_look sys) (covered.gone.takings ++ goes.taking ∷ [])
+        chained = chain_more sys most (opening_look sys) covered.gone.takings goes.taking covered.gone.chain covered.gone.goes_on goes.is_taking
 
-        more : IsGone sys form only steps done (covered.gone.turns ++ goes.turn ∷ []) input rest old mid
-        more = gone_more sys form only steps types w done covered.gone.turns line stop input remaining rest old mid covered.gone.gone later within most seen_last goes (inl chained)
+        more : IsGone sys form only steps done (covered.gone.takings ++ goes.taking ∷ []) input rest old mid
+        more = gone_more sys form only steps types w done covered.gone.takings line stop input remaining rest old mid covered.gone.gone later within most seen_last goes (inl chained)
 
         tick_is : last_tick 0 (covered.gone.gone.lines ++ goes.lines) ≡ line.key.tick
-        tick_is = last_is sys form only steps types w done covered.gone.turns line stop input remaining rest old mid covered.gone.gone later within most seen_last goes (inl chained)
+        tick_is = last_is sys form only steps types w done covered.gone.takings line stop input remaining rest old mid covered.gone.gone later within most seen_last goes (inl chained)
 
-        marks_are : AreMarked types sys (covered.gone.turns ++ goes.turn ∷ []) (covered.gone.gone.lines ++ goes.lines) first done.trail.marks
-        marks_are = more_marked sys form only steps types w done covered.gone.turns line stop input remaining rest old mid covered.gone.gone later within most seen_last goes (inl chained) first covered.marked
+        marks_are : AreMarked types sys (covered.gone.takings ++ goes.taking ∷ []) (covered.gone.gone.lines ++ goes.lines) first done.trail.marks
+        marks_are = more_marked sys form only steps types w done covered.gone.takings line stop input remaining rest old mid covered.gone.gone later within most seen_last goes (inl chained) first covered.marked
 
         -- one more event is taken
         pub taken_on : stop ≡ None → HasCovered types first sys form only steps done input rest old mid
         unfolding more gone_more
         taken_on goes_on = record {
           gone = record {
-            turns = covered.gone.turns ++ goes.turn ∷ [];
-            goes_on = none_more covered.gone.turns goes.turn covered.gone.goes_on (goes.stop_is ∙ goes_on);
+            takings = covered.gone.takings ++ goes.taking ∷ [];
+            goes_on = none_more covered.gone.takings goes.taking covered.gone.goes_on (goes.stop_is ∙ goes_on);
             chain = chained;
-            look = subst (λ (k : Look). IsLookOf sys done.blocks.items done.steps.items k) (sym (look_more (opening_look sys) covered.gone.turns goes.turn)) goes.look_after;
+            look = subst (λ (k : Look). IsLookOf sys done.blocks.items done.steps.items k) (sym (look_more (opening_look sys) covered.gone.takings goes.taking)) goes.look_after;
             gone = more;
             next = subst (λ (t : ℕ). IsNextLine sys form t done.trail.reading.line.items done.trail.reading.next) (sym tick_is) (next_line sys form line.key.tick done.trail.reading.line.items done.trail.reading.next next_is);
           };
@@ -436,11 +436,11 @@ module _ (types : List BlockType) (first : Marks) (sys : System) (form : Form) (
         stopped_on r stops other last =
             let mark : Outcome = Stop (record { tick = line.key.tick; resource = line.key.resource; reason = r }) in
             let here = subst (λ (n : Next). IsNext sys form line.key.tick done.trail.reading.line.items n) last next_is in
-            let it = covered.gone.turns ++ goes.turn ∷ [] in
+            let it = covered.gone.takings ++ goes.taking ∷ [] in
             record {
-              turns = it;
+              takings = it;
               gone = more;
-              ends = ends_stopped sys steps covered.gone.turns covered.gone.chain covered.gone.goes_on goes.turn line goes.first_is r goes.turns (goes.stop_is ∙ stops) other;
+              ends = ends_stopped sys steps covered.gone.takings covered.gone.chain covered.gone.goes_on goes.taking line goes.first_is r goes.is_taking (goes.stop_is ∙ stops) other;
               last = here.0;
               after = subst (λ (t : ℕ). IsAfter t mark) (sym tick_is) here.1;
               marked = marks_are;
@@ -448,8 +448,8 @@ module _ (types : List BlockType) (first : Marks) (sys : System) (form : Form) (
 
       -- one more event is taken, and its resource runs out of these steps
       pub ran_out_on :
-          (done : Walk) (stop : Option Reason) (rest : Option (List ℕ)) (goes : TurnGoes types sys form steps (limited steps line.key.tick line.key.resource seen_last) line stop w done remaining rest)
-          → KeepSteps sys steps seen_last → KeepsLimit steps line.key.tick line.key.resource seen_last → (stop ≡ Some Steps) ⊎ ((stop ≡ None) × (left_at steps line.key.tick (goes.turn.after.steps line.key.resource) ≡ 0))
+          (done : Walk) (stop : Option Reason) (rest : Option (List ℕ)) (goes : WalkTakes types sys form steps (limited steps line.key.tick line.key.resource seen_last) line stop w done remaining rest)
+          → KeepSteps sys steps seen_last → KeepsLimit steps line.key.tick line.key.resource seen_last → (stop ≡ Some Steps) ⊎ ((stop ≡ None) × (left_at steps line.key.tick (goes.taking.after.steps line.key.resource) ≡ 0))
           → IsNext sys form line.key.tick done.trail.reading.line.items done.trail.reading.next
           → done.trail.reading.next ≡ next.End (Stop (record { tick = line.key.tick; resource = line.key.resource; reason = Steps }))
           → IsComplete types first sys form only steps done (Stop (record { tick = line.key.tick; resource = line.key.resource; reason = Steps })) input rest old mid
@@ -457,46 +457,46 @@ module _ (types : List BlockType) (first : Marks) (sys : System) (form : Form) (
       ran_out_on done stop rest goes kept within_limit out next_is last =
           let mark : Outcome = Stop (record { tick = line.key.tick; resource = line.key.resource; reason = Steps }) in
           let here = subst (λ (n : Next). IsNext sys form line.key.tick done.trail.reading.line.items n) last next_is in
-          let so = last_limited sys steps covered.gone.turns covered.gone.chain covered.gone.goes_on goes.turn line goes.first_is kept within_limit goes.turns in
-          let taken : AreTaken sys steps (covered.gone.turns ++ goes.turn ∷ []) = inr (line.key.tick, line.key.resource, so) in
+          let so = last_limited sys steps covered.gone.takings covered.gone.chain covered.gone.goes_on goes.taking line goes.first_is kept within_limit goes.is_taking in
+          let taken : AreTaken sys steps (covered.gone.takings ++ goes.taking ∷ []) = inr (line.key.tick, line.key.resource, so) in
           let look : Look = limited steps line.key.tick line.key.resource seen_last in
           record {
-            turns = covered.gone.turns ++ goes.turn ∷ [];
-            gone = gone_more sys form only steps types w done covered.gone.turns line stop input remaining rest old mid covered.gone.gone later within steps look goes taken;
-            ends = ends_used sys steps covered.gone.turns covered.gone.chain covered.gone.goes_on goes.turn line goes.first_is kept within_limit goes.turns (out_by out);
+            takings = covered.gone.takings ++ goes.taking ∷ [];
+            gone = gone_more sys form only steps types w done covered.gone.takings line stop input remaining rest old mid covered.gone.gone later within steps look goes taken;
+            ends = ends_used sys steps covered.gone.takings covered.gone.chain covered.gone.goes_on goes.taking line goes.first_is kept within_limit goes.is_taking (out_by out);
             last = here.0;
             after = subst (λ (t : ℕ). IsAfter t mark)
-                (sym (last_is sys form only steps types w done covered.gone.turns line stop input remaining rest old mid covered.gone.gone later within steps look goes taken)) here.1;
-            marked = more_marked sys form only steps types w done covered.gone.turns line stop input remaining rest old mid covered.gone.gone later within steps look goes taken first covered.marked;
+                (sym (last_is sys form only steps types w done covered.gone.takings line stop input remaining rest old mid covered.gone.gone later within steps look goes taken)) here.1;
+            marked = more_marked sys form only steps types w done covered.gone.takings line stop input remaining rest old mid covered.gone.gone later within steps look goes taken first covered.marked;
           }
         where
           out_by :
-              (stop ≡ Some Steps) ⊎ ((stop ≡ None) × (left_at steps line.key.tick (goes.turn.after.steps line.key.resource) ≡ 0))
-              → (goes.turn.stop ≡ Some Steps) ⊎ ((goes.turn.stop ≡ None) × (left_at steps line.key.tick (goes.turn.after.steps line.key.resource) ≡ 0))
+              (stop ≡ Some Steps) ⊎ ((stop ≡ None) × (left_at steps line.key.tick (goes.taking.after.steps line.key.resource) ≡ 0))
+              → (goes.taking.stop ≡ Some Steps) ⊎ ((goes.taking.stop ≡ None) × (left_at steps line.key.tick (goes.taking.after.steps line.key.resource) ≡ 0))
           out_by (inl stopped) = inl (goes.stop_is ∙ stopped)
           out_by (inr (on, used)) = inr (goes.stop_is ∙ on, used)
 
       -- the same of what a taking does whatever the blocks remember
       pub free_on :
           (limit : ℕ) (done : Walk) (stop : Option Reason) (rest : Option (List ℕ)) → limit ≡ most
-          → ((look : Look) → IsLookOf sys w.blocks.items w.steps.items look → TurnGoes types sys form limit look line stop w done remaining rest)
+          → ((look : Look) → IsLookOf sys w.blocks.items w.steps.items look → WalkTakes types sys form limit look line stop w done remaining rest)
           → IsNext sys form line.key.tick done.trail.reading.line.items done.trail.reading.next → stop ≡ None → HasCovered types first sys form only steps done input rest old mid
       free_on limit done stop rest same goes next_is none =
-          taken_on done stop rest (subst (λ (n : ℕ). TurnGoes types sys form n seen_last line stop w done remaining rest) same (goes seen_last covered.gone.look)) next_is none
+          taken_on done stop rest (subst (λ (n : ℕ). WalkTakes types sys form n seen_last line stop w done remaining rest) same (goes seen_last covered.gone.look)) next_is none
 
       pub free_stop :
           (limit : ℕ) (done : Walk) (stop : Option Reason) (rest : Option (List ℕ)) → limit ≡ most
-          → ((look : Look) → IsLookOf sys w.blocks.items w.steps.items look → TurnGoes types sys form limit look line stop w done remaining rest)
+          → ((look : Look) → IsLookOf sys w.blocks.items w.steps.items look → WalkTakes types sys form limit look line stop w done remaining rest)
           → IsNext sys form line.key.tick done.trail.reading.line.items done.trail.reading.next → (r : Reason) → stop ≡ Some r → (r ≡ Steps → ⊥)
           → done.trail.reading.next ≡ next.End (Stop (record { tick = line.key.tick; resource = line.key.resource; reason = r }))
           → IsComplete types first sys form only steps done (Stop (record { tick = line.key.tick; resource = line.key.resource; reason = r })) input rest old mid
       free_stop limit done stop rest same goes next_is r stops other last =
-          stopped_on done stop rest (subst (λ (n : ℕ). TurnGoes types sys form n seen_last line stop w done remaining rest) same (goes seen_last covered.gone.look)) next_is r stops other last
+          stopped_on done stop rest (subst (λ (n : ℕ). WalkTakes types sys form n seen_last line stop w done remaining rest) same (goes seen_last covered.gone.look)) next_is r stops other last
 
       pub last_on :
           (between done : Walk) (stop : Option Reason) (rest : Option (List ℕ)) → ((look : Look) → IsLookOf sys w.blocks.items w.steps.items look → KeepSteps sys steps look) → between.shown ≡ w.shown → between.trail ≡ w.trail → between.blocks ≡ w.blocks
           → HasLimited steps line.key w.steps.items between.steps.items
-          → ((look : Look) → IsLookOf sys between.blocks.items between.steps.items look → TurnGoes types sys form steps look line stop between done remaining rest)
+          → ((look : Look) → IsLookOf sys between.blocks.items between.steps.items look → WalkTakes types sys form steps look line stop between done remaining rest)
           → ((look : Look) → IsLookOf sys done.blocks.items done.steps.items look → (stop ≡ Some Steps) ⊎ ((stop ≡ None) × (left_at steps line.key.tick (look.steps line.key.resource) ≡ 0)))
           → IsNext sys form line.key.tick done.trail.reading.line.items done.trail.reading.next
           → done.trail.reading.next ≡ next.End (Stop (record { tick = line.key.tick; resource = line.key.resource; reason = Steps }))
@@ -506,10 +506,10 @@ module _ (types : List BlockType) (first : Marks) (sys : System) (form : Form) (
           let is_look : IsLookOf sys between.blocks.items between.steps.items look =
           subst (λ (b : Vec Remembered). IsLookOf sys b.items between.steps.items look) (sym blocks_same)
           (look_limited sys steps line.key seen_last w.blocks.items w.steps.items between.steps.items covered.gone.look has) in
-          let own = turn_from types sys form steps look line stop w between done remaining rest shown_same trail_same (goes look is_look) in
+          let own = taking_from types sys form steps look line stop w between done remaining rest shown_same trail_same (goes look is_look) in
           ran_out_on done stop rest own (kept seen_last covered.gone.look)
           (subst (λ (l : Left). most ≤ left_at most line.key.tick l + steps) (sym (covered.gone.look.lefts line.key.resource has.before has.stood)) has.within)
-          (out own.turn.after own.look_after) next_is last
+          (out own.taking.after own.look_after) next_is last
 
       -- the trace is cut off in the lines after it
       pub severed_on :
@@ -527,7 +527,7 @@ module _ (types : List BlockType) (first : Marks) (sys : System) (form : Form) (
           ap (lines_text form sys) (map-append (line_of sys) gone.lines all) ∙ lines-append form sys (map (line_of sys) gone.lines) (map (line_of sys) all)
           ∙ ap (λ (t : List ℕ). L ++ t) (sym own) in
           record {
-            turns = covered.gone.turns;
+            takings = covered.gone.takings;
             goes_on = covered.gone.goes_on;
             chain = covered.gone.chain;
             lines = gone.lines;
@@ -544,10 +544,10 @@ module _ (types : List BlockType) (first : Marks) (sys : System) (form : Form) (
             text = ap (λ (t : List ℕ). gone.sent ++ t) put
                 ∙ sym (append_assoc gone.sent w.trail.page.text.items (shown_text flag (w.trail.reading.line.items ++ text)))
                 ∙ ap (λ (t : List ℕ). t ++ shown_text flag (w.trail.reading.line.items ++ text)) gone.text
-                ∙ ap (λ (t : List ℕ). all_text form sys only covered.gone.turns ++ shown_text flag t) own
-                ∙ ap (λ (t : List ℕ). all_text form sys only covered.gone.turns ++ t)
+                ∙ ap (λ (t : List ℕ). all_text form sys only covered.gone.takings ++ shown_text flag t) own
+                ∙ ap (λ (t : List ℕ). all_text form sys only covered.gone.takings ++ t)
                 (shown_if (is_kept only (path_at sys line.instance)) flag (lines_text form sys (map (line_of sys) all)) (gone.shown line.instance within));
-            marked = subst (AreMarked types sys covered.gone.turns gone.lines first) (sym marks_same) covered.marked;
+            marked = subst (AreMarked types sys covered.gone.takings gone.lines first) (sym marks_same) covered.marked;
           }
         where
           here : (off : AreCutOff sys form line rows text remaining) → All (IsLineAt sys line.key.tick) (line ∷ rows)

@@ -27,12 +27,12 @@ use Rattle.fb_wave.specs.declared.table.PortTable.{PortTable}
 use Rattle.fb_wave.proofs.Lining.{line_not_last, line_one}
 use Rattle.fb_inspect.specs.Inspections.{IsOwnLine, all_lines, last_look}
 use Rattle.fb_inspect.specs.Lines.{IsAlone, IsNext, IsPlain}
-use Rattle.fb_inspect.specs.Looks.{Look, Turn, Turns, TurnsAt, TurnsWith, emission_line, left_at, most, opening_look, turn_lines}
+use Rattle.fb_inspect.specs.Looks.{IsTaking, IsTakingAt, IsTakingWith, Look, Taking, emission_line, left_at, most, opening_look, taking_lines}
 use Rattle.fb_inspect.specs.Moves.{IsLineAt}
-use Rattle.fb_inspect.specs.Refusals.{BeginsNothing, FailsBy, GoesOtherwise, HasRead, HaveTaken, IsLineAfter, IsNoStepsStop, IsWrongAfter, IsWrongLine, TurnFails, steps_stop}
+use Rattle.fb_inspect.specs.Refusals.{BeginsNothing, FailsBy, GoesOtherwise, HasRead, HaveTaken, IsLineAfter, IsNoStepsStop, IsWrongAfter, IsWrongLine, TakingFails, steps_stop}
 use Rattle.fb_inspect.specs.SameLines.{AreLikeParts, IsSameLine}
 use Rattle.fb_inspect.specs.Standing.{AreAhead, AreNumbered, GoesAfter, IsLeft, IsNotNear, MayBeAhead, StandsAfter, StandsAt, StandsOn, TakesOne, Watches}
-use Rattle.fb_inspect.specs.Walking.{IsLookOf, TurnGoes, unread}
+use Rattle.fb_inspect.specs.Walking.{IsLookOf, WalkTakes, unread}
 use Rattle.fb_inspect.specs.declared.ahead.Ahead.{Ahead}
 use Rattle.fb_inspect.specs.declared.error.InspectError.{InspectError}
 use Rattle.fb_inspect.specs.declared.reading.Reading.{Reading}
@@ -97,39 +97,39 @@ own_lines sys numbers line is (l ∷ ls) (x ∷ es) more e all =
 
 -- ---- Takings
 
-last_same_turn : (xs ys : List Turn) (x y : Turn) → xs ++ x ∷ [] ≡ ys ++ y ∷ [] → x ≡ y
-last_same_turn [] [] x y e = cc
-last_same_turn [] (z ∷ zs) x y e = absurd (more zs (cc))
+last_same_taking : (xs ys : List Taking) (x y : Taking) → xs ++ x ∷ [] ≡ ys ++ y ∷ [] → x ≡ y
+last_same_taking [] [] x y e = cc
+last_same_taking [] (z ∷ zs) x y e = absurd (more zs (cc))
   where
-    more : (us : List Turn) → [] ≡ us ++ y ∷ [] → ⊥
+    more : (us : List Taking) → [] ≡ us ++ y ∷ [] → ⊥
     more [] e = cc
     more (u ∷ us) e = cc
-last_same_turn (z ∷ zs) [] x y e = absurd (more zs (cc))
+last_same_taking (z ∷ zs) [] x y e = absurd (more zs (cc))
   where
-    more : (us : List Turn) → us ++ x ∷ [] ≡ [] → ⊥
+    more : (us : List Taking) → us ++ x ∷ [] ≡ [] → ⊥
     more [] e = cc
     more (u ∷ us) e = cc
-last_same_turn (z ∷ zs) (u ∷ us) x y e = last_same_turn zs us x y (cc)
+last_same_taking (z ∷ zs) (u ∷ us) x y e = last_same_taking zs us x y (cc)
 
 -- a taking that stops its resource is one of a basic block
-pub stops_basic : (sys : System) (limit : ℕ) (look : Look) (x : Turn) (r : Reason) → x.stop ≡ Some r → Turns sys limit look x → (t : BasicType) × (sys.kind x.first.at ≡ Some (Basic t))
-stops_basic sys limit look x r stop turn = by_left (left_at limit x.first.key.tick (look.steps x.first.key.resource)) turn
+pub stops_basic : (sys : System) (limit : ℕ) (look : Look) (x : Taking) (r : Reason) → x.stop ≡ Some r → IsTaking sys limit look x → (t : BasicType) × (sys.kind x.first.at ≡ Some (Basic t))
+stops_basic sys limit look x r stop taking = by_left (left_at limit x.first.key.tick (look.steps x.first.key.resource)) taking
   where
     never : x.stop ≡ None → ⊥
     never none = let both : Some r ≡ None = sym stop ∙ none in cc
 
-    by_kind : (left : ℕ) (k : Option Kind) → sys.kind x.first.at ≡ k → TurnsAt left look k x → (t : BasicType) × (sys.kind x.first.at ≡ Some (Basic t))
+    by_kind : (left : ℕ) (k : Option Kind) → sys.kind x.first.at ≡ k → IsTakingAt left look k x → (t : BasicType) × (sys.kind x.first.at ≡ Some (Basic t))
     by_kind left None is h = absurd h
     by_kind left (Some (Basic t)) is h = (t, is)
     by_kind left (Some (Event kind)) is (inl h) = absurd (never h.goes_on)
     by_kind left (Some (Event kind)) is (inr h) = absurd (never h.goes_on)
     by_kind left (Some (Composite c)) is h = absurd (never h.goes_on)
 
-    by_left : (left : ℕ) → TurnsWith sys look left x → (t : BasicType) × (sys.kind x.first.at ≡ Some (Basic t))
+    by_left : (left : ℕ) → IsTakingWith sys look left x → (t : BasicType) × (sys.kind x.first.at ≡ Some (Basic t))
     by_left zero h = absurd h
     by_left (suc left) h = by_kind left (sys.kind x.first.at) refl h.1
 
-module _ (t : PortTable) (form : Form) (turns : List Turn) (w : Walk) (a : Ahead) (line : Line) (rest text : List ℕ) (at : StandsAt (system_of t.system.now) form turns w a.text.items a.last.items line rest text) where
+module _ (t : PortTable) (form : Form) (takings : List Taking) (w : Walk) (a : Ahead) (line : Line) (rest text : List ℕ) (at : StandsAt (system_of t.system.now) form takings w a.text.items a.last.items line rest text) where
   abbrev sys : System
   sys = system_of t.system.now
 
@@ -137,7 +137,7 @@ module _ (t : PortTable) (form : Form) (turns : List Turn) (w : Walk) (a : Ahead
   texts_in ls = lines_text form sys (map (line_of sys) ls)
 
   abbrev seen_last : Look
-  seen_last = last_look (opening_look sys) turns
+  seen_last = last_look (opening_look sys) takings
 
   abbrev lines : List Line
   lines = at.stands.lines
@@ -167,25 +167,25 @@ module _ (t : PortTable) (form : Form) (turns : List Turn) (w : Walk) (a : Ahead
     formed = formed_at lines w.trail.reading.line.items (a.text.items ++ rest) at.stands.is at.stands.alone;
   }
 
-  here_taken : HaveTaken sys lines turns []
-  here_taken = record { chain = at.stands.chain; goes_on = at.stands.goes_on; lines_are = at.stands.lines_are ∙ sym (append-nil (all_lines turns)) }
+  here_taken : HaveTaken sys lines takings []
+  here_taken = record { chain = at.stands.chain; goes_on = at.stands.goes_on; lines_are = at.stands.lines_are ∙ sym (append-nil (all_lines takings)) }
 
   -- no such taking begins with the next line
-  pub begins_nothing : (T : Turn → Type 0) → ((x : Turn) → x.first ≡ line_of sys line → T x → ⊥) → BeginsNothing T sys form (last_tick 0 lines) w.trail.reading.line.items
+  pub begins_nothing : (T : Taking → Type 0) → ((x : Taking) → x.first ≡ line_of sys line → T x → ⊥) → BeginsNothing T sys form (last_tick 0 lines) w.trail.reading.line.items
   begins_nothing T none = record {
-    no_turn = λ m is plain later x first turn.
+    no_taking = λ m is plain later x first taking.
         let once = same_line form m line (line_once t at.names form m line w.trail.reading.line.items is at.is) plain at.plain in
-        none x (first ∙ ap (line_of sys) once) turn;
+        none x (first ∙ ap (line_of sys) once) taking;
     no_end = λ end can after is. line_not_last sys form line end at.is.line (sym at.is.is ∙ is);
   }
 
-  pub wrong_here : (steps n : ℕ) → n ≡ w.trail.reading.number → IsWrongAfter sys form steps (last_tick 0 lines) turns [] w.trail.reading.line.items text → IsWrongLine sys steps n text
+  pub wrong_here : (steps n : ℕ) → n ≡ w.trail.reading.number → IsWrongAfter sys form steps (last_tick 0 lines) takings [] w.trail.reading.line.items text → IsWrongLine sys steps n text
   wrong_here steps n number wrong = record {
     form = form;
     before = lines;
     line = w.trail.reading.line.items;
     at = subst (λ (k : ℕ). IsLineAfter sys form k text lines w.trail.reading.line.items) (sym number) here_place;
-    turns = turns;
+    takings = takings;
     begun = [];
     taken = here_taken;
     wrong = wrong;
@@ -258,27 +258,27 @@ module _ (t : PortTable) (form : Form) (turns : List Turn) (w : Walk) (a : Ahead
       formed = λ none. absurd (some_before none);
     }
 
-    taken : HaveTaken sys before turns (map (line_of sys) (line ∷ passed))
+    taken : HaveTaken sys before takings (map (line_of sys) (line ∷ passed))
     taken = record {
       chain = at.stands.chain;
       goes_on = at.stands.goes_on;
       lines_are = map-append (line_of sys) lines (line ∷ passed) ∙ ap (λ (ls : List model.Line). ls ++ map (line_of sys) (line ∷ passed)) at.stands.lines_are;
     }
 
-    pub wrong_after : (steps n : ℕ) → n ≡ new.number → IsWrongAfter sys form steps (last_tick 0 before) turns (map (line_of sys) (line ∷ passed)) after text → IsWrongLine sys steps n text
+    pub wrong_after : (steps n : ℕ) → n ≡ new.number → IsWrongAfter sys form steps (last_tick 0 before) takings (map (line_of sys) (line ∷ passed)) after text → IsWrongLine sys steps n text
     wrong_after steps n number wrong = record {
       form = form;
       before = before;
       line = after;
       at = subst (λ (k : ℕ). IsLineAfter sys form k text before after) (sym number) place;
-      turns = turns;
+      takings = takings;
       begun = map (line_of sys) (line ∷ passed);
       taken = taken;
       wrong = wrong;
     }
 
     -- it is no stop for the steps where none is near
-    pub no_steps_stop : IsNotNear sys line a.last.items → (x : Turn) → x.first ≡ line_of sys line → IsNoStepsStop sys x.first after
+    pub no_steps_stop : IsNotNear sys line a.last.items → (x : Taking) → x.first ≡ line_of sys line → IsNoStepsStop sys x.first after
     no_steps_stop far x first basic kind stop =
         far basic (ap (λ (m : model.Line). sys.kind m.at) (sym first) ∙ kind)
         (front_end sys form at.names line after left a.last.items rest (AtStop line.key.tick line.key.resource Steps) front_is
@@ -290,28 +290,28 @@ module _ (t : PortTable) (form : Form) (turns : List Turn) (w : Walk) (a : Ahead
 
   -- ---- The event of the line
 
-  pub own_of : (T : Turn → Type 0) (new : Reading) (l j : Option (List ℕ)) (n : ℕ) (fails : TurnFails T sys form line w.trail.reading new l j n) → All (IsOwnLine sys line) fails.passed
+  pub own_of : (T : Taking → Type 0) (new : Reading) (l j : Option (List ℕ)) (n : ℕ) (fails : TakingFails T sys form line w.trail.reading new l j n) → All (IsOwnLine sys line) fails.passed
   own_of T new l j n fails =
-      own_lines sys at.numbers line at.is.line fails.passed fails.turn.emits (fails.next ∷ fails.more) (after_first fails.turn fails.passed (fails.next ∷ fails.more) fails.parts)
+      own_lines sys at.numbers line at.is.line fails.passed fails.taking.emits (fails.next ∷ fails.more) (after_first fails.taking fails.passed (fails.next ∷ fails.more) fails.parts)
       (All-tail (IsLineAt sys line.key.tick) line fails.passed fails.reads.each)
     where
-      after_first : (turn : Turn) (passed : List Line) (rest : List model.Line) → turn.first ∷ map (emission_line turn.first) turn.emits ≡ (line_of sys line ∷ map (line_of sys) passed) ++ rest
-          → map (line_of sys) passed ++ rest ≡ map (emission_line (line_of sys line)) turn.emits
-      after_first turn passed rest e =
-          let head : turn.first ≡ line_of sys line = cc in
-          let tail : map (emission_line turn.first) turn.emits ≡ map (line_of sys) passed ++ rest = cc in
-          sym tail ∙ ap (λ (m : model.Line). map (emission_line m) turn.emits) head
+      after_first : (taking : Taking) (passed : List Line) (rest : List model.Line) → taking.first ∷ map (emission_line taking.first) taking.emits ≡ (line_of sys line ∷ map (line_of sys) passed) ++ rest
+          → map (line_of sys) passed ++ rest ≡ map (emission_line (line_of sys line)) taking.emits
+      after_first taking passed rest e =
+          let head : taking.first ≡ line_of sys line = cc in
+          let tail : map (emission_line taking.first) taking.emits ≡ map (line_of sys) passed ++ rest = cc in
+          sym tail ∙ ap (λ (m : model.Line). map (emission_line m) taking.emits) head
 
-  first_is : (turn : Turn) (passed : List Line) (rest : List model.Line) → turn.first ∷ map (emission_line turn.first) turn.emits ≡ (line_of sys line ∷ map (line_of sys) passed) ++ rest → turn.first ≡ line_of sys line
-  first_is turn passed rest e = cc
+  first_is : (taking : Taking) (passed : List Line) (rest : List model.Line) → taking.first ∷ map (emission_line taking.first) taking.emits ≡ (line_of sys line ∷ map (line_of sys) passed) ++ rest → taking.first ≡ line_of sys line
+  first_is taking passed rest e = cc
 
-  pub otherwise : (T : Turn → Type 0) (new : Reading) (l j : Option (List ℕ)) (n : ℕ) (fails : TurnFails T sys form line w.trail.reading new l j n)
+  pub otherwise : (T : Taking → Type 0) (new : Reading) (l j : Option (List ℕ)) (n : ℕ) (fails : TakingFails T sys form line w.trail.reading new l j n)
       → GoesOtherwise T sys form (map (line_of sys) (line ∷ fails.passed)) new.line.items
   otherwise T new l j n fails = record {
-    turn = fails.turn;
-    turns = fails.turns;
+    taking = fails.taking;
+    is_taking = fails.is_taking;
     passed = map (line_of sys) fails.passed;
-    begins = ap (λ (m : model.Line). m ∷ map (line_of sys) fails.passed) (sym (first_is fails.turn fails.passed (fails.next ∷ fails.more) fails.parts));
+    begins = ap (λ (m : model.Line). m ∷ map (line_of sys) fails.passed) (sym (first_is fails.taking fails.passed (fails.next ∷ fails.more) fails.parts));
     next = fails.next;
     more = fails.more;
     parts = fails.parts;
@@ -321,23 +321,23 @@ module _ (t : PortTable) (form : Form) (turns : List Turn) (w : Walk) (a : Ahead
   -- a line is wrong where each resource has the greatest limit
   pub wrong_freely :
       (steps n : ℕ) (rows : List Line) (new : Reading) (left : List ℕ) → AreAhead sys form line rows a.text.items a.last.items rest → IsNotNear sys line a.last.items
-      → FailsBy (Turns sys most seen_last) sys form line w.trail.reading new (Some a.text.items) (Some left) n → IsWrongLine sys steps n text
+      → FailsBy (IsTaking sys most seen_last) sys form line w.trail.reading new (Some a.text.items) (Some left) n → IsWrongLine sys steps n text
   unfolding otherwise
   wrong_freely steps n rows new left ahead far (inl none) =
-      wrong_here steps n none.number_is (inl (inl (refl, begins_nothing (Turns sys most seen_last) none.none)))
+      wrong_here steps n none.number_is (inl (inl (refl, begins_nothing (IsTaking sys most seen_last) none.none)))
   wrong_freely steps n rows new left ahead far (inr fails) =
-      let own = own_of (Turns sys most seen_last) new (Some a.text.items) (Some left) n fails in
+      let own = own_of (IsTaking sys most seen_last) new (Some a.text.items) (Some left) n fails in
       wrong_after rows ahead fails.passed new left fails.reads own steps n fails.number_is
       (inl (inr (inr (inl (
-        otherwise (Turns sys most seen_last) new (Some a.text.items) (Some left) n fails,
-        no_steps_stop rows ahead fails.passed new left fails.reads own far fails.turn (first_is fails.turn fails.passed (fails.next ∷ fails.more) fails.parts),
+        otherwise (IsTaking sys most seen_last) new (Some a.text.items) (Some left) n fails,
+        no_steps_stop rows ahead fails.passed new left fails.reads own far fails.taking (first_is fails.taking fails.passed (fails.next ∷ fails.more) fails.parts),
       )))))
 
   -- ---- After the taking
 
   -- the lines of a taking, of which the first is that of the event
   pub reads_first :
-      (x : Turn) → x.first ≡ line_of sys line → (new : Reading) (left : List ℕ) (ls : List Line) → map (line_of sys) ls ≡ turn_lines x
+      (x : Taking) → x.first ≡ line_of sys line → (new : Reading) (left : List ℕ) (ls : List Line) → map (line_of sys) ls ≡ taking_lines x
       → HasRead sys form line.key.tick ls w.trail.reading new (Some a.text.items) (Some left)
       → (passed : List Line) × HasRead sys form line.key.tick (line ∷ passed) w.trail.reading new (Some a.text.items) (Some left) × (map (line_of sys) passed ++ [] ≡ map (emission_line (line_of sys line)) x.emits)
   reads_first x first new left [] e reads = absurd (cc)
@@ -356,30 +356,30 @@ module _ (t : PortTable) (form : Form) (turns : List Turn) (w : Walk) (a : Ahead
         append-nil (map (line_of sys) ls) ∙ tail ∙ ap (λ (m : model.Line). map (emission_line m) x.emits) first,
       )
 
-  module _ (rows : List Line) (ahead : AreAhead sys form line rows a.text.items a.last.items rest) (x : Turn) (first : x.first ≡ line_of sys line) (done : Walk) (left : List ℕ) (passed : List Line)
+  module _ (rows : List Line) (ahead : AreAhead sys form line rows a.text.items a.last.items rest) (x : Taking) (first : x.first ≡ line_of sys line) (done : Walk) (left : List ℕ) (passed : List Line)
       (reads : HasRead sys form line.key.tick (line ∷ passed) w.trail.reading done.trail.reading (Some a.text.items) (Some left)) (emits : map (line_of sys) passed ++ [] ≡ map (emission_line (line_of sys line)) x.emits) where
     pub own : All (IsOwnLine sys line) passed
     own = own_lines sys at.numbers line at.is.line passed x.emits [] emits (All-tail (IsLineAt sys line.key.tick) line passed reads.each)
 
-    pub turn_is : map (line_of sys) (line ∷ passed) ≡ turn_lines x
-    turn_is =
+    pub taking_is : map (line_of sys) (line ∷ passed) ≡ taking_lines x
+    taking_is =
         ap (λ (ls : List model.Line). line_of sys line ∷ ls) (sym (append-nil (map (line_of sys) passed)) ∙ emits)
         ∙ ap (λ (m : model.Line). m ∷ map (emission_line m) x.emits) (sym first)
 
     -- the walk stands at the next line
     pub stands_on :
-        (b : Ahead) → b.text.items ≡ left → b.last ≡ a.last → IsNotNear sys line a.last.items → x.stop ≡ None → Turns sys most seen_last x → IsLookOf sys done.blocks.items done.steps.items x.after
-        → IsNext sys form line.key.tick done.trail.reading.line.items done.trail.reading.next → StandsOn sys form (turns ++ x ∷ []) done b.text.items b.last.items rest text
-    stands_on b text_same last_same far stop turn look next =
+        (b : Ahead) → b.text.items ≡ left → b.last ≡ a.last → IsNotNear sys line a.last.items → x.stop ≡ None → IsTaking sys most seen_last x → IsLookOf sys done.blocks.items done.steps.items x.after
+        → IsNext sys form line.key.tick done.trail.reading.line.items done.trail.reading.next → StandsOn sys form (takings ++ x ∷ []) done b.text.items b.last.items rest text
+    stands_on b text_same last_same far stop taking look next =
         let before = lines ++ (line ∷ passed) in
         record {
           stands = record {
-            chain = chain_more sys most (opening_look sys) turns x at.stands.chain at.stands.goes_on turn;
-            goes_on = none_more turns x at.stands.goes_on stop;
-            look = subst (λ (k : Look). IsLookOf sys done.blocks.items done.steps.items k) (sym (look_more (opening_look sys) turns x)) look;
+            chain = chain_more sys most (opening_look sys) takings x at.stands.chain at.stands.goes_on taking;
+            goes_on = none_more takings x at.stands.goes_on stop;
+            look = subst (λ (k : Look). IsLookOf sys done.blocks.items done.steps.items k) (sym (look_more (opening_look sys) takings x)) look;
             lines = before;
             lines_are = map-append (line_of sys) lines (line ∷ passed) ∙ ap (λ (ls : List model.Line). ls ++ map (line_of sys) (line ∷ passed)) at.stands.lines_are
-                ∙ ap (λ (ls : List model.Line). all_lines turns ++ ls) turn_is ∙ sym (lines_more turns x);
+                ∙ ap (λ (ls : List model.Line). all_lines takings ++ ls) taking_is ∙ sym (lines_more takings x);
             are = are_before rows ahead passed done.trail.reading left reads own;
             numbered = counted rows ahead passed done.trail.reading left reads own;
             is = text_is rows ahead passed done.trail.reading left reads own
@@ -388,7 +388,7 @@ module _ (t : PortTable) (form : Form) (turns : List Turn) (w : Walk) (a : Ahead
                 ∙ ap (λ (u : List ℕ). take_through 10 (done.trail.reading.line.items ++ (u ++ rest))) (sym text_same);
             formed = at.stands.formed;
             near = λ front z e.
-                subst (λ (y : Turn). IsNoStepsStop sys y.first done.trail.reading.line.items) (last_same_turn turns front x z e)
+                subst (λ (y : Taking). IsNoStepsStop sys y.first done.trail.reading.line.items) (last_same_taking takings front x z e)
                 (no_steps_stop rows ahead passed done.trail.reading left reads own far x first);
             after = λ m is.
                 subst (λ (u : List ℕ). MayBeAhead sys form m u b.last.items rest) (sym text_same)
@@ -400,17 +400,17 @@ module _ (t : PortTable) (form : Form) (turns : List Turn) (w : Walk) (a : Ahead
 
     -- a taking stops its resource, and the next line says something else
     pub wrong_stop :
-        (steps n : ℕ) (reason : Reason) → n ≡ done.trail.reading.number → x.stop ≡ Some reason → Turns sys most seen_last x → IsNotNear sys line a.last.items
+        (steps n : ℕ) (reason : Reason) → n ≡ done.trail.reading.number → x.stop ≡ Some reason → IsTaking sys most seen_last x → IsNotNear sys line a.last.items
         → ((reason ≡ Steps → ⊥) → done.trail.reading.line.items ≡ last_line sys (AtStop line.key.tick line.key.resource reason) → ⊥) → (reason ≡ Steps) ⊎ (reason ≡ Steps → ⊥) → IsWrongLine sys steps n text
-    wrong_stop steps n reason number stop turn far other which =
+    wrong_stop steps n reason number stop taking far other which =
         let none_near = no_steps_stop rows ahead passed done.trail.reading left reads own far x first in
-        let basic = stops_basic sys most seen_last x reason stop turn in
+        let basic = stops_basic sys most seen_last x reason stop taking in
         wrong_after rows ahead passed done.trail.reading left reads own steps n number
         (inl (inr (inr (inr (
           record {
-            turn = x;
-            turns = turn;
-            lines_are = sym turn_is;
+            taking = x;
+            is_taking = taking;
+            lines_are = sym taking_is;
             reason = reason;
             stop = stop;
             other = λ is. by which basic (is ∙ ap (λ (m : model.Line). last_line sys (AtStop m.key.tick m.key.resource reason)) first) is none_near;
@@ -426,7 +426,7 @@ module _ (t : PortTable) (form : Form) (turns : List Turn) (w : Walk) (a : Ahead
   -- what a taking has read
   pub goes_reads :
       (types : List BlockType) (limit : ℕ) (look : Look) (stop : Option Reason) (old done : Walk) (b : Ahead) → old.trail ≡ w.trail
-      → (goes : TurnGoes types sys form limit look line stop old done (unread a (Some [])) (unread b (Some [])))
+      → (goes : WalkTakes types sys form limit look line stop old done (unread a (Some [])) (unread b (Some [])))
       → (IsAlone old.trail.reading.line.items (Some a.text.items) → IsAlone done.trail.reading.line.items (Some b.text.items))
       → HasRead sys form line.key.tick goes.lines w.trail.reading done.trail.reading (Some a.text.items) (Some b.text.items)
   goes_reads types limit look stop old done b same goes alone =
@@ -442,30 +442,30 @@ module _ (t : PortTable) (form : Form) (turns : List Turn) (w : Walk) (a : Ahead
 
   -- .. each resource with the greatest limit
   module _ (rows : List Line) (ahead : AreAhead sys form line rows a.text.items a.last.items rest) (far : IsNotNear sys line a.last.items) (types : List BlockType) (limit : ℕ) (most_is : limit ≡ most)
-      (done : Walk) (b : Ahead) (stop : Option Reason) (goes_so : TurnGoes types sys form limit seen_last line stop w done (unread a (Some [])) (unread b (Some [])))
+      (done : Walk) (b : Ahead) (stop : Option Reason) (goes_so : WalkTakes types sys form limit seen_last line stop w done (unread a (Some [])) (unread b (Some [])))
       (alone : IsAlone w.trail.reading.line.items (Some a.text.items) → IsAlone done.trail.reading.line.items (Some b.text.items)) (last_same : b.last ≡ a.last)
       (next_is : IsNext sys form line.key.tick done.trail.reading.line.items done.trail.reading.next) where
-    goes : TurnGoes types sys form most seen_last line stop w done (unread a (Some [])) (unread b (Some []))
-    goes = subst (λ (n : ℕ). TurnGoes types sys form n seen_last line stop w done (unread a (Some [])) (unread b (Some []))) most_is goes_so
+    goes : WalkTakes types sys form most seen_last line stop w done (unread a (Some [])) (unread b (Some []))
+    goes = subst (λ (n : ℕ). WalkTakes types sys form n seen_last line stop w done (unread a (Some [])) (unread b (Some []))) most_is goes_so
 
     all : (passed : List Line) × HasRead sys form line.key.tick (line ∷ passed) w.trail.reading done.trail.reading (Some a.text.items) (Some b.text.items)
-        × (map (line_of sys) passed ++ [] ≡ map (emission_line (line_of sys line)) goes.turn.emits)
+        × (map (line_of sys) passed ++ [] ≡ map (emission_line (line_of sys line)) goes.taking.emits)
     all =
-        reads_first goes.turn goes.first_is done.trail.reading b.text.items goes.lines goes.lines_are (goes_reads types most seen_last stop w done b refl goes alone)
+        reads_first goes.taking goes.first_is done.trail.reading b.text.items goes.lines goes.lines_are (goes_reads types most seen_last stop w done b refl goes alone)
 
-    pub freely_on : stop ≡ None → TakesOne sys form turns done b.text.items b.last.items line rest text
+    pub freely_on : stop ≡ None → TakesOne sys form takings done b.text.items b.last.items line rest text
     freely_on none = record {
-      turn = goes.turn;
+      taking = goes.taking;
       first_is = goes.first_is;
-      turn_is = goes.turns;
-      on = stands_on rows ahead goes.turn goes.first_is done b.text.items all.0 all.1 all.2 b refl last_same far (goes.stop_is ∙ none) goes.turns goes.look_after next_is;
+      taking_is = goes.is_taking;
+      on = stands_on rows ahead goes.taking goes.first_is done b.text.items all.0 all.1 all.2 b refl last_same far (goes.stop_is ∙ none) goes.is_taking goes.look_after next_is;
     }
 
     pub freely_stop :
         (steps n : ℕ) (reason : Reason) → n ≡ done.trail.reading.number → stop ≡ Some reason → (reason ≡ Steps) ⊎ (reason ≡ Steps → ⊥)
         → ((reason ≡ Steps → ⊥) → done.trail.reading.next ≡ next.End (Stop (record { tick = line.key.tick; resource = line.key.resource; reason = reason })) → ⊥) → IsWrongLine sys steps n text
     freely_stop steps n reason number stops which other =
-        wrong_stop rows ahead goes.turn goes.first_is done b.text.items all.0 all.1 all.2 steps n reason number (goes.stop_is ∙ stops) goes.turns far
+        wrong_stop rows ahead goes.taking goes.first_is done b.text.items all.0 all.1 all.2 steps n reason number (goes.stop_is ∙ stops) goes.is_taking far
         (λ not is.
         no_stop_text sys form at.names at.apart line.key.tick done.trail.reading.line.items done.trail.reading.next line.key.tick line.key.resource reason next_is (omega arith)
         (at.is.line.range.tick, at.is.line.belongs.resource) (other not) is) which
@@ -473,10 +473,10 @@ module _ (t : PortTable) (form : Form) (turns : List Turn) (w : Walk) (a : Ahead
 -- ---- Where lines are read ahead
 
 pub at_ahead :
-    (sys : System) (form : Form) (turns : List Turn) (w : Walk) (a b : Ahead) (line : Line) (rest text : List ℕ) → b.text ≡ a.text → b.last ≡ a.last → StandsAt sys form turns w a.text.items a.last.items line rest text
-    → StandsAt sys form turns w b.text.items b.last.items line rest text
-at_ahead sys form turns w a b line rest text one two at =
-    subst (λ (v : Vec ℕ). StandsAt sys form turns w b.text.items v.items line rest text) (sym two) (subst (λ (v : Vec ℕ). StandsAt sys form turns w v.items a.last.items line rest text) (sym one) at)
+    (sys : System) (form : Form) (takings : List Taking) (w : Walk) (a b : Ahead) (line : Line) (rest text : List ℕ) → b.text ≡ a.text → b.last ≡ a.last → StandsAt sys form takings w a.text.items a.last.items line rest text
+    → StandsAt sys form takings w b.text.items b.last.items line rest text
+at_ahead sys form takings w a b line rest text one two at =
+    subst (λ (v : Vec ℕ). StandsAt sys form takings w b.text.items v.items line rest text) (sym two) (subst (λ (v : Vec ℕ). StandsAt sys form takings w v.items a.last.items line rest text) (sym one) at)
 
 pub ahead_ahead :
     (sys : System) (form : Form) (a b : Ahead) (line : Line) (rows : List Line) (rest : List ℕ) → b.text ≡ a.text → b.last ≡ a.last → AreAhead sys form line rows a.text.items a.last.items rest
@@ -486,10 +486,10 @@ ahead_ahead sys form a b line rows rest one two at =
 
 -- more lines were read ahead of the next one
 pub at_look :
-    (t : PortTable) (form : Form) (turns : List Turn) (w : Walk) (line : Line) (ahead last rest text : List ℕ) → StandsAt (system_of t.system.now) form turns w ahead last line rest text
+    (t : PortTable) (form : Form) (takings : List Taking) (w : Walk) (line : Line) (ahead last rest text : List ℕ) → StandsAt (system_of t.system.now) form takings w ahead last line rest text
     → (rows : List Line) (whole new left : List ℕ) → ahead ++ rest ≡ whole ++ left → AreAhead (system_of t.system.now) form line rows whole new left
-    → StandsAt (system_of t.system.now) form turns w whole new line left text
-at_look t form turns w line ahead last rest text at rows whole new left same is =
+    → StandsAt (system_of t.system.now) form takings w whole new line left text
+at_look t form takings w line ahead last rest text at rows whole new left same is =
     let sys = system_of t.system.now in
     record {
       stands = record {
@@ -532,24 +532,24 @@ some_at (Some y) x P is h = let same : y ≡ x = cc in subst P same h
 
 -- a step after a taking that was watched
 pub watched_step :
-    (sys : System) (form : Form) (steps : ℕ) (turns : List Turn) (w : Walk) (b c : Ahead) (line : Line) (rest text : List ℕ) (step : Step) → c.text ≡ b.text → c.last ≡ b.last
-    → StandsAfter sys form steps turns w b.text.items b.last.items line rest text (Ok step)
-    → ((x : Turn) → x.first ≡ line_of sys line → Turns sys most (last_look (opening_look sys) turns) x → IsLookOf sys w.blocks.items w.steps.items x.after
-    → Watches sys form steps (turns ++ x ∷ []) c.watched.number c.watched.text.items c.watched.is_excess)
+    (sys : System) (form : Form) (steps : ℕ) (takings : List Taking) (w : Walk) (b c : Ahead) (line : Line) (rest text : List ℕ) (step : Step) → c.text ≡ b.text → c.last ≡ b.last
+    → StandsAfter sys form steps takings w b.text.items b.last.items line rest text (Ok step)
+    → ((x : Taking) → x.first ≡ line_of sys line → IsTaking sys most (last_look (opening_look sys) takings) x → IsLookOf sys w.blocks.items w.steps.items x.after
+    → Watches sys form steps (takings ++ x ∷ []) c.watched.number c.watched.text.items c.watched.is_excess)
     → GoesAfter sys form steps w c (Some rest) text (Ok step)
-watched_step sys form steps turns w b c line rest text Taken one two after watched = (
+watched_step sys form steps takings w b c line rest text Taken one two after watched = (
   rest,
   refl,
   record {
-    turns = turns ++ after.turn ∷ [];
-    on = subst (λ (v : Vec ℕ). StandsOn sys form (turns ++ after.turn ∷ []) w c.text.items v.items rest text) (sym two)
-        (subst (λ (v : Vec ℕ). StandsOn sys form (turns ++ after.turn ∷ []) w v.items b.last.items rest text) (sym one) after.on);
-    watched = watched after.turn after.first_is after.turn_is
-        (subst (λ (k : Look). IsLookOf sys w.blocks.items w.steps.items k) (look_more (opening_look sys) turns after.turn) after.on.stands.look);
+    takings = takings ++ after.taking ∷ [];
+    on = subst (λ (v : Vec ℕ). StandsOn sys form (takings ++ after.taking ∷ []) w c.text.items v.items rest text) (sym two)
+        (subst (λ (v : Vec ℕ). StandsOn sys form (takings ++ after.taking ∷ []) w v.items b.last.items rest text) (sym one) after.on);
+    watched = watched after.taking after.first_is after.taking_is
+        (subst (λ (k : Look). IsLookOf sys w.blocks.items w.steps.items k) (look_more (opening_look sys) takings after.taking) after.on.stands.look);
   },
 )
-watched_step _ form steps turns w b c line rest text (Ended end) one two _ watched = tt
-watched_step _ form steps turns w b c line rest text CutOff one two _ watched = tt
+watched_step _ form steps takings w b c line rest text (Ended end) one two _ watched = tt
+watched_step _ form steps takings w b c line rest text CutOff one two _ watched = tt
 
 -- where what is left has another name
 pub goes_left :

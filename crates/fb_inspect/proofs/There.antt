@@ -34,7 +34,7 @@ use Rattle.fb_types.proofs.EventCounts.{event_block_narrow}
 use Rattle.fb_types.proofs.NameLaws.{any_from_contains, named-Contains}
 use Rattle.fb_laws.proofs.Declared.{IsDeclared, IsNetworkAt, kind-declared, network-declared}
 use Rattle.fb_system.specs.Networks.{AreNarrow}
-use Rattle.fb_inspect.specs.RunTurns.{AreThere, IsThere}
+use Rattle.fb_inspect.specs.RunTakings.{AreThere, IsThere}
 use Rattle.fb_inspect.specs.RunLines.{HasOutput, IsEventOf, IsEventPort}
 
 event_there : (o : Option Kind) (n : Name) → IsEventOf o n → (kind : Kind) × (o ≡ Some kind)

@@ -6,7 +6,7 @@ use Rattle.fb_types.specs.Values.{Values}
 use Rattle.fb_types.specs.EventBlocks.{Memory, Idle, Marks, Flag, Running, Count, Reaction, emits_if, reaction, expiry, started, counted, rendezvous, is}
 use Rattle.fb_types.specs.declared.event_kind.EventKind.{EventKind}
 use Rattle.fb_types.specs.declared.event_kind.EventKind.TheVariants.{Restart, Split, Merge, Rendezvous, Permit, Select, Switch, Delay, Cycle, SetReset, DataLatch, RisingEdge, FallingEdge, CountUp}
-use Rattle.fb_inspect.specs.RunTurns.{MayRun, RunsAfter}
+use Rattle.fb_inspect.specs.RunTakings.{MayRun, RunsAfter}
 
 -- there is a first one
 pub record AreSome (es : List Name) : Type 0 where

@@ -22,8 +22,8 @@ use Rattle.fb_types.proofs.EachLaws.{each_append}
 use Rattle.fb_types.proofs.KeyLaws.{same_key_from, same_key_is}
 use Rattle.fb_types.proofs.PathLaws.{same_path_is}
 use Rattle.fb_laws.proofs.Agendas.{Holds, holds_none, holds_or_else, holds_some}
-use Rattle.fb_inspect.specs.Looks.{Look, Seen, Turn, due_after}
-use Rattle.fb_inspect.specs.RunTurns.{AreThere, CanReact, IsThere, IsTurnOf, MayRun, RunsAfter, due_before}
+use Rattle.fb_inspect.specs.Looks.{Look, Seen, Taking, due_after}
+use Rattle.fb_inspect.specs.RunTakings.{AreThere, CanReact, IsTakingOf, IsThere, MayRun, RunsAfter, due_before}
 use Rattle.fb_inspect.proofs.TimerKept.{emits_some}
 
 -- The timer of an event block waits under its key, and the look says when it goes off.
@@ -135,8 +135,8 @@ found_holds {X} P j (e ∷ es) h = holds_or_else (P j) (found j es) (if same_key
 
 -- ---- After a taking
 
-module _ (sys : System) (k : Key) (event : AnEvent) (left more : ℕ) (look : Look) (o : Outcome) (x : Turn)
-    (turn : IsTurnOf sys k (path_of event) left more look (due_before look event) o x) (wait : MayWait sys look k event) (j : Key) where
+module _ (sys : System) (k : Key) (event : AnEvent) (left more : ℕ) (look : Look) (o : Outcome) (x : Taking)
+    (its : IsTakingOf sys k (path_of event) left more look (due_before look event) o x) (wait : MayWait sys look k event) (j : Key) where
   abbrev here : Path
   here = path_of event
 
@@ -149,7 +149,7 @@ module _ (sys : System) (k : Key) (event : AnEvent) (left more : ℕ) (look : Lo
   -- a timer of another block stays
   other_timer : (z : Path) → IsTimer sys look j z → same_path z here ≡ false → IsTimer sys x.after j z
   other_timer z h e =
-      let same : x.after.blocks z ≡ look.blocks z = turn.others z e in
+      let same : x.after.blocks z ≡ look.blocks z = its.others z e in
       record {
         kind = h.kind;
         kind_is = h.kind_is;
@@ -179,8 +179,8 @@ module _ (sys : System) (k : Key) (event : AnEvent) (left more : ℕ) (look : Lo
         kind = h.kind;
         kind_is = h.kind_is;
         key_is = h.key_is;
-        due = turn.due_is ∙ ap (λ (a : TimerAsk). due_after a (due_before look event)) keep ∙ kept_due event wait h other;
-        may = subst (RunsAfter h.kind (memory_of (look.blocks here).memory) (memory_of (x.after.blocks here).memory)) keep (turn.runs h.kind h.kind_is) h.may;
+        due = its.due_is ∙ ap (λ (a : TimerAsk). due_after a (due_before look event)) keep ∙ kept_due event wait h other;
+        may = subst (RunsAfter h.kind (memory_of (look.blocks here).memory) (memory_of (x.after.blocks here).memory)) keep (its.runs h.kind h.kind_is) h.may;
       }
 
   -- an event that waited, and was not taken, waits still, but for a timer of the block
@@ -220,7 +220,7 @@ module _ (sys : System) (k : Key) (event : AnEvent) (left more : ℕ) (look : Lo
   set t at e =
       let key : timer_key t k.resource (sys.number here) ≡ j = same_key_is (timer_key t k.resource (sys.number here)) j e in
       let tick : t ≡ j.tick = ap (λ (z : Key). z.tick) key in
-      by turn.asks
+      by its.asks
     where
       kept_or_at : Keep ≡ At t → ⊥
       kept_or_at same = cc
@@ -234,8 +234,8 @@ module _ (sys : System) (k : Key) (event : AnEvent) (left more : ℕ) (look : Lo
             kind = kind.0;
             kind_is = kind.1;
             key_is = sym key ∙ ap (λ (r : ℕ). timer_key t r (sys.number here)) home ∙ ap (λ (n : ℕ). timer_key n (sys.resource here) (sys.number here)) tick;
-            due = turn.due_is ∙ ap (λ (a : TimerAsk). due_after a (due_before look event)) at ∙ ap (λ (n : ℕ). Some n) tick;
-            may = subst (RunsAfter kind.0 (memory_of (look.blocks here).memory) (memory_of (x.after.blocks here).memory)) at (turn.runs kind.0 kind.1);
+            due = its.due_is ∙ ap (λ (a : TimerAsk). due_after a (due_before look event)) at ∙ ap (λ (n : ℕ). Some n) tick;
+            may = subst (RunsAfter kind.0 (memory_of (look.blocks here).memory) (memory_of (x.after.blocks here).memory)) at (its.runs kind.0 kind.1);
           }
 
   changed : (a : Agenda) → Holds (MayWait sys look j) (a j) → (ask : TimerAsk) → o.timer ≡ ask → Holds P (changed_to (timer_change sys k.resource here ask j) (without k a j))

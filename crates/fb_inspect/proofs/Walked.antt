@@ -40,11 +40,11 @@ use Rattle.fb_coverage.specs.declared.marks.Marks.{Marks}
 use Rattle.fb_inspect.specs.Chains.{Piece, ShowsReaction}
 use Rattle.fb_inspect.specs.Charting.{ChartGoes, IsChartOf, IsChartTaking, place, sys_of}
 use Rattle.fb_inspect.specs.Counted.{left_of}
-use Rattle.fb_inspect.specs.Looks.{BlockTurns, ChartTurns, Left, Look, Seen, TimerTurns, Turn, Turns, TurnsAt, TurnsWith, emissions_by, emits_pieces, left_at, memory_pieces, pieces_text, reacted, turn_text, with_left, with_seen}
-use Rattle.fb_inspect.specs.Markings.{ChartMarked, PiecesMark, TurnMarks, TurnMarksAt, event_number}
+use Rattle.fb_inspect.specs.Looks.{IsTaking, IsTakingAt, IsTakingByBlock, IsTakingByChart, IsTakingByTimer, IsTakingWith, Left, Look, Seen, Taking, emissions_by, emits_pieces, left_at, memory_pieces, pieces_text, reacted, taking_text, with_left, with_seen}
+use Rattle.fb_inspect.specs.Markings.{ChartMarked, PiecesMark, TakingMarks, TakingMarksAt, event_number}
 use Rattle.fb_inspect.specs.Moves.{Goes, StaysAlone, shown_text}
 use Rattle.fb_inspect.specs.Timing.{BlockGoes, IsBlockKept, IsBlockLine, TimerGoes, taken_reaction, taken_variables, timer_reaction}
-use Rattle.fb_inspect.specs.Walking.{AreKept, CanReact, HasStepped, IsChartKept, IsKept, IsLookOf, KeptGoes, ReactGoes, TurnGoes, flag_at, with_steps}
+use Rattle.fb_inspect.specs.Walking.{AreKept, CanReact, HasStepped, IsChartKept, IsKept, IsLookOf, KeptGoes, ReactGoes, WalkTakes, flag_at, with_steps}
 use Rattle.fb_inspect.specs.declared.blocks.Chart.{Chart}
 use Rattle.fb_inspect.specs.declared.blocks.EventBlock.{EventBlock}
 use Rattle.fb_inspect.specs.declared.blocks.Remembered.{Remembered}
@@ -118,12 +118,12 @@ module _ (sys : System) (form : Form) (line : Line) where
   abbrev first : model.Line
   first = line_of sys line
 
-  turn_goes :
+  walk_takes :
       (a y z : Trail) (ls : List Line) (ps : List Piece) (l k j : Option (List ℕ))
       → Goes sys form line.key.tick (line ∷ []) (shown_text a.is_shown (line_text form sys first)) a y l k
       → Goes sys form line.key.tick ls (shown_text y.is_shown (pieces_text form sys first ps)) y z k j
       → Goes sys form line.key.tick (line ∷ ls) (shown_text a.is_shown (line_text form sys first ++ pieces_text form sys first ps)) a z l j
-  turn_goes a y z ls ps l k j passed goes =
+  walk_takes a y z ls ps l k j passed goes =
       goes_as sys form line.key.tick a z (line ∷ ls) _ _ l j
       (ap (λ (v : Bool). shown_text a.is_shown (line_text form sys first) ++ shown_text v (pieces_text form sys first ps)) passed.kept
       ∙ sym (shown-append a.is_shown (line_text form sys first) (pieces_text form sys first ps)))
@@ -193,7 +193,7 @@ module _ (x : ChartTaking) (look : Look) (c d : Chart) (left steps : ℕ) (stop 
       let after_seen : Seen = record before { memory = model.InState end.state; variables = end.vars } in
       let here = taken_is (sys_of x) basic.ports line taking.taken (ports-of_kind (sys_of x) path (Basic basic) taking.kind) in
       let marked_trail : Trail = record y { marks = record (y.marks) { charts = m } } in
-      let it : Turn = record {
+      let it : Taking = record {
         first = line_of (sys_of x) line;
         emits = goes.emits;
         pieces = goes.pieces;
@@ -214,7 +214,7 @@ module _ (x : ChartTaking) (look : Look) (c d : Chart) (left steps : ℕ) (stop 
         pieces = subst (λ (e : ℕ). PiecesMark basic x.number e goes.pieces (with_taken x.number e a.marks.charts) z.marks.charts) (sym numbered)
             (subst (λ (n : ChartMarks). PiecesMark basic x.number line.event goes.pieces n z.marks.charts) (taken_marked ∙ ap (with_taken x.number line.event) charts_are) goes.marked);
       } in
-      let turns : ChartTurns left look basic it = record {
+      let is_taking : IsTakingByChart left look basic it = record {
         taken = taking.taken;
         end = end;
         shown = subst (λ (e : Name). ShowsReaction basic e started stop end goes.pieces) (ap (λ (m : model.Line). m.event) (sym here))
@@ -223,20 +223,20 @@ module _ (x : ChartTaking) (look : Look) (c d : Chart) (left steps : ℕ) (stop 
         is = refl;
       } in
       record {
-        turn = it;
+        taking = it;
         first_is = refl;
         stop_is = refl;
-        turns = subst (λ (o : Option Kind). TurnsAt left look o it) (sym taking.kind) turns;
+        is_taking = subst (λ (o : Option Kind). IsTakingAt left look o it) (sym taking.kind) is_taking;
         kept = subst (λ (v : Seen). IsKept ((sys_of x).kind path) (kept.Basic d) v) (sym (seen_here path after_seen (with_left line.key steps look)))
             (subst (λ (o : Option Kind). IsKept o (kept.Basic d) after_seen) (sym taking.kind) chart_kept);
         others = λ q apart. seen_there path q after_seen (with_left line.key steps look) apart;
         steps_are = refl;
         lines = line ∷ goes.lines;
         lines_are = ap (λ (ls : List model.Line). line_of (sys_of x) line ∷ ls) goes.are;
-        goes = turn_goes (sys_of x) x.fixed.form line a y z goes.lines goes.pieces l k j passed
+        goes = walk_takes (sys_of x) x.fixed.form line a y z goes.lines goes.pieces l k j passed
             (goes_same (sys_of x) x.fixed.form line.key.tick goes.lines (shown_text y.is_shown (pieces_text x.fixed.form (sys_of x) (line_of (sys_of x) line) goes.pieces)) marked_trail y z k j
             (aside y marked_trail refl refl refl refl) refl refl goes.goes);
-        marked = subst (λ (o : Option Kind). TurnMarksAt x.fixed.table.now.system.now.library.blocks o it a.marks.charts z.marks.charts) (sym taking.kind) marked;
+        marked = subst (λ (o : Option Kind). TakingMarksAt x.fixed.table.now.system.now.library.blocks o it a.marks.charts z.marks.charts) (sym taking.kind) marked;
         alone = λ alone. goes.alone (stays alone);
       }
 
@@ -268,26 +268,26 @@ module _ (types : List BlockType) (sys : System) (form : Form) (look : Look) (le
       let after_seen : Seen = reacted was r (taken_variables sys was own) was.due in
       let outs : List Emission = emissions_by b.state.kind r in
       let ps : List Piece = memory_pieces was after_seen ++ emits_pieces outs in
-      let it : Turn = record {
+      let it : Taking = record {
         first = line_of sys own;
         emits = outs;
         pieces = ps;
         stop = None;
         after = with_seen there after_seen (with_left own.key left look);
       } in
-      let turns : BlockTurns left look b.state.kind it = record { taken = taken; goes_on = refl; is = (refl, refl, refl) } in
+      let is_taking : IsTakingByBlock left look b.state.kind it = record { taken = taken; goes_on = refl; is = (refl, refl, refl) } in
       record {
-        turn = it;
+        taking = it;
         first_is = refl;
         stop_is = refl;
-        turns = subst (λ (o : Option Kind). TurnsAt left look o it) (sym kind_is) (inl turns);
+        is_taking = subst (λ (o : Option Kind). IsTakingAt left look o it) (sym kind_is) (inl is_taking);
         kept = kept_then after_seen goes.kept;
         others = λ q apart. seen_there there q after_seen (with_left own.key left look) apart;
         steps_are = refl;
         lines = own ∷ goes.lines;
         lines_are = ap (λ (ls : List model.Line). line_of sys own ∷ ls) goes.are;
-        goes = turn_goes sys form own a y z goes.lines ps l k j passed goes.goes;
-        marked = subst (λ (o : Option Kind). TurnMarksAt types o it a.marks.charts z.marks.charts) (sym kind_is) charts_are;
+        goes = walk_takes sys form own a y z goes.lines ps l k j passed goes.goes;
+        marked = subst (λ (o : Option Kind). TakingMarksAt types o it a.marks.charts z.marks.charts) (sym kind_is) charts_are;
         alone = λ alone. goes.alone (stays alone);
       }
 
@@ -297,26 +297,26 @@ module _ (types : List BlockType) (sys : System) (form : Form) (look : Look) (le
   expired_goes a z l j charts_are goes =
       let r = timer_reaction b.state.kind was own in
       let after_seen : Seen = reacted was r was.variables None in
-      let it : Turn = record {
+      let it : Taking = record {
         first = line_of sys own;
         emits = [];
         pieces = memory_pieces was after_seen ++ [];
         stop = None;
         after = with_seen there after_seen (with_left own.key left look);
       } in
-      let turns : TimerTurns left look b.state.kind it = record { emitted = goes.emitted; due = goes.due; goes_on = refl; is = (goes.only, refl, refl) } in
+      let is_taking : IsTakingByTimer left look b.state.kind it = record { emitted = goes.emitted; due = goes.due; goes_on = refl; is = (goes.only, refl, refl) } in
       record {
-        turn = it;
+        taking = it;
         first_is = refl;
         stop_is = refl;
-        turns = subst (λ (o : Option Kind). TurnsAt left look o it) (sym kind_is) (inr turns);
+        is_taking = subst (λ (o : Option Kind). IsTakingAt left look o it) (sym kind_is) (inr is_taking);
         kept = kept_then after_seen goes.kept;
         others = λ q apart. seen_there there q after_seen (with_left own.key left look) apart;
         steps_are = refl;
         lines = own ∷ [];
         lines_are = refl;
         goes = goes.goes;
-        marked = subst (λ (o : Option Kind). TurnMarksAt types o it a.marks.charts z.marks.charts) (sym kind_is) charts_are;
+        marked = subst (λ (o : Option Kind). TakingMarksAt types o it a.marks.charts z.marks.charts) (sym kind_is) charts_are;
         alone = goes.alone;
       }
 
@@ -331,19 +331,19 @@ pub composite_goes :
 composite_goes types sys form look left line a y l j charts_are is passed stays =
     let p : Path = path_at sys line.instance in
     let one = kept_composite (sys.kind p) (look.blocks p) is in
-    let it : Turn = record { first = line_of sys line; emits = []; pieces = []; stop = None; after = with_left line.key left look } in
+    let it : Taking = record { first = line_of sys line; emits = []; pieces = []; stop = None; after = with_left line.key left look } in
     record {
-      turn = it;
+      taking = it;
       first_is = refl;
       stop_is = refl;
-      turns = subst (λ (o : Option Kind). TurnsAt left look o it) (sym one.1) (record { none = refl; silent = refl; goes_on = refl; is = refl });
+      is_taking = subst (λ (o : Option Kind). IsTakingAt left look o it) (sym one.1) (record { none = refl; silent = refl; goes_on = refl; is = refl });
       kept = is;
       others = λ q apart. refl;
       steps_are = refl;
       lines = line ∷ [];
       lines_are = refl;
       goes = goes_as sys form line.key.tick a y (line ∷ []) _ _ l j (ap (shown_text a.is_shown) (sym (append-nil (line_text form sys (line_of sys line))))) passed;
-      marked = subst (λ (o : Option Kind). TurnMarksAt types o it a.marks.charts y.marks.charts) (sym one.1) charts_are;
+      marked = subst (λ (o : Option Kind). TakingMarksAt types o it a.marks.charts y.marks.charts) (sym one.1) charts_are;
       alone = stays;
     }
 
@@ -445,31 +445,31 @@ module _ (sys : System) (limit : ℕ) (key : Key) (look done : Look) (old mid ne
 -- ---- One taking
 
 module _ (types : List BlockType) (sys : System) (form : Form) (limit : ℕ) (look : Look) (numbered : (i : ℕ) → i < length sys.paths → sys.number (path_at sys i) ≡ i) where
-  turns_at :
-      (key : Key) (p : Path) (left : ℕ) (x : Turn) → x.first.key ≡ key → x.first.at ≡ p → left_at limit key.tick (look.steps key.resource) ≡ suc left → key.tick ≤ 10 ^ 12
-      → TurnsAt left look (sys.kind p) x → Turns sys limit look x
-  turns_at key p left x key_is at_is used early turns =
-      subst (λ (n : ℕ). TurnsWith sys look n x) (sym (ap (λ (k : Key). left_at limit k.tick (look.steps k.resource)) key_is ∙ used))
-      (subst (λ (k : Key). k.tick ≤ 10 ^ 12) (sym key_is) early, subst (λ (q : Path). TurnsAt left look (sys.kind q) x) (sym at_is) turns)
+  takings_at :
+      (key : Key) (p : Path) (left : ℕ) (x : Taking) → x.first.key ≡ key → x.first.at ≡ p → left_at limit key.tick (look.steps key.resource) ≡ suc left → key.tick ≤ 10 ^ 12
+      → IsTakingAt left look (sys.kind p) x → IsTaking sys limit look x
+  takings_at key p left x key_is at_is used early is_taking =
+      subst (λ (n : ℕ). IsTakingWith sys look n x) (sym (ap (λ (k : Key). left_at limit k.tick (look.steps k.resource)) key_is ∙ used))
+      (subst (λ (k : Key). k.tick ≤ 10 ^ 12) (sym key_is) early, subst (λ (q : Path). IsTakingAt left look (sys.kind q) x) (sym at_is) is_taking)
 
-  pub turn_taken :
+  pub taking_gone :
       (line : Line) (stop : Option Reason) (old mid new : Walk) (remaining rest : Option (List ℕ)) → line.instance < length sys.paths
       → IsLookOf sys old.blocks.items old.steps.items look → line.key.tick ≤ 10 ^ 12 → HasStepped limit line.key old.steps.items mid.steps.items
       → mid.blocks.items ≡ old.blocks.items → mid.shown ≡ old.shown → mid.trail.marks ≡ old.trail.marks → mid.trail.passed ≡ old.trail.passed → mid.trail.is_shown ≡ flag_at old.shown.items line.instance
       → mid.trail.reading.line.items ≡ old.trail.reading.line.items → mid.trail.page.text.items ≡ old.trail.page.text.items → mid.trail.reading.number ≡ old.trail.reading.number
-      → ReactGoes types sys form look line stop mid new remaining rest → TurnGoes types sys form limit look line stop old new remaining rest
-  turn_taken line stop old mid new remaining rest within look_is early stepped blocks_same shown_same marks_same passed_same flag line_same text_same number_same goes =
-      let x = goes.goes.turn in
+      → ReactGoes types sys form look line stop mid new remaining rest → WalkTakes types sys form limit look line stop old new remaining rest
+  taking_gone line stop old mid new remaining rest within look_is early stepped blocks_same shown_same marks_same passed_same flag line_same text_same number_same goes =
+      let x = goes.goes.taking in
       let mine : goes.own ≡ stepped.after =
       own_is sys limit line.key look x.after old.steps.items mid.steps.items new.steps.items stepped goes.own goes.stood goes.left goes.steps_are goes.goes.steps_are in
       let used : left_at limit line.key.tick (look.steps line.key.resource) ≡ suc goes.own.meter.left =
       ap (left_at limit line.key.tick) (look_is.lefts line.key.resource stepped.before stepped.stood) ∙ stepped.used ∙ ap (λ (o : TickSteps). suc o.meter.left) (sym mine) in
       record {
-        turn = x;
+        taking = x;
         first_is = goes.goes.first_is;
         stop_is = goes.goes.stop_is;
-        turns = turns_at line.key (path_at sys line.instance) goes.own.meter.left x (ap (λ (m : model.Line). m.key) goes.goes.first_is) (ap (λ (m : model.Line). m.at) goes.goes.first_is) used early
-            goes.goes.turns;
+        is_taking = takings_at line.key (path_at sys line.instance) goes.own.meter.left x (ap (λ (m : model.Line). m.key) goes.goes.first_is) (ap (λ (m : model.Line). m.at) goes.goes.first_is) used early
+            goes.goes.is_taking;
         look_after = record {
           are = kept_after sys numbered old.blocks.items new.blocks.items look x.after line.instance goes.block within
               (goes.blocks_are ∙ ap (λ (l : List Remembered). slice_set l line.instance goes.block) blocks_same) look_is.are goes.goes.kept goes.goes.others;
@@ -479,9 +479,9 @@ module _ (types : List BlockType) (sys : System) (form : Form) (limit : ℕ) (lo
         shown_are = goes.shown_are ∙ shown_same;
         lines = goes.goes.lines;
         lines_are = goes.goes.lines_are;
-        goes = goes_same sys form line.key.tick goes.goes.lines (shown_text (flag_at old.shown.items line.instance) (turn_text form sys x)) mid.trail
+        goes = goes_same sys form line.key.tick goes.goes.lines (shown_text (flag_at old.shown.items line.instance) (taking_text form sys x)) mid.trail
             (record (old.trail) { is_shown = flag_at old.shown.items line.instance }) new.trail remaining rest
             (aside (record (old.trail) { is_shown = flag_at old.shown.items line.instance }) mid.trail flag (ap (λ (m : Marks). m.ports) marks_same) passed_same number_same) line_same text_same
-            (goes_as sys form line.key.tick mid.trail new.trail goes.goes.lines _ _ remaining rest (ap (λ (b : Bool). shown_text b (turn_text form sys x)) flag) goes.goes.goes);
-        marked = subst (λ (m : Marks). TurnMarks types sys x m.charts new.trail.marks.charts) marks_same goes.goes.marked;
+            (goes_as sys form line.key.tick mid.trail new.trail goes.goes.lines _ _ remaining rest (ap (λ (b : Bool). shown_text b (taking_text form sys x)) flag) goes.goes.goes);
+        marked = subst (λ (m : Marks). TakingMarks types sys x m.charts new.trail.marks.charts) marks_same goes.goes.marked;
       }

@@ -23,8 +23,8 @@ use Rattle.fb_wave.specs.Waves.{RiseFrom}
 use Rattle.fb_coverage.specs.Sets.{with_taken}
 use Rattle.fb_coverage.specs.declared.marks.ChartMarks.{ChartMarks}
 use Rattle.fb_inspect.specs.Inspections.{AreTaken, NoneStops}
-use Rattle.fb_inspect.specs.Looks.{Look, Turn, turn_lines}
-use Rattle.fb_inspect.specs.Markings.{TurnMarksAt, event_number}
+use Rattle.fb_inspect.specs.Looks.{Look, Taking, taking_lines}
+use Rattle.fb_inspect.specs.Markings.{TakingMarksAt, event_number}
 use Rattle.fb_inspect.specs.Moves.{HavePassed, IsLineAt, lines_kept}
 use Rattle.fb_inspect.specs.Pages.{IsFlushed}
 use Rattle.fb_inspect.specs.declared.page.Page.{Page}
@@ -33,21 +33,21 @@ use Rattle.fb_inspect.proofs.Gone.{each_of, none_more, rise_more}
 use Rattle.fb_inspect.proofs.Moving.{lines-append}
 use Rattle.fb_inspect.specs.Dumping.{Shows}
 use Rattle.fb_inspect.specs.Inner.{is_loss}
-use Rattle.fb_inspect.specs.StateDumps.{HaveLines, Taken, lines_of, turns_of}
+use Rattle.fb_inspect.specs.StateDumps.{HaveLines, Taken, lines_of, takings_of}
 use Rattle.fb_inspect.specs.Waving.{HasWaved, IsWaved, TakingGoes, WaveStarts}
 use Rattle.fb_inspect.specs.declared.state_wave.StateWave.{StateWave}
 use Rattle.fb_inspect.proofs.Changing.{lost_by}
-use Rattle.fb_inspect.proofs.Growing.{lines-one, turns-one}
+use Rattle.fb_inspect.proofs.Growing.{lines-one, takings-one}
 use Rattle.fb_inspect.proofs.Without.{last_lines}
 
 -- ---- One more taking
 
-have_more : (sys : System) (xs : List Taken) (y : Taken) → HaveLines sys xs → map (line_of sys) y.lines ≡ turn_lines y.turn → HaveLines sys (xs ++ y ∷ [])
+have_more : (sys : System) (xs : List Taken) (y : Taken) → HaveLines sys xs → map (line_of sys) y.lines ≡ taking_lines y.taking → HaveLines sys (xs ++ y ∷ [])
 have_more sys [] y have is = (is, tt)
 have_more sys (x ∷ xs) y have is = (have.0, have_more sys xs y have.1 is)
 
-pub stops_more : (xs : List Taken) (y : Taken) → NoneStops (turns_of xs) → y.turn.stop ≡ None → NoneStops (turns_of (xs ++ y ∷ []))
-stops_more xs y none stop = subst NoneStops (sym (turns-one xs y)) (none_more (turns_of xs) y.turn none stop)
+pub stops_more : (xs : List Taken) (y : Taken) → NoneStops (takings_of xs) → y.taking.stop ≡ None → NoneStops (takings_of (xs ++ y ∷ []))
+stops_more xs y none stop = subst NoneStops (sym (takings-one xs y)) (none_more (takings_of xs) y.taking none stop)
 
 -- ---- A taking
 
@@ -58,10 +58,10 @@ passed_are ls old new kept none passed =
 
 -- .. and what is marked says whether it lost its event
 pub lost_is :
-    (types : List BlockType) (k : Option Kind) (x : Turn) (m n : ChartMarks) (t : BasicType) → TurnMarksAt types k x m n → k ≡ Some (Basic t) → m.lost ≡ false
+    (types : List BlockType) (k : Option Kind) (x : Taking) (m n : ChartMarks) (t : BasicType) → TakingMarksAt types k x m n → k ≡ Some (Basic t) → m.lost ≡ false
     → list_any is_loss x.pieces ≡ n.lost
 lost_is types k x m n t marks is none =
-    let chart = subst (λ (o : Option Kind). TurnMarksAt types o x m n) is marks in
+    let chart = subst (λ (o : Option Kind). TakingMarksAt types o x m n) is marks in
     let all = lost_by t chart.number (event_number t x.first.event) x.pieces (with_taken chart.number (event_number t x.first.event) m) n chart.pieces in
     sym (all ∙ ap (λ (b : Bool). b || list_any is_loss x.pieces) none)
 
@@ -103,10 +103,10 @@ module _ (sys : System) (form : Form) (steps : ℕ) where
     pub last_is : last_tick 0 (lines_of (xs ++ goes.taken ∷ [])) ≡ line.key.tick
     last_is =
         ap (last_tick 0) (lines-one xs goes.taken)
-        ∙ last_lines sys 0 (lines_of xs) goes.taken.lines goes.taken.turn.first goes.taken.turn.emits goes.lines_are
+        ∙ last_lines sys 0 (lines_of xs) goes.taken.lines goes.taken.taking.first goes.taken.taking.emits goes.lines_are
         ∙ ap (λ (m : model.Line). m.key.tick) goes.first_is
 
-    pub waved_more : AreTaken sys steps (turns_of (xs ++ goes.taken ∷ [])) → IsWaved sys form steps y y.walk.trail.reading.line.items (xs ++ goes.taken ∷ []) input rest old mid
+    pub waved_more : AreTaken sys steps (takings_of (xs ++ goes.taken ∷ [])) → IsWaved sys form steps y y.walk.trail.reading.line.items (xs ++ goes.taken ∷ []) input rest old mid
     waved_more taken =
         let one : lines_of (xs ++ goes.taken ∷ []) ≡ lines_of xs ++ goes.taken.lines = lines-one xs goes.taken in
         let L : List ℕ = lines_text form sys (map (line_of sys) (lines_of xs)) in

@@ -13,7 +13,7 @@ use Rattle.fb_wave.specs.CutOff.{cut_comment}
 use Rattle.fb_wave.specs.Dumps.{end_text, last_tick, tick_changes, ticks_text}
 use Rattle.fb_wave.specs.Scopes.{closed, head_text, instances_begun, instances_declared, opened, own_name, ports_declared, resources_declared}
 use Rattle.fb_wave.specs.Signals.{size_of}
-use Rattle.fb_inspect.specs.Looks.{Look, emission_line, opening_look, turn_lines}
+use Rattle.fb_inspect.specs.Looks.{Look, emission_line, opening_look, taking_lines}
 use Rattle.fb_inspect.specs.Heads.{insides_begun, instances_opened, resources_opened, state_head}
 use Rattle.fb_inspect.specs.StateLaws.{AddsOnlyStates}
 use Rattle.fb_inspect.specs.StateDumps.{HaveLines, Taken, lines_of, takings_text, tick_of}
@@ -122,30 +122,30 @@ ticks_next sys t before now (l ∷ ls) rest x es are other =
 
 abbrev take_text : System → (us : List Line) → (t : ℕ) → (before now : List Line) → Taken → (rest : List Taken) → Bool → List ℕ
 take_text sys us t before now x xs b =
-    cond b (takings_text false sys us t before (now ++ x.lines) x.turn.after xs)
-    (((tick_changes sys before now ++ time_text t (tick_of x)) ++ []) ++ takings_text false sys us (tick_of x) (before ++ now) x.lines x.turn.after xs)
+    cond b (takings_text false sys us t before (now ++ x.lines) x.taking.after xs)
+    (((tick_changes sys before now ++ time_text t (tick_of x)) ++ []) ++ takings_text false sys us (tick_of x) (before ++ now) x.lines x.taking.after xs)
 
 taking_same :
-    (sys : System) (us : List Line) (t : ℕ) (before now : List Line) (x : Taken) (xs : List Taken) → map (line_of sys) x.lines ≡ turn_lines x.turn → ((tick_of x ≡ t) ⊎ (tick_of x ≡ t → ⊥))
-    → takings_text false sys us t before (now ++ x.lines) x.turn.after xs ≡ ticks_text sys t before (now ++ x.lines) (lines_of xs ++ us)
-    → takings_text false sys us (tick_of x) (before ++ now) x.lines x.turn.after xs ≡ ticks_text sys (tick_of x) (before ++ now) x.lines (lines_of xs ++ us)
+    (sys : System) (us : List Line) (t : ℕ) (before now : List Line) (x : Taken) (xs : List Taken) → map (line_of sys) x.lines ≡ taking_lines x.taking → ((tick_of x ≡ t) ⊎ (tick_of x ≡ t → ⊥))
+    → takings_text false sys us t before (now ++ x.lines) x.taking.after xs ≡ ticks_text sys t before (now ++ x.lines) (lines_of xs ++ us)
+    → takings_text false sys us (tick_of x) (before ++ now) x.lines x.taking.after xs ≡ ticks_text sys (tick_of x) (before ++ now) x.lines (lines_of xs ++ us)
     → take_text sys us t before now x xs (tick_of x == t) ≡ ticks_text sys t before now (x.lines ++ (lines_of xs ++ us))
 taking_same sys us t before now x xs have (inl same) here other =
     ap (take_text sys us t before now x xs) (eq-eqb (tick_of x) t same) ∙ here
-    ∙ sym (ticks_same sys t before now x.lines (lines_of xs ++ us) (subst (λ (k : ℕ). AreAt k x.lines) same (all_at sys x.lines x.turn.first x.turn.emits have)))
+    ∙ sym (ticks_same sys t before now x.lines (lines_of xs ++ us) (subst (λ (k : ℕ). AreAt k x.lines) same (all_at sys x.lines x.taking.first x.taking.emits have)))
 taking_same sys us t before now x xs have (inr differs) here other =
     ap (take_text sys us t before now x xs) (ne_eqb (tick_of x) t differs)
-    ∙ ap (λ (l : List ℕ). l ++ takings_text false sys us (tick_of x) (before ++ now) x.lines x.turn.after xs) (append-nil (tick_changes sys before now ++ time_text t (tick_of x)))
+    ∙ ap (λ (l : List ℕ). l ++ takings_text false sys us (tick_of x) (before ++ now) x.lines x.taking.after xs) (append-nil (tick_changes sys before now ++ time_text t (tick_of x)))
     ∙ ap (λ (l : List ℕ). (tick_changes sys before now ++ time_text t (tick_of x)) ++ l) other
-    ∙ sym (ticks_next sys t before now x.lines (lines_of xs ++ us) x.turn.first x.turn.emits have differs)
+    ∙ sym (ticks_next sys t before now x.lines (lines_of xs ++ us) x.taking.first x.taking.emits have differs)
 
 takings_same :
     (sys : System) (us : List Line) (t : ℕ) (before now : List Line) (look : Look) (xs : List Taken) → HaveLines sys xs
     → takings_text false sys us t before now look xs ≡ ticks_text sys t before now (lines_of xs ++ us)
 takings_same sys us t before now look [] have = refl
 takings_same sys us t before now look (x ∷ xs) have =
-    taking_same sys us t before now x xs have.0 (cases_eq (tick_of x) t) (takings_same sys us t before (now ++ x.lines) x.turn.after xs have.1)
-    (takings_same sys us (tick_of x) (before ++ now) x.lines x.turn.after xs have.1)
+    taking_same sys us t before now x xs have.0 (cases_eq (tick_of x) t) (takings_same sys us t before (now ++ x.lines) x.taking.after xs have.1)
+    (takings_same sys us (tick_of x) (before ++ now) x.lines x.taking.after xs have.1)
     ∙ ap (ticks_text sys t before now) (sym (append_assoc x.lines (lines_of xs) us))
 
 all_same : (sys : System) (us : List Line) (xs : List Taken) (ends : List ℕ) → HaveLines sys xs

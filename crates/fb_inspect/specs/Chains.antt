@@ -65,7 +65,7 @@ ShowsActs t (a ∷ others) (suc left) p stop q ps =
     ShowsPerform t a.algorithm (λ m stop q ps. ShowsEmission t a.output (λ n stop q ps. ShowsActs t others n.left n stop q ps) m stop q ps)
     (record p { left = left }) stop q ps
 
--- .. with all steps that are left
+-- what actions show, with all steps that are left
 abbrev pub Acting : BasicType → List Action → Showing
 Acting t actions p stop q ps = ShowsActs t actions p.left p stop q ps
 

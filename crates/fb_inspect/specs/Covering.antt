@@ -7,7 +7,7 @@ use Rattle.fb_wave.specs.declared.truncation.Cut.{Cut}
 use Rattle.fb_wave.specs.declared.truncation.Cut.TheVariants as cut
 use Rattle.fb_inspect.specs.Happenings.{AreMarkedBy, History}
 use Rattle.fb_inspect.specs.Inspections.{IsCutInspected, IsInspected}
-use Rattle.fb_inspect.specs.Markings.{TurnsMark, lines_marked}
+use Rattle.fb_inspect.specs.Markings.{TakingsMark, lines_marked}
 use Rattle.fb_inspect.specs.declared.walk.Extent.{Extent}
 use Rattle.fb_inspect.specs.declared.walk.Extent.TheVariants.{Whole, CutOff}
 
@@ -15,17 +15,18 @@ use Rattle.fb_inspect.specs.declared.walk.Extent.TheVariants.{Whole, CutOff}
 pub record IsCovered (i : Inputs) (only : List Name) (steps : ℕ) (text : List ℕ) (old new : Marks) : Type 0 where
   pub bytes : List ℕ
   pub inspected : IsInspected (system_of i) only steps text bytes
-  pub charts : TurnsMark i.library.blocks (system_of i) inspected.turns old.charts new.charts
+  pub charts : TakingsMark i.library.blocks (system_of i) inspected.takings old.charts new.charts
   pub ports : new.ports ≡ lines_marked inspected.lines old.ports
 
--- .. and it is cut off
+-- The text is a trace that is cut off and gone through, showing these instances or none, and what its takings cover
+-- is marked.
 pub record IsCutCovered (i : Inputs) (only : List Name) (text : List ℕ) (old new : Marks) : Type 0 where
   pub bytes : List ℕ
   pub inspected : IsCutInspected (system_of i) only text bytes
-  pub charts : TurnsMark i.library.blocks (system_of i) inspected.turns old.charts new.charts
+  pub charts : TakingsMark i.library.blocks (system_of i) inspected.takings old.charts new.charts
   pub ports : new.ports ≡ lines_marked inspected.lines old.ports
 
--- .. where a trace may be cut off or not
+-- A trace is gone through, as a whole or, where that is allowed, cut off, and what its takings cover is marked.
 abbrev pub IsCoveredBy : Cut → Inputs → (only : List Name) → (steps : ℕ) → (text : List ℕ) → (old new : Marks) → Extent → Type 0
 IsCoveredBy may i only steps text old new Whole = IsCovered i only steps text old new
 IsCoveredBy may i only steps text old new CutOff = (may ≡ cut.Allowed) × IsCutCovered i only text old new
@@ -35,12 +36,13 @@ IsCoveredBy may i only steps text old new CutOff = (may ≡ cut.Allowed) × IsCu
 -- A text is gone through by these takings: all of it, or as far as it goes where it is cut off.
 abbrev pub GoesBy : Cut → Inputs → (only : List Name) → (steps : ℕ) → (text : List ℕ) → History → Extent → Type 0
 GoesBy may i only steps text h Whole =
-    (bytes : List ℕ) × (inspected : IsInspected (system_of i) only steps text bytes) × (h ≡ record { turns = inspected.turns; lines = inspected.lines })
+    (bytes : List ℕ) × (inspected : IsInspected (system_of i) only steps text bytes) × (h ≡ record { takings = inspected.takings; lines = inspected.lines })
 GoesBy may i only steps text h CutOff =
     (may ≡ cut.Allowed) × (bytes : List ℕ) × (inspected : IsCutInspected (system_of i) only text bytes)
-    × (h ≡ record { turns = inspected.turns; lines = inspected.lines })
+    × (h ≡ record { takings = inspected.takings; lines = inspected.lines })
 
--- .. whatever is shown of it, and exactly what they do is marked next to what others did
+-- A text is gone through, whatever is shown of it, and exactly what its takings do is marked, next to what others
+-- did.
 pub record Covers (may : Cut) (i : Inputs) (steps : ℕ) (text : List ℕ) (old new : Marks) (extent : Extent) : Type 0 where
   pub only : List Name
   pub history : History

@@ -10,8 +10,8 @@ use Rattle.fb_wave.specs.Writing.{AreSignals}
 use Rattle.fb_inspect.specs.Inspections.{last_look}
 use Rattle.fb_inspect.specs.Looks.{opening_look}
 use Rattle.fb_inspect.specs.Heads.{state_head}
-use Rattle.fb_inspect.specs.Inner.{turn_changes}
-use Rattle.fb_inspect.specs.StateDumps.{Taken, lines_of, takings_text, tick_of, turns_of}
+use Rattle.fb_inspect.specs.Inner.{taking_changes}
+use Rattle.fb_inspect.specs.StateDumps.{Taken, lines_of, takings_of, takings_text, tick_of}
 use Rattle.fb_inspect.specs.declared.port_dump.PortDump.{PortDump}
 
 -- The signals are those of the system.
@@ -28,11 +28,11 @@ pub record Shows (sys : System) (xs : List Taken) (shown : List ℕ) (x : PortDu
   pub levels : AreLevels (sizes_of sys sys.paths) (fires_of sys (lines_of xs)) (has_signal sys (lines_of xs)) (touches_of sys now) x.signals.levels
   pub text :
       (us : List Line) (rest : List Taken)
-      → shown ++ takings_text true sys us x.tick before now (last_look (opening_look sys) (turns_of xs)) rest
+      → shown ++ takings_text true sys us x.tick before now (last_look (opening_look sys) (takings_of xs)) rest
       ≡ state_head true sys ++ takings_text true sys us 0 [] [] (opening_look sys) (xs ++ rest)
 
 -- The same where the next taking, or the next line without one, is of this tick.
-pub record IsTurned (sys : System) (xs : List Taken) (shown : List ℕ) (next : ℕ) (x : PortDump) : Type 0 where
+pub record ShowsUpTo (sys : System) (xs : List Taken) (shown : List ℕ) (next : ℕ) (x : PortDump) : Type 0 where
   pub before : List Line
   pub now : List Line
   pub parts : lines_of xs ≡ before ++ now
@@ -40,7 +40,7 @@ pub record IsTurned (sys : System) (xs : List Taken) (shown : List ℕ) (next : 
   pub levels : AreLevels (sizes_of sys sys.paths) (fires_of sys (lines_of xs)) (has_signal sys (lines_of xs)) (touches_of sys now) x.signals.levels
   pub text :
       (us : List Line) (y : Taken) (rest : List Taken) → tick_of y ≡ next
-      → shown ++ (turn_changes sys (last_look (opening_look sys) (turns_of xs)) y.turn ++ takings_text true sys us next before (now ++ y.lines) y.turn.after rest)
+      → shown ++ (taking_changes sys (last_look (opening_look sys) (takings_of xs)) y.taking ++ takings_text true sys us next before (now ++ y.lines) y.taking.after rest)
       ≡ state_head true sys ++ takings_text true sys us 0 [] [] (opening_look sys) (xs ++ y ∷ rest)
   pub untaken :
       (l : Line) (us : List Line) → l.key.tick ≡ next

@@ -12,7 +12,7 @@ use Rattle.fb_coverage.specs.declared.marks.ChartMarks.{ChartMarks}
 use Rattle.fb_coverage.specs.declared.marks.Marks.{Marks}
 use Rattle.fb_coverage.specs.declared.marks.PortMarks.{PortMarks}
 use Rattle.fb_inspect.specs.Chains.{Piece, Clears_by, Is_lost, Ran, Stops_by, Has, Emits}
-use Rattle.fb_inspect.specs.Looks.{Turn}
+use Rattle.fb_inspect.specs.Looks.{Taking}
 use Rattle.fb_inspect.specs.Markings.{IsFirstLike, algorithm_number, event_number, state_number}
 
 -- ---- What a piece of a reaction does
@@ -55,64 +55,64 @@ ClearsSome (Emits emission) = ⊥
 
 -- ---- What a taking does
 
-abbrev pub EntersState : BasicType → Turn → ℕ → Type 0
+abbrev pub EntersState : BasicType → Taking → ℕ → Type 0
 EntersState t x k = (p : Piece) × Contains x.pieces p × Enters t p k
 
-abbrev pub ClearsTransition : BasicType → Turn → ℕ → Type 0
+abbrev pub ClearsTransition : BasicType → Taking → ℕ → Type 0
 ClearsTransition t x k = (p : Piece) × Contains x.pieces p × Clears t p k
 
-abbrev pub RunsAlgorithm : BasicType → Turn → ℕ → Type 0
+abbrev pub RunsAlgorithm : BasicType → Taking → ℕ → Type 0
 RunsAlgorithm t x k = (p : Piece) × Contains x.pieces p × Runs t p k
 
-abbrev pub TakesEvent : BasicType → Turn → ℕ → Type 0
+abbrev pub TakesEvent : BasicType → Taking → ℕ → Type 0
 TakesEvent t x k = event_number t x.first.event ≡ k
 
 -- the event at an index is not lost: it clears a transition
-abbrev pub KeepsEvent : BasicType → Turn → ℕ → Type 0
+abbrev pub KeepsEvent : BasicType → Taking → ℕ → Type 0
 KeepsEvent t x k = (event_number t x.first.event ≡ k) × ((p : Piece) × Contains x.pieces p × ClearsSome p)
 
 -- A taking by a basic block of the declared type at an index does such a thing.
-abbrev pub Does : List BlockType → System → (BasicType → Turn → ℕ → Type 0) → Turn → (number part : ℕ) → Type 0
+abbrev pub Does : List BlockType → System → (BasicType → Taking → ℕ → Type 0) → Taking → (number part : ℕ) → Type 0
 Does blocks sys does x i k =
     (t : BasicType) × (slice_get blocks i ≡ Some (block.Basic t)) × (sys.kind x.first.at ≡ Some (Basic t)) × does t x k
 
 -- One of the takings does.
-abbrev pub Happens : List BlockType → System → (BasicType → Turn → ℕ → Type 0) → List Turn → (number part : ℕ) → Type 0
-Happens blocks sys does xs i k = (x : Turn) × Contains xs x × Does blocks sys does x i k
+abbrev pub Happens : List BlockType → System → (BasicType → Taking → ℕ → Type 0) → List Taking → (number part : ℕ) → Type 0
+Happens blocks sys does xs i k = (x : Taking) × Contains xs x × Does blocks sys does x i k
 
 -- the line is one of the event input of an instance, where it is taken, or of the event output
 abbrev pub IsOfPort : (taken : Bool) → run.Line → (instance event : ℕ) → Type 0
 IsOfPort taken l i k = (l.taken ≡ taken) × (l.instance ≡ i) × (l.event ≡ k)
 
--- .. and one of these lines is
+-- one of these lines is of the event input of an instance, where it is taken, or of the event output
 abbrev pub IsAtPort : (taken : Bool) → List run.Line → (instance event : ℕ) → Type 0
 IsAtPort taken ls i k = (l : run.Line) × Contains ls l × IsOfPort taken l i k
 
 -- ---- Marks
 
 -- Marks of charts are set exactly for what takings do, next to those that were set.
-pub record MarkCharts (blocks : List BlockType) (sys : System) (xs : List Turn) (old new : ChartMarks) : Type 0 where
+pub record MarkCharts (blocks : List BlockType) (sys : System) (xs : List Taking) (old new : ChartMarks) : Type 0 where
   pub states : AddsFlags (Happens blocks sys EntersState xs) old.states new.states
   pub transitions : AddsFlags (Happens blocks sys ClearsTransition xs) old.transitions new.transitions
   pub algorithms : AddsFlags (Happens blocks sys RunsAlgorithm xs) old.algorithms new.algorithms
   pub taken : AddsFlags (Happens blocks sys TakesEvent xs) old.taken new.taken
   pub clearing : AddsFlags (Happens blocks sys KeepsEvent xs) old.clearing new.clearing
 
--- .. and marks of ports for the lines
+-- Marks of ports are set exactly for these lines, next to those that were set.
 pub record MarkPorts (ls : List run.Line) (old new : PortMarks) : Type 0 where
   pub inputs : AddsFlags (IsAtPort true ls) old.inputs new.inputs
   pub outputs : AddsFlags (IsAtPort false ls) old.outputs new.outputs
 
 -- what is gone through: takings, and the lines that they give
 pub record History : Type 0 where
-  pub turns : List Turn
+  pub takings : List Taking
   pub lines : List run.Line
 
 pub record AreMarkedBy (i : Inputs) (h : History) (old new : Marks) : Type 0 where
-  pub charts : MarkCharts i.library.blocks (system_of i) h.turns old.charts new.charts
+  pub charts : MarkCharts i.library.blocks (system_of i) h.takings old.charts new.charts
   pub ports : MarkPorts h.lines old.ports new.ports
 
 -- one after the other
 abbrev pub together : List History → History
-together [] = record { turns = []; lines = [] }
-together (h ∷ hs) = record { turns = h.turns ++ (together hs).turns; lines = h.lines ++ (together hs).lines }
+together [] = record { takings = []; lines = [] }
+together (h ∷ hs) = record { takings = h.takings ++ (together hs).takings; lines = h.lines ++ (together hs).lines }

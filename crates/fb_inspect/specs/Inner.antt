@@ -14,7 +14,7 @@ use Rattle.fb_coverage.specs.Reports.{listed}
 use Rattle.fb_wave.specs.Changes.{in_bits, line, number_changed}
 use Rattle.fb_wave.specs.Scopes.{declares, variable_kind}
 use Rattle.fb_inspect.specs.Chains.{Piece, Clears_by, Is_lost, Ran, Stops_by, Has, Emits}
-use Rattle.fb_inspect.specs.Looks.{Look, Seen, Turn, opening_look}
+use Rattle.fb_inspect.specs.Looks.{Look, Seen, Taking, opening_look}
 
 -- How the signals of a basic instance are called in the dump, by its number: that of its state, those of its internal variables, by
 -- their indexes, and that of its lost events.
@@ -53,7 +53,7 @@ value_by code (value.Whole z) = number_changed (in_bits (value.Whole z)) code
 abbrev pub lost_fired : (instance : ℕ) → List ℕ
 lost_fired i = line (codes "1" ++ lost_code i)
 
--- .. where they are not what they were before
+-- the lines for a state that is not what it was before: none where it is
 abbrev pub state_change : (instance : ℕ) → (before after : Name) → List ℕ
 state_change i a b = if same_name b a then [] else state_changed i b
 
@@ -103,6 +103,6 @@ is_loss (Has m due) = false
 is_loss (Emits e) = false
 
 -- What a taking changes inside its block, from what was there before it to what is there after it.
-abbrev pub turn_changes : System → Look → Turn → List ℕ
-turn_changes sys look x =
+abbrev pub taking_changes : System → Look → Taking → List ℕ
+taking_changes sys look x =
     let p = x.first.at in of_chart (chart_changes (sys.number p) (look.blocks p) (x.after.blocks p) (list_any is_loss x.pieces)) (sys.kind p)

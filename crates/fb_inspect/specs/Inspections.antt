@@ -19,24 +19,24 @@ use Rattle.fb_wave.specs.Waves.{IsTraceOf}
 use Rattle.fb_wave.specs.declared.truncation.Cut.{Cut}
 use Rattle.fb_wave.specs.declared.truncation.Cut.TheVariants as cut
 pub use Rattle.fb_inspect.specs.Looks.{most}
-use Rattle.fb_inspect.specs.Looks.{Look, Turn, Turns, left_at, opening_look, turn_lines, turn_text}
+use Rattle.fb_inspect.specs.Looks.{IsTaking, Look, Taking, left_at, opening_look, taking_lines, taking_text}
 
 -- nothing is taken after a stop
-abbrev pub NothingAfter : Option Reason → List Turn → Type 0
+abbrev pub NothingAfter : Option Reason → List Taking → Type 0
 NothingAfter None xs = Unit {0}
 NothingAfter (Some r) xs = xs ≡ []
 
-abbrev pub AreTurns : System → (limit : ℕ) → Look → List Turn → Type 0
-AreTurns sys limit look [] = Unit {0}
-AreTurns sys limit look (x ∷ xs) = Turns sys limit look x × NothingAfter x.stop xs × AreTurns sys limit x.after xs
+abbrev pub AreTakings : System → (limit : ℕ) → Look → List Taking → Type 0
+AreTakings sys limit look [] = Unit {0}
+AreTakings sys limit look (x ∷ xs) = IsTaking sys limit look x × NothingAfter x.stop xs × AreTakings sys limit x.after xs
 
-abbrev pub last_look : Look → List Turn → Look
+abbrev pub last_look : Look → List Taking → Look
 last_look look [] = look
 last_look look (x ∷ xs) = last_look x.after xs
 
-abbrev pub all_lines : List Turn → List Line
+abbrev pub all_lines : List Taking → List Line
 all_lines [] = []
-all_lines (x ∷ xs) = turn_lines x ++ all_lines xs
+all_lines (x ∷ xs) = taking_lines x ++ all_lines xs
 
 -- ---- What is shown
 
@@ -56,19 +56,19 @@ abbrev pub is_kept : (only : List Name) → Path → Bool
 is_kept [] p = true
 is_kept (w ∷ ws) p = list_any (λ v. is_within v (path_text p)) (w ∷ ws)
 
-abbrev pub all_text : Form → System → (only : List Name) → List Turn → List ℕ
+abbrev pub all_text : Form → System → (only : List Name) → List Taking → List ℕ
 all_text form sys only [] = []
-all_text form sys only (x ∷ xs) = (if is_kept only x.first.at then turn_text form sys x else []) ++ all_text form sys only xs
+all_text form sys only (x ∷ xs) = (if is_kept only x.first.at then taking_text form sys x else []) ++ all_text form sys only xs
 
 -- ---- How a trace ends
 
 -- no taking stopped its resource
-abbrev pub NoneStops : List Turn → Type 0
+abbrev pub NoneStops : List Taking → Type 0
 NoneStops [] = Unit {0}
 NoneStops (x ∷ xs) = (x.stop ≡ None) × NoneStops xs
 
 -- how the last taking ends, and the resource and the tick that it is of
-abbrev pub stop_of : List Turn → Option Ending
+abbrev pub stop_of : List Taking → Option Ending
 stop_of [] = None
 stop_of (x ∷ []) = elim x.stop [ None ↦ None | Some r ↦ Some (AtStop x.first.key.tick x.first.key.resource r) ]
 stop_of (x ∷ y ∷ xs) = stop_of (y ∷ xs)
@@ -81,46 +81,46 @@ KeepSteps sys steps look = (r : ℕ) → r < length sys.resource_names → most 
 abbrev pub KeepsLimit : (steps tick resource : ℕ) → Look → Type 0
 KeepsLimit steps t r look = most ≤ left_at most t (look.steps r) + steps
 
--- .. and has in this tick what is left of them
+-- the look in which a resource has in this tick what is left of these steps
 abbrev pub limited : (steps tick resource : ℕ) → Look → Look
 limited steps t r look =
     record look { steps = with_at r (record { tick = Some t; left = (left_at most t (look.steps r) + steps) - most; least = (look.steps r).least }) look.steps }
 
 -- at most one taking, and that is of this resource in this tick
-abbrev pub IsOneOf : (tick resource : ℕ) → List Turn → Type 0
+abbrev pub IsOneOf : (tick resource : ℕ) → List Taking → Type 0
 IsOneOf t r [] = Unit {0}
 IsOneOf t r (x ∷ []) = (x.first.key.tick ≡ t) × (x.first.key.resource ≡ r)
 IsOneOf t r (x ∷ y ∷ xs) = ⊥
 
 -- Each resource has the greatest limit, and uses no more than these steps in a tick. But in the last taking, if that is of this resource in this
 -- tick, it has what is left there of these steps.
-pub record AreLimited (sys : System) (steps tick resource : ℕ) (xs : List Turn) : Type 0 where
-  pub before : List Turn
-  pub last : List Turn
+pub record AreLimited (sys : System) (steps tick resource : ℕ) (xs : List Taking) : Type 0 where
+  pub before : List Taking
+  pub last : List Taking
   pub parts : xs ≡ before ++ last
-  pub chain : AreTurns sys most (opening_look sys) before
+  pub chain : AreTakings sys most (opening_look sys) before
   pub goes_on : NoneStops before
   pub one : IsOneOf tick resource last
   pub kept : KeepSteps sys steps (last_look (opening_look sys) before)
   pub within : KeepsLimit steps tick resource (last_look (opening_look sys) before)
-  pub judged : AreTurns sys steps (limited steps tick resource (last_look (opening_look sys) before)) last
+  pub judged : AreTakings sys steps (limited steps tick resource (last_look (opening_look sys) before)) last
 
 -- no step is left, in that taking or after it
-abbrev pub RunsOut : (steps tick resource : ℕ) → Look → List Turn → Type 0
+abbrev pub RunsOut : (steps tick resource : ℕ) → Look → List Taking → Type 0
 RunsOut steps t r look [] = left_at steps t (look.steps r) ≡ 0
 RunsOut steps t r look (x ∷ xs) = (x.stop ≡ Some Steps) ⊎ ((x.stop ≡ None) × (left_at steps t (x.after.steps r) ≡ 0))
 
-pub record EndsBySteps (sys : System) (steps tick resource : ℕ) (xs : List Turn) : Type 0 where
+pub record EndsBySteps (sys : System) (steps tick resource : ℕ) (xs : List Taking) : Type 0 where
   pub limited_so : AreLimited sys steps tick resource xs
   pub runs_out : RunsOut steps tick resource (limited steps tick resource (last_look (opening_look sys) limited_so.before)) limited_so.last
 
 -- the last taking stopped its resource
-abbrev pub EndsByStop : System → List Turn → Ending → Type 0
-EndsByStop sys xs end = AreTurns sys most (opening_look sys) xs × (stop_of xs ≡ Some end)
+abbrev pub EndsByStop : System → List Taking → Ending → Type 0
+EndsByStop sys xs end = AreTakings sys most (opening_look sys) xs × (stop_of xs ≡ Some end)
 
 -- A trace that stops for its steps stops where these are used up in a tick. Another one may use up to the greatest limit.
-abbrev pub EndsSo : System → (steps : ℕ) → List Turn → Ending → Type 0
-EndsSo sys steps xs (AtHorizon h) = AreTurns sys most (opening_look sys) xs × NoneStops xs
+abbrev pub EndsSo : System → (steps : ℕ) → List Taking → Ending → Type 0
+EndsSo sys steps xs (AtHorizon h) = AreTakings sys most (opening_look sys) xs × NoneStops xs
 EndsSo sys steps xs (AtStop t r Steps) = EndsBySteps sys steps t r xs
 EndsSo sys steps xs (AtStop t r Divide) = EndsByStop sys xs (AtStop t r Divide)
 EndsSo sys steps xs (AtStop t r Range) = EndsByStop sys xs (AtStop t r Range)
@@ -131,10 +131,10 @@ pub record IsInspected (sys : System) (only : List Name) (steps : ℕ) (text byt
   pub lines : List run.Line
   pub end : Ending
   pub trace : IsTraceOf sys form text lines end
-  pub turns : List Turn
-  pub lines_are : map (line_of sys) lines ≡ all_lines turns
-  pub ends : EndsSo sys steps turns end
-  pub written : bytes ≡ all_text form sys only turns ++ last_line sys end
+  pub takings : List Taking
+  pub lines_are : map (line_of sys) lines ≡ all_lines takings
+  pub ends : EndsSo sys steps takings end
+  pub written : bytes ≡ all_text form sys only takings ++ last_line sys end
 
 -- ---- Traces that are cut off
 
@@ -165,11 +165,11 @@ pub record IsCutInspected (sys : System) (only : List Name) (text bytes : List �
   pub untaken : List run.Line
   pub trace : IsCutTrace sys form text (lines ++ untaken)
   pub of_one : AreOfOne sys untaken
-  pub turns : List Turn
-  pub lines_are : map (line_of sys) lines ≡ all_lines turns
-  pub chain : AreTurns sys most (opening_look sys) turns
-  pub goes_on : NoneStops turns
-  pub written : bytes ≡ all_text form sys only turns ++ (one_text form sys only untaken ++ cut_note)
+  pub takings : List Taking
+  pub lines_are : map (line_of sys) lines ≡ all_lines takings
+  pub chain : AreTakings sys most (opening_look sys) takings
+  pub goes_on : NoneStops takings
+  pub written : bytes ≡ all_text form sys only takings ++ (one_text form sys only untaken ++ cut_note)
 
 -- ---- Outcomes
 
@@ -179,7 +179,7 @@ pub record IsShown (sys : System) (only : List Name) (steps : ℕ) (text : List 
   pub inspected : IsInspected sys only steps text bytes
   pub got : Appends old new bytes
 
--- .. and it is cut off
+-- The text is cut off and gone through, and the writer got it with what is reported between its lines.
 pub record IsCutShown (sys : System) (only : List Name) (text : List ℕ) (old new : Option (List ℕ)) : Type 0 where
   pub bytes : List ℕ
   pub inspected : IsCutInspected sys only text bytes
@@ -191,9 +191,9 @@ IsShownBy cut.Refused sys only steps text old new = IsShown sys only steps text 
 IsShownBy cut.Allowed sys only steps text old new = IsShown sys only steps text old new ⊎ IsCutShown sys only text old new
 
 -- takings that may be those of a trace, as far as they go
-abbrev pub AreTaken : System → (steps : ℕ) → List Turn → Type 0
+abbrev pub AreTaken : System → (steps : ℕ) → List Taking → Type 0
 AreTaken sys steps xs =
-    AreTurns sys most (opening_look sys) xs ⊎ ((tick : ℕ) × (resource : ℕ) × AreLimited sys steps tick resource xs)
+    AreTakings sys most (opening_look sys) xs ⊎ ((tick : ℕ) × (resource : ℕ) × AreLimited sys steps tick resource xs)
 
 -- what is written after the takings: the last line, or that the trace is cut off
 abbrev pub IsEndText : Form → System → (only : List Name) → List ℕ → Type 0
@@ -203,11 +203,11 @@ IsEndText form sys only text =
 -- A writer got the first bytes of what is shown of takings that were gone through, and of what is written after them if that was read.
 pub record ShowsFront (sys : System) (only : List Name) (steps : ℕ) (old new : Option (List ℕ)) : Type 0 where
   pub form : Form
-  pub turns : List Turn
-  pub taken : AreTaken sys steps turns
+  pub takings : List Taking
+  pub taken : AreTaken sys steps takings
   pub last : List ℕ
   pub ends : (last ≡ []) ⊎ IsEndText form sys only last
   pub got : List ℕ
   pub rest : List ℕ
-  pub parts : all_text form sys only turns ++ last ≡ got ++ rest
+  pub parts : all_text form sys only takings ++ last ≡ got ++ rest
   pub appended : Appends old new got

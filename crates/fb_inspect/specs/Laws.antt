@@ -21,11 +21,11 @@ use Rattle.fb_wave.specs.Named.{HasNames}
 use Rattle.fb_coverage.specs.declared.marks.Marks.{Marks}
 use Rattle.fb_inspect.specs.Chains.{Piece, ShowsReaction}
 use Rattle.fb_inspect.specs.Happenings.{AreMarkedBy, History, together}
-use Rattle.fb_inspect.specs.Inspections.{AreTurns, EndsSo, all_lines, last_look}
-use Rattle.fb_inspect.specs.Looks.{Look, Turn, Turns, TurnsAt, most, opening_look}
+use Rattle.fb_inspect.specs.Inspections.{AreTakings, EndsSo, all_lines, last_look}
+use Rattle.fb_inspect.specs.Looks.{IsTaking, IsTakingAt, Look, Taking, most, opening_look}
 use Rattle.fb_inspect.specs.Refusals.{IsAccepted, IsWrongAt}
 use Rattle.fb_inspect.specs.RunLines.{HaveRoom}
-use Rattle.fb_inspect.specs.RunTurns.{BeginsSo, CanReact, GoesOn, IsSeenIn, IsTurnOf, MayHaveMore, due_before}
+use Rattle.fb_inspect.specs.RunTakings.{BeginsSo, CanReact, GoesOn, IsSeenIn, IsTakingOf, MayHaveMore, due_before}
 use Rattle.fb_inspect.specs.SameLines.{IsSameLine}
 
 -- ---- Lines
@@ -40,17 +40,17 @@ OneLine =
 
 -- What the blocks remember and its first line determine a taking.
 abbrev pub OneTaking : Type 0
-OneTaking = (sys : System) (limit : ℕ) (look : Look) (x y : Turn) → Turns sys limit look x → Turns sys limit look y → x.first ≡ y.first → x ≡ y
+OneTaking = (sys : System) (limit : ℕ) (look : Look) (x y : Taking) → IsTaking sys limit look x → IsTaking sys limit look y → x.first ≡ y.first → x ≡ y
 
 -- Each line of an event that an instance takes begins a taking.
 abbrev pub SomeTaking : Type 0
-SomeTaking = (left : ℕ) (look : Look) (k : Kind) (l : Line) → l.taken ≡ true → (x : Turn) × (x.first ≡ l) × TurnsAt left look (Some k) x
+SomeTaking = (left : ℕ) (look : Look) (k : Kind) (l : Line) → l.taken ≡ true → (x : Taking) × (x.first ≡ l) × IsTakingAt left look (Some k) x
 
 -- The lines determine the takings: those of a text begin with those of a text that it begins with.
 abbrev pub OneRow : Type 0
 OneRow =
-    (sys : System) (limit : ℕ) (look : Look) (xs ys : List Turn) (more : List Line) → AreTurns sys limit look xs → AreTurns sys limit look ys
-    → all_lines ys ≡ all_lines xs ++ more → (zs : List Turn) × (ys ≡ xs ++ zs) × (all_lines zs ≡ more)
+    (sys : System) (limit : ℕ) (look : Look) (xs ys : List Taking) (more : List Line) → AreTakings sys limit look xs → AreTakings sys limit look ys
+    → all_lines ys ≡ all_lines xs ++ more → (zs : List Taking) × (ys ≡ xs ++ zs) × (all_lines zs ≡ more)
 
 -- A reaction that does not run out of steps is the same with more of them, and it is shown alike.
 abbrev pub MoreSteps : Type 0
@@ -65,31 +65,31 @@ FewerSteps =
     → ShowsReaction t e (record p { left = p.left + more }) r u qs → (rest : List Emission) × (u.emitted ≡ q.emitted ++ rest)
 
 -- Each reaction of a run is a taking with the same lines, also where more steps are left, if it does not stop for them.
-abbrev pub ReactionsAreTurns : Type 0
-ReactionsAreTurns =
+abbrev pub ReactionsAreTakings : Type 0
+ReactionsAreTakings =
     (sys : System) (k : Key) (w : World) (event : AnEvent) (left more : ℕ) (look : Look) (o : Outcome) → IsSeenIn sys look w → CanReact sys look k event → Reacts sys k w event left o
-    → MayHaveMore more o.stop → (x : Turn) × IsTurnOf sys k (path_of event) left more look (due_before look event) o x
+    → MayHaveMore more o.stop → (x : Taking) × IsTakingOf sys k (path_of event) left more look (due_before look event) o x
 
 -- The takings of a run of what was accepted, to any horizon and with any limit, are those of a walk through its trace, which ends as the
 -- run.
-abbrev pub RunsAreTurns : Type 0
-RunsAreTurns =
+abbrev pub RunsAreTakings : Type 0
+RunsAreTakings =
     (i : Inputs) → AreAccepted i → (horizon limit : ℕ) → horizon ≤ 10 ^ 12 → limit ≤ most → (ts : List Taken) → IsSimulation (system_of i) (stimuli_of i) horizon limit ts
-    → (turns : List Turn) × (all_lines turns ≡ lines_of ts) × EndsSo (system_of i) limit turns (ending_of horizon ts)
+    → (takings : List Taking) × (all_lines takings ≡ lines_of ts) × EndsSo (system_of i) limit takings (ending_of horizon ts)
 
 -- Where the lines of a run begin with those of takings of a walk and the first line of one more, they go on with the emissions of that
 -- taking, or the run stops in them for its steps.
 abbrev pub RunsGoOn : Type 0
 RunsGoOn =
     (i : Inputs) → AreAccepted i → (horizon limit : ℕ) → horizon ≤ 10 ^ 12 → limit ≤ most → (ts : List Taken) → IsSimulation (system_of i) (stimuli_of i) horizon limit ts
-    → (xs : List Turn) (x : Turn) (more : List Line) → AreTurns (system_of i) most (opening_look (system_of i)) xs → Turns (system_of i) most (last_look (opening_look (system_of i)) xs) x
+    → (xs : List Taking) (x : Taking) (more : List Line) → AreTakings (system_of i) most (opening_look (system_of i)) xs → IsTaking (system_of i) most (last_look (opening_look (system_of i)) xs) x
     → lines_of ts ≡ all_lines xs ++ x.first ∷ more → GoesOn x more (ending_of horizon ts)
 
 -- Where the lines of a run go on after those of takings of a walk, the next one begins a taking.
 abbrev pub RunsBegin : Type 0
 RunsBegin =
     (i : Inputs) → AreAccepted i → (horizon limit : ℕ) → horizon ≤ 10 ^ 12 → limit ≤ most → (ts : List Taken) → IsSimulation (system_of i) (stimuli_of i) horizon limit ts
-    → (xs : List Turn) (l : Line) (more : List Line) → AreTurns (system_of i) most (opening_look (system_of i)) xs → lines_of ts ≡ all_lines xs ++ l ∷ more
+    → (xs : List Taking) (l : Line) (more : List Line) → AreTakings (system_of i) most (opening_look (system_of i)) xs → lines_of ts ≡ all_lines xs ++ l ∷ more
     → BeginsSo (system_of i) limit xs l (ending_of horizon ts)
 
 -- ---- What is accepted

@@ -18,7 +18,7 @@ pub mod Counted
 pub mod Markings
 pub mod Happenings
 pub mod Covering
-pub mod RunTurns
+pub mod RunTakings
 pub mod RunLines
 pub mod Laws
 pub mod Moves

@@ -130,7 +130,7 @@ emits_pieces es = map (λ e. Emits e) es
 -- ---- One taking
 
 -- A taking, by the lines that it gives: the first, and those after it. It goes from one look to another, and this is reported.
-pub record Turn : Type 0 where
+pub record Taking : Type 0 where
   pub first : Line
   pub emits : List Emission
   pub pieces : List Piece
@@ -138,7 +138,7 @@ pub record Turn : Type 0 where
   pub after : Look
 
 -- a basic block reacts: its variables WITH the event are what the line says
-pub record ChartTurns (left : ℕ) (look : Look) (t : BasicType) (x : Turn) : Type 0 where
+pub record IsTakingByChart (left : ℕ) (look : Look) (t : BasicType) (x : Taking) : Type 0 where
   pub taken : x.first.taken ≡ true
   pub end : Position
   pub shown :
@@ -162,7 +162,7 @@ abbrev pub emissions_by : EventKind → blocks.Reaction → List Emission
 emissions_by kind r = emissions (ports_of (Event kind)) (blocks.output_of r.memory) r.emits
 
 -- an event block reacts to an event
-pub record BlockTurns (left : ℕ) (look : Look) (kind : EventKind) (x : Turn) : Type 0 where
+pub record IsTakingByBlock (left : ℕ) (look : Look) (kind : EventKind) (x : Taking) : Type 0 where
   pub taken : x.first.taken ≡ true
   pub goes_on : x.stop ≡ None
   pub is :
@@ -174,7 +174,7 @@ pub record BlockTurns (left : ℕ) (look : Look) (kind : EventKind) (x : Turn) :
       × (x.after ≡ with_seen x.first.at c (with_left x.first.key left look))
 
 -- The timer of an event block goes off: its first line is that of an emission.
-pub record TimerTurns (left : ℕ) (look : Look) (kind : EventKind) (x : Turn) : Type 0 where
+pub record IsTakingByTimer (left : ℕ) (look : Look) (kind : EventKind) (x : Taking) : Type 0 where
   pub emitted : x.first.taken ≡ false
   pub due : (look.blocks x.first.at).due ≡ Some x.first.key.tick
   pub goes_on : x.stop ≡ None
@@ -186,29 +186,29 @@ pub record TimerTurns (left : ℕ) (look : Look) (kind : EventKind) (x : Turn) :
       × (x.after ≡ with_seen x.first.at c (with_left x.first.key left look))
 
 -- an event comes to a composite or leaves one: no block reacts
-pub record CompositeTurns (left : ℕ) (look : Look) (x : Turn) : Type 0 where
+pub record IsTakingByComposite (left : ℕ) (look : Look) (x : Taking) : Type 0 where
   pub none : x.emits ≡ []
   pub silent : x.pieces ≡ []
   pub goes_on : x.stop ≡ None
   pub is : x.after ≡ with_left x.first.key left look
 
-abbrev pub TurnsAt : (left : ℕ) → Look → Option Kind → Turn → Type 0
-TurnsAt left look None x = ⊥
-TurnsAt left look (Some (Basic t)) x = ChartTurns left look t x
-TurnsAt left look (Some (Event kind)) x = BlockTurns left look kind x ⊎ TimerTurns left look kind x
-TurnsAt left look (Some (Composite t)) x = CompositeTurns left look x
+abbrev pub IsTakingAt : (left : ℕ) → Look → Option Kind → Taking → Type 0
+IsTakingAt left look None x = ⊥
+IsTakingAt left look (Some (Basic t)) x = IsTakingByChart left look t x
+IsTakingAt left look (Some (Event kind)) x = IsTakingByBlock left look kind x ⊎ IsTakingByTimer left look kind x
+IsTakingAt left look (Some (Composite t)) x = IsTakingByComposite left look x
 
 -- Each taking costs a step, and no tick is later than the latest one that a run may have.
-abbrev pub TurnsWith : System → Look → (left : ℕ) → Turn → Type 0
-TurnsWith sys look zero x = ⊥
-TurnsWith sys look (suc left) x = (x.first.key.tick ≤ 10 ^ 12) × TurnsAt left look (sys.kind x.first.at) x
+abbrev pub IsTakingWith : System → Look → (left : ℕ) → Taking → Type 0
+IsTakingWith sys look zero x = ⊥
+IsTakingWith sys look (suc left) x = (x.first.key.tick ≤ 10 ^ 12) × IsTakingAt left look (sys.kind x.first.at) x
 
-abbrev pub Turns : System → (limit : ℕ) → Look → Turn → Type 0
-Turns sys limit look x = TurnsWith sys look (left_at limit x.first.key.tick (look.steps x.first.key.resource)) x
+abbrev pub IsTaking : System → (limit : ℕ) → Look → Taking → Type 0
+IsTaking sys limit look x = IsTakingWith sys look (left_at limit x.first.key.tick (look.steps x.first.key.resource)) x
 
 -- the lines of a taking, and its text
-abbrev pub turn_lines : Turn → List Line
-turn_lines x = x.first ∷ map (emission_line x.first) x.emits
+abbrev pub taking_lines : Taking → List Line
+taking_lines x = x.first ∷ map (emission_line x.first) x.emits
 
-abbrev pub turn_text : Form → System → Turn → List ℕ
-turn_text form sys x = line_text form sys x.first ++ pieces_text form sys x.first x.pieces
+abbrev pub taking_text : Form → System → Taking → List ℕ
+taking_text form sys x = line_text form sys x.first ++ pieces_text form sys x.first x.pieces

@@ -14,7 +14,7 @@ use Rattle.fb_coverage.specs.Sets.{with_cleared, with_lost, with_port, with_ran,
 use Rattle.fb_coverage.specs.declared.marks.ChartMarks.{ChartMarks}
 use Rattle.fb_coverage.specs.declared.marks.PortMarks.{PortMarks}
 use Rattle.fb_inspect.specs.Chains.{Piece, Clears_by, Is_lost, Ran, Stops_by, Has, Emits}
-use Rattle.fb_inspect.specs.Looks.{Turn}
+use Rattle.fb_inspect.specs.Looks.{Taking}
 
 -- ---- Ports
 
@@ -29,7 +29,7 @@ lines_marked (l ∷ ls) m = lines_marked ls (with_port l.instance l.taken l.even
 abbrev pub state_number : BasicType → Name → ℕ
 state_number t n = number_in (λ s. s.name) t.states n
 
--- .. of an event input
+-- the index of an event input, or the number of them where none has this name
 abbrev pub event_number : BasicType → Name → ℕ
 event_number t n = number_in (λ p. p.name) t.ports.event_inputs n
 
@@ -67,20 +67,20 @@ PiecesMark t i e [] m n = n ≡ m
 PiecesMark t i e (p ∷ ps) m n = (o : ChartMarks) × PieceMarks t i e p m o × PiecesMark t i e ps o n
 
 -- a basic block of a declared type took an event
-pub record ChartMarked (blocks : List BlockType) (t : BasicType) (x : Turn) (m n : ChartMarks) : Type 0 where
+pub record ChartMarked (blocks : List BlockType) (t : BasicType) (x : Taking) (m n : ChartMarks) : Type 0 where
   pub number : ℕ
   pub type_is : slice_get blocks number ≡ Some (block.Basic t)
   pub pieces : let e = event_number t x.first.event in PiecesMark t number e x.pieces (with_taken number e m) n
 
-abbrev pub TurnMarksAt : List BlockType → Option Kind → Turn → ChartMarks → ChartMarks → Type 0
-TurnMarksAt blocks None x m n = n ≡ m
-TurnMarksAt blocks (Some (Basic t)) x m n = ChartMarked blocks t x m n
-TurnMarksAt blocks (Some (Event k)) x m n = n ≡ m
-TurnMarksAt blocks (Some (Composite t)) x m n = n ≡ m
+abbrev pub TakingMarksAt : List BlockType → Option Kind → Taking → ChartMarks → ChartMarks → Type 0
+TakingMarksAt blocks None x m n = n ≡ m
+TakingMarksAt blocks (Some (Basic t)) x m n = ChartMarked blocks t x m n
+TakingMarksAt blocks (Some (Event k)) x m n = n ≡ m
+TakingMarksAt blocks (Some (Composite t)) x m n = n ≡ m
 
-abbrev pub TurnMarks : List BlockType → System → Turn → ChartMarks → ChartMarks → Type 0
-TurnMarks blocks sys x m n = TurnMarksAt blocks (sys.kind x.first.at) x m n
+abbrev pub TakingMarks : List BlockType → System → Taking → ChartMarks → ChartMarks → Type 0
+TakingMarks blocks sys x m n = TakingMarksAt blocks (sys.kind x.first.at) x m n
 
-abbrev pub TurnsMark : List BlockType → System → List Turn → ChartMarks → ChartMarks → Type 0
-TurnsMark blocks sys [] m n = n ≡ m
-TurnsMark blocks sys (x ∷ xs) m n = (o : ChartMarks) × TurnMarks blocks sys x m o × TurnsMark blocks sys xs o n
+abbrev pub TakingsMark : List BlockType → System → List Taking → ChartMarks → ChartMarks → Type 0
+TakingsMark blocks sys [] m n = n ≡ m
+TakingsMark blocks sys (x ∷ xs) m n = (o : ChartMarks) × TakingMarks blocks sys x m o × TakingsMark blocks sys xs o n

@@ -26,7 +26,7 @@ cleared_note t = joined (codes "  " ∷ t.from ∷ codes " -> " ∷ t.to ∷ cod
 abbrev pub lost_note : (state : Name) → List ℕ
 lost_note s = joined (codes "  lost in " ∷ s ∷ ended ∷ [])
 
--- .. where an event was present
+-- the note to an event that cleared no transition, and no text where no event was present
 abbrev pub lost_if : {A : Type 0} → (present : Option A) → (state : Name) → List ℕ
 lost_if None s = []
 lost_if (Some e) s = lost_note s
@@ -46,7 +46,7 @@ changes_text before after ns = flat_map (λ n. change_text n (before n) (after n
 abbrev pub ran_text : Name → (before after : Values) → List Name → List ℕ
 ran_text a before after ns = joined (codes "  " ∷ a ∷ codes ":" ∷ []) ++ changes_text before after ns ++ ended
 
--- .. where it is that of an action, which may have none, and of which no more is done where no step is left
+-- what an action ran: it may have no algorithm, and where no step is left it runs none
 abbrev pub ran_by_action : Option Name → (left : ℕ) → (before after : Values) → List Name → List ℕ
 ran_by_action None left before after ns = []
 ran_by_action (Some a) zero before after ns = []

@@ -21,7 +21,7 @@ use Rattle.fb_wave.specs.declared.truncation.Cut.{Cut}
 use Rattle.fb_inspect.specs.Covering as covering
 use Rattle.fb_inspect.specs.Inspections as inspections
 use Rattle.fb_inspect.specs.Lines as lines
-use Rattle.fb_inspect.specs.Looks.{Look, Seen, Turn, Turns, TurnsAt}
+use Rattle.fb_inspect.specs.Looks.{IsTaking, IsTakingAt, Look, Seen, Taking}
 use Rattle.fb_inspect.specs.Moves as moves
 use Rattle.fb_inspect.specs.Moves.{shown_text}
 use Rattle.fb_inspect.specs.Refusals as refusals
@@ -141,10 +141,10 @@ reaction_at f = taken_reaction (sys_of f)
 abbrev pub IsNotDue : Fixed → EventKind → Seen → Line → (old new : Reading) → (number : ℕ) → Type 0
 IsNotDue f = refusals.IsNotDue (sys_of f)
 
--- No reaction of the instance of a line, with so many steps left, gives the line and those after it.
+-- No reaction of the instance of a line, with this number of steps left, gives the line and those after it.
 abbrev pub FailsAt : Fixed → (left : ℕ) → Look → Line → (old new : Reading) → (remaining rest : Option (List ℕ)) → (number : ℕ) → Type 0
 FailsAt f left look l =
-    refusals.FailsBy (TurnsAt left look ((sys_of f).kind (numbers.path_at (sys_of f) l.instance))) (sys_of f) f.form l
+    refusals.FailsBy (IsTakingAt left look ((sys_of f).kind (numbers.path_at (sys_of f) l.instance))) (sys_of f) f.form l
 
 -- ---- One taking
 
@@ -161,12 +161,12 @@ HasLook f walk = (look : Look) × LooksAs f walk look
 abbrev pub ReactGoes : Fixed → Look → Line → (stop : Option Reason) → (old new : Walk) → (remaining rest : Option (List ℕ)) → Type 0
 ReactGoes f = walking.ReactGoes (types_of f) (sys_of f) f.form
 
-abbrev pub TurnGoes : Fixed → Look → Line → (stop : Option Reason) → (old new : Walk) → (remaining rest : Option (List ℕ)) → Type 0
-TurnGoes f = walking.TurnGoes (types_of f) (sys_of f) f.form f.limit
+abbrev pub WalkTakes : Fixed → Look → Line → (stop : Option Reason) → (old new : Walk) → (remaining rest : Option (List ℕ)) → Type 0
+WalkTakes f = walking.WalkTakes (types_of f) (sys_of f) f.form f.limit
 
 -- No taking from the look gives the line of an event and those after it.
-abbrev pub TurnFails : Fixed → Look → Line → (old new : Reading) → (remaining rest : Option (List ℕ)) → (number : ℕ) → Type 0
-TurnFails f look = refusals.FailsBy (Turns (sys_of f) f.limit look) (sys_of f) f.form
+abbrev pub TakingFails : Fixed → Look → Line → (old new : Reading) → (remaining rest : Option (List ℕ)) → (number : ℕ) → Type 0
+TakingFails f look = refusals.FailsBy (IsTaking (sys_of f) f.limit look) (sys_of f) f.form
 
 -- ---- One step
 
@@ -187,16 +187,16 @@ HasAdvanced f first = walking.HasAdvanced (types_of f) first (sys_of f) f.form
 abbrev pub BeginsText : Fixed → (line : List ℕ) → (is_excess : Bool) → (rest text : List ℕ) → Type 0
 BeginsText f = standing.BeginsText (sys_of f) f.form
 
-abbrev pub StandsAt : Fixed → List Turn → Walk → (ahead last : List ℕ) → Line → (rest text : List ℕ) → Type 0
+abbrev pub StandsAt : Fixed → List Taking → Walk → (ahead last : List ℕ) → Line → (rest text : List ℕ) → Type 0
 StandsAt f = standing.StandsAt (sys_of f) f.form
 
 abbrev pub StandsWell : Fixed → (steps : ℕ) → Walk → Ahead → (rest text : List ℕ) → Type 0
 StandsWell f = standing.StandsWell (sys_of f) f.form
 
-abbrev pub Watches : Fixed → (steps : ℕ) → List Turn → (number : ℕ) → (text : List ℕ) → (is_excess : Bool) → Type 0
+abbrev pub Watches : Fixed → (steps : ℕ) → List Taking → (number : ℕ) → (text : List ℕ) → (is_excess : Bool) → Type 0
 Watches f = standing.Watches (sys_of f) f.form
 
-abbrev pub StandsAfter : Fixed → (steps : ℕ) → List Turn → Walk → (ahead last : List ℕ) → Line → (rest text : List ℕ) → Result Step InspectError → Type 0
+abbrev pub StandsAfter : Fixed → (steps : ℕ) → List Taking → Walk → (ahead last : List ℕ) → Line → (rest text : List ℕ) → Result Step InspectError → Type 0
 StandsAfter f = standing.StandsAfter (sys_of f) f.form
 
 abbrev pub GoesAfter : Fixed → (steps : ℕ) → Walk → Ahead → (remaining : Option (List ℕ)) → (text : List ℕ) → Result Step InspectError → Type 0
@@ -219,7 +219,7 @@ ShowsFront f = inspections.ShowsFront (sys_of f)
 abbrev pub IsCoveredBy : Cut → Fixed → (only : List Name) → (steps : ℕ) → (text : List ℕ) → (old new : Marks) → Extent → Type 0
 IsCoveredBy cut f = covering.IsCoveredBy cut f.table.now.system.now
 
--- .. and their dumps
+-- ---- Dumps of whole traces
 abbrev pub WaveStarts : Fixed → StateWave → Type 0
 WaveStarts f = waving.WaveStarts (sys_of f) f.form
 

@@ -21,9 +21,9 @@ use Rattle.fb_wave.specs.Named.{HasNames}
 use Rattle.fb_wave.specs.Waves.{AreLinesOf, IsTraceOf}
 use Rattle.fb_inspect.specs.Chains.{Piece, Showing}
 use Rattle.fb_inspect.specs.Charting.{sys_of}
-use Rattle.fb_inspect.specs.Inspections.{AreTurns, EndsSo, IsOwnLine, KeepSteps, KeepsLimit, NoneStops, RunsOut, all_lines, last_look, limited}
+use Rattle.fb_inspect.specs.Inspections.{AreTakings, EndsSo, IsOwnLine, KeepSteps, KeepsLimit, NoneStops, RunsOut, all_lines, last_look, limited}
 use Rattle.fb_inspect.specs.Lines.{IsNoEndFrom, IsPlain}
-use Rattle.fb_inspect.specs.Looks.{Look, Seen, Turn, Turns, emission_line, emissions_by, most, opening_look, turn_lines}
+use Rattle.fb_inspect.specs.Looks.{IsTaking, Look, Seen, Taking, emission_line, emissions_by, most, opening_look, taking_lines}
 use Rattle.fb_inspect.specs.Moves.{IsLineAt, StaysAlone}
 use Rattle.fb_inspect.specs.Timing.{timer_reaction}
 use Rattle.fb_inspect.specs.Walking.{MayEnd}
@@ -55,9 +55,9 @@ pub record IsAccepted (sys : System) (steps : ℕ) (text : List ℕ) : Type 0 wh
   pub lines : List run.Line
   pub end : Ending
   pub trace : IsTraceOf sys form text lines end
-  pub turns : List Turn
-  pub lines_are : map (line_of sys) lines ≡ all_lines turns
-  pub ends : EndsSo sys steps turns end
+  pub takings : List Taking
+  pub lines_are : map (line_of sys) lines ≡ all_lines takings
+  pub ends : EndsSo sys steps takings end
 
 -- The text is that of this line in no way.
 abbrev pub IsOther : System → Form → List ℕ → Line → Type 0
@@ -122,27 +122,27 @@ pub record IsNotDue (sys : System) (kind : EventKind) (s : Seen) (line : run.Lin
 -- ---- Takings
 
 -- No such taking begins with the line, which has this number.
-pub record IsNoTurn (T : Turn → Type 0) (sys : System) (line : run.Line) (old new : Reading) (n : ℕ) : Type 0 where
+pub record IsNoTaking (T : Taking → Type 0) (sys : System) (line : run.Line) (old new : Reading) (n : ℕ) : Type 0 where
   pub same : new ≡ old
   pub number_is : n ≡ old.number
-  pub none : (x : Turn) → x.first ≡ line_of sys line → T x → ⊥
+  pub none : (x : Taking) → x.first ≡ line_of sys line → T x → ⊥
 
 -- Such a taking begins with the line of an event and the lines that were read after it, and goes on with another line than the next one, which
 -- has this number.
-pub record TurnFails (T : Turn → Type 0) (sys : System) (form : Form) (line : run.Line) (old new : Reading) (left after : Option (List ℕ)) (n : ℕ) : Type 0 where
-  pub turn : Turn
-  pub turns : T turn
+pub record TakingFails (T : Taking → Type 0) (sys : System) (form : Form) (line : run.Line) (old new : Reading) (left after : Option (List ℕ)) (n : ℕ) : Type 0 where
+  pub taking : Taking
+  pub is_taking : T taking
   pub passed : List run.Line
   pub next : Line
   pub more : List Line
-  pub parts : turn_lines turn ≡ map (line_of sys) (line ∷ passed) ++ next ∷ more
+  pub parts : taking_lines taking ≡ map (line_of sys) (line ∷ passed) ++ next ∷ more
   pub reads : HasRead sys form line.key.tick (line ∷ passed) old new left after
   pub number_is : n ≡ new.number
   pub other : IsOther sys form new.line.items next
 
 -- The line of an event is refused, or one after it.
-abbrev pub FailsBy : (T : Turn → Type 0) (sys : System) (form : Form) (line : run.Line) (old new : Reading) (left after : Option (List ℕ)) (n : ℕ) → Type 0
-FailsBy T sys form line old new left after n = IsNoTurn T sys line old new n ⊎ TurnFails T sys form line old new left after n
+abbrev pub FailsBy : (T : Taking → Type 0) (sys : System) (form : Form) (line : run.Line) (old new : Reading) (left after : Option (List ℕ)) (n : ℕ) → Type 0
+FailsBy T sys form line old new left after n = IsNoTaking T sys line old new n ⊎ TakingFails T sys form line old new left after n
 
 -- ---- The place of a line
 
@@ -155,11 +155,11 @@ pub record IsLineAfter (sys : System) (form : Form) (number : ℕ) (text : List 
   pub alone : line ≡ take_through 10 (line ++ rest)
   pub formed : before ≡ [] → (f : Form) (m : run.Line) → IsTextOf sys f m line → f ≡ form
 
--- .. and these are the lines of takings, and some more
-pub record HaveTaken (sys : System) (before : List run.Line) (turns : List Turn) (more : List Line) : Type 0 where
-  pub chain : AreTurns sys most (opening_look sys) turns
-  pub goes_on : NoneStops turns
-  pub lines_are : map (line_of sys) before ≡ all_lines turns ++ more
+-- The lines before a line are those of takings, and some more.
+pub record HaveTaken (sys : System) (before : List run.Line) (takings : List Taking) (more : List Line) : Type 0 where
+  pub chain : AreTakings sys most (opening_look sys) takings
+  pub goes_on : NoneStops takings
+  pub lines_are : map (line_of sys) before ≡ all_lines takings ++ more
 
 -- ---- Why a line is wrong
 
@@ -172,105 +172,106 @@ abbrev pub IsNoStepsStop : System → Line → List ℕ → Type 0
 IsNoStepsStop sys l line = (t : BasicType) → sys.kind l.at ≡ Some (Basic t) → line ≡ steps_stop sys l → ⊥
 
 -- No such taking begins with the line, as the form shows it, and it says of no end that comes after this tick.
-pub record BeginsNothing (T : Turn → Type 0) (sys : System) (form : Form) (tick : ℕ) (line : List ℕ) : Type 0 where
-  pub no_turn : (m : run.Line) → IsTextOf sys form m line → IsPlain form m.key → tick ≤ m.key.tick → (x : Turn) → x.first ≡ line_of sys m → T x → ⊥
+pub record BeginsNothing (T : Taking → Type 0) (sys : System) (form : Form) (tick : ℕ) (line : List ℕ) : Type 0 where
+  pub no_taking : (m : run.Line) → IsTextOf sys form m line → IsPlain form m.key → tick ≤ m.key.tick → (x : Taking) → x.first ≡ line_of sys m → T x → ⊥
   pub no_end : IsNoEndFrom sys tick line
 
--- .. nor where it comes after these takings, of which it is the last
-abbrev pub IsNoLastStop : System → List Turn → List ℕ → Type 0
-IsNoLastStop sys turns line = (front : List Turn) (x : Turn) → turns ≡ front ++ x ∷ [] → IsNoStepsStop sys x.first line
+-- The line is not the stop for its steps of the resource of the last of these takings.
+abbrev pub IsNoLastStop : System → List Taking → List ℕ → Type 0
+IsNoLastStop sys takings line = (front : List Taking) (x : Taking) → takings ≡ front ++ x ∷ [] → IsNoStepsStop sys x.first line
 
 -- The line says that a resource stops, but none of these takings stopped it, and the steps are not used up there, or were not kept before.
-pub record EndsNothing (sys : System) (steps : ℕ) (turns : List Turn) (line : List ℕ) : Type 0 where
+pub record EndsNothing (sys : System) (steps : ℕ) (takings : List Taking) (line : List ℕ) : Type 0 where
   pub end : Ending
   pub can : IsEndOf sys end
   pub is : line ≡ last_line sys end
-  pub other : MayEnd sys steps (last_look (opening_look sys) turns) end → ⊥
-  pub near : IsNoLastStop sys turns line
+  pub other : MayEnd sys steps (last_look (opening_look sys) takings) end → ⊥
+  pub near : IsNoLastStop sys takings line
 
 -- Such a taking begins with these lines, of which there are some, and goes on with another one.
-pub record GoesOtherwise (T : Turn → Type 0) (sys : System) (form : Form) (begun : List Line) (line : List ℕ) : Type 0 where
-  pub turn : Turn
-  pub turns : T turn
+pub record GoesOtherwise (T : Taking → Type 0) (sys : System) (form : Form) (begun : List Line) (line : List ℕ) : Type 0 where
+  pub taking : Taking
+  pub is_taking : T taking
   pub passed : List Line
-  pub begins : begun ≡ turn.first ∷ passed
+  pub begins : begun ≡ taking.first ∷ passed
   pub next : Line
   pub more : List Line
-  pub parts : turn_lines turn ≡ begun ++ next ∷ more
+  pub parts : taking_lines taking ≡ begun ++ next ∷ more
   pub other : IsOther sys form line next
 
 -- Such a taking with these lines stops its resource, and the line says something else.
-pub record StopsOtherwise (T : Turn → Type 0) (sys : System) (lines : List Line) (line : List ℕ) : Type 0 where
-  pub turn : Turn
-  pub turns : T turn
-  pub lines_are : turn_lines turn ≡ lines
+pub record StopsOtherwise (T : Taking → Type 0) (sys : System) (lines : List Line) (line : List ℕ) : Type 0 where
+  pub taking : Taking
+  pub is_taking : T taking
+  pub lines_are : taking_lines taking ≡ lines
   pub reason : Reason
-  pub stop : turn.stop ≡ Some reason
-  pub other : line ≡ last_line sys (AtStop turn.first.key.tick turn.first.key.resource reason) → ⊥
+  pub stop : taking.stop ≡ Some reason
+  pub other : line ≡ last_line sys (AtStop taking.first.key.tick taking.first.key.resource reason) → ⊥
 
 -- Such a taking with these lines does not use up the steps, or the line is not the stop that says so.
-pub record GoesOnAfter (T : Turn → Type 0) (sys : System) (steps : ℕ) (look : Look) (lines : List Line) (line : List ℕ) : Type 0 where
-  pub turn : Turn
-  pub turns : T turn
-  pub lines_are : turn_lines turn ≡ lines
-  pub other : line ≡ steps_stop sys turn.first → RunsOut steps turn.first.key.tick turn.first.key.resource look (turn ∷ []) → ⊥
+pub record GoesOnAfter (T : Taking → Type 0) (sys : System) (steps : ℕ) (look : Look) (lines : List Line) (line : List ℕ) : Type 0 where
+  pub taking : Taking
+  pub is_taking : T taking
+  pub lines_are : taking_lines taking ≡ lines
+  pub other : line ≡ steps_stop sys taking.first → RunsOut steps taking.first.key.tick taking.first.key.resource look (taking ∷ []) → ⊥
 
 -- After takings comes this line of an event of a basic block, lines of emissions of the block in its tick, and a stop of its resource in
 -- that tick for its steps.
-pub record StopsSoon (sys : System) (form : Form) (turns : List Turn) (first : run.Line) (text : List ℕ) : Type 0 where
+pub record StopsSoon (sys : System) (form : Form) (takings : List Taking) (first : run.Line) (text : List ℕ) : Type 0 where
   pub line : IsLineOf sys first
   pub block : BasicType
   pub kind : sys.kind (path_at sys first.instance) ≡ Some (Basic block)
   pub rows : List run.Line
   pub own : All (IsOwnLine sys first) rows
   pub rest : List ℕ
-  pub is : text ≡ lines_text form sys (all_lines turns ++ map (line_of sys) (first ∷ rows)) ++ (steps_stop sys (line_of sys first) ++ rest)
+  pub is : text ≡ lines_text form sys (all_lines takings ++ map (line_of sys) (first ∷ rows)) ++ (steps_stop sys (line_of sys first) ++ rest)
 
 -- After one of the takings that go on from these, the first, a resource had used more than these steps in a tick, and a stop for steps comes later.
-pub record UsesTooMany (sys : System) (form : Form) (steps : ℕ) (turns : List Turn) (text : List ℕ) : Type 0 where
-  pub turn : Turn
-  pub later : List Turn
-  pub chain : AreTurns sys most (opening_look sys) (turns ++ turn ∷ later)
-  pub goes_on : NoneStops (turns ++ turn ∷ later)
-  pub kept : KeepSteps sys steps (last_look (opening_look sys) turns)
-  pub over : KeepSteps sys steps turn.after → ⊥
+pub record UsesTooMany (sys : System) (form : Form) (steps : ℕ) (takings : List Taking) (text : List ℕ) : Type 0 where
+  pub taking : Taking
+  pub later : List Taking
+  pub chain : AreTakings sys most (opening_look sys) (takings ++ taking ∷ later)
+  pub goes_on : NoneStops (takings ++ taking ∷ later)
+  pub kept : KeepSteps sys steps (last_look (opening_look sys) takings)
+  pub over : KeepSteps sys steps taking.after → ⊥
   pub read : List run.Line
-  pub read_are : map (line_of sys) read ≡ all_lines (turns ++ turn ∷ later)
+  pub read_are : map (line_of sys) read ≡ all_lines (takings ++ taking ∷ later)
   pub untaken : List run.Line
   pub are : All (IsLineOf sys) (read ++ untaken)
   pub tick : ℕ
   pub resource : ℕ
   pub can : IsEndOf sys (AtStop tick resource Steps)
-  pub near : later ≡ [] → untaken ≡ [] → IsNoStepsStop sys turn.first (last_line sys (AtStop tick resource Steps))
+  pub near : later ≡ [] → untaken ≡ [] → IsNoStepsStop sys taking.first (last_line sys (AtStop tick resource Steps))
   pub rest : List ℕ
-  pub is : text ≡ lines_text form sys (all_lines (turns ++ turn ∷ later) ++ map (line_of sys) untaken) ++ (last_line sys (AtStop tick resource Steps) ++ rest)
+  pub is : text ≡ lines_text form sys (all_lines (takings ++ taking ∷ later) ++ map (line_of sys) untaken) ++ (last_line sys (AtStop tick resource Steps) ++ rest)
 
 -- A line is wrong where a trace goes on, each resource with the greatest limit.
-abbrev pub IsWrongFreely : System → Form → (steps tick : ℕ) → (turns : List Turn) → (begun : List Line) → (line : List ℕ) → Type 0
-IsWrongFreely sys form steps tick turns begun line =
-    let T = Turns sys most (last_look (opening_look sys) turns) in
+abbrev pub IsWrongFreely : System → Form → (steps tick : ℕ) → (takings : List Taking) → (begun : List Line) → (line : List ℕ) → Type 0
+IsWrongFreely sys form steps tick takings begun line =
+    let T = IsTaking sys most (last_look (opening_look sys) takings) in
     ((begun ≡ []) × BeginsNothing T sys form tick line)
-    ⊎ ((begun ≡ []) × EndsNothing sys steps turns line)
-    ⊎ ((other : GoesOtherwise T sys form begun line) × IsNoStepsStop sys other.turn.first line)
-    ⊎ ((other : StopsOtherwise T sys begun line) × IsNoStepsStop sys other.turn.first line)
+    ⊎ ((begun ≡ []) × EndsNothing sys steps takings line)
+    ⊎ ((other : GoesOtherwise T sys form begun line) × IsNoStepsStop sys other.taking.first line)
+    ⊎ ((other : StopsOtherwise T sys begun line) × IsNoStepsStop sys other.taking.first line)
 
--- .. or where it stops for its steps after the event of a line, whose resource has what is left of these steps
-abbrev pub IsWrongLast : System → Form → (steps tick : ℕ) → (turns : List Turn) → (first : run.Line) → (begun : List Line) → (line : List ℕ) → Type 0
-IsWrongLast sys form steps tick turns first begun line =
-    let look = last_look (opening_look sys) turns in
+-- A line is wrong where the trace stops for its steps after the event of a line, whose resource has what is left of
+-- these steps.
+abbrev pub IsWrongLast : System → Form → (steps tick : ℕ) → (takings : List Taking) → (first : run.Line) → (begun : List Line) → (line : List ℕ) → Type 0
+IsWrongLast sys form steps tick takings first begun line =
+    let look = last_look (opening_look sys) takings in
     let less = limited steps first.key.tick first.key.resource look in
-    let T = Turns sys steps less in
+    let T = IsTaking sys steps less in
     ((begun ≡ []) × (KeepsLimit steps first.key.tick first.key.resource look → ⊥))
     ⊎ ((begun ≡ []) × BeginsNothing T sys form tick line)
     ⊎ GoesOtherwise T sys form begun line
     ⊎ GoesOnAfter T sys steps less begun line
 
 -- After these takings, and after lines with which another one begins, the line is wrong.
-abbrev pub IsWrongAfter : System → Form → (steps tick : ℕ) → (turns : List Turn) → (begun : List Line) → (line text : List ℕ) → Type 0
-IsWrongAfter sys form steps tick turns begun line text =
-    IsWrongFreely sys form steps tick turns begun line
-    ⊎ ((first : run.Line) × StopsSoon sys form turns first text × IsWrongLast sys form steps tick turns first begun line)
-    ⊎ ((begun ≡ []) × UsesTooMany sys form steps turns text)
+abbrev pub IsWrongAfter : System → Form → (steps tick : ℕ) → (takings : List Taking) → (begun : List Line) → (line text : List ℕ) → Type 0
+IsWrongAfter sys form steps tick takings begun line text =
+    IsWrongFreely sys form steps tick takings begun line
+    ⊎ ((first : run.Line) × StopsSoon sys form takings first text × IsWrongLast sys form steps tick takings first begun line)
+    ⊎ ((begun ≡ []) × UsesTooMany sys form steps takings text)
 
 -- The line of this number is not what comes after the lines before it.
 pub record IsWrongLine (sys : System) (steps number : ℕ) (text : List ℕ) : Type 0 where
@@ -278,10 +279,10 @@ pub record IsWrongLine (sys : System) (steps number : ℕ) (text : List ℕ) : T
   pub before : List run.Line
   pub line : List ℕ
   pub at : IsLineAfter sys form number text before line
-  pub turns : List Turn
+  pub takings : List Taking
   pub begun : List Line
-  pub taken : HaveTaken sys before turns begun
-  pub wrong : IsWrongAfter sys form steps (last_tick 0 before) turns begun line text
+  pub taken : HaveTaken sys before takings begun
+  pub wrong : IsWrongAfter sys form steps (last_tick 0 before) takings begun line text
 
 -- The line of this number comes after the last one of a trace.
 pub record IsAfterLast (sys : System) (steps number : ℕ) (text : List ℕ) : Type 0 where

@@ -7,17 +7,17 @@ use Rattle.fb_types.specs.declared.run.Line.{Line}
 use Rattle.fb_wave.specs.Changes.{time_text}
 use Rattle.fb_wave.specs.CutOff.{cut_comment}
 use Rattle.fb_wave.specs.Dumps.{end_text, last_tick, tick_changes, ticks_text}
-use Rattle.fb_inspect.specs.Looks.{Look, Turn, opening_look, turn_lines}
+use Rattle.fb_inspect.specs.Looks.{Look, Taking, opening_look, taking_lines}
 use Rattle.fb_inspect.specs.Heads.{inner, state_head}
-use Rattle.fb_inspect.specs.Inner.{turn_changes}
+use Rattle.fb_inspect.specs.Inner.{taking_changes}
 
 -- A taking, with its lines as they were read.
 pub record Taken : Type 0 where
-  pub turn : Turn
+  pub taking : Taking
   pub lines : List Line
 
-abbrev pub turns_of : List Taken → List Turn
-turns_of xs = map (λ x. x.turn) xs
+abbrev pub takings_of : List Taken → List Taking
+takings_of xs = map (λ x. x.taking) xs
 
 abbrev pub lines_of : List Taken → List Line
 lines_of [] = []
@@ -26,10 +26,10 @@ lines_of (x ∷ xs) = x.lines ++ lines_of xs
 -- the lines are those of the takings
 abbrev pub HaveLines : System → List Taken → Type 0
 HaveLines sys [] = Unit {0}
-HaveLines sys (x ∷ xs) = (map (line_of sys) x.lines ≡ turn_lines x.turn) × HaveLines sys xs
+HaveLines sys (x ∷ xs) = (map (line_of sys) x.lines ≡ taking_lines x.taking) × HaveLines sys xs
 
 abbrev pub tick_of : Taken → ℕ
-tick_of x = x.turn.first.key.tick
+tick_of x = x.taking.first.key.tick
 
 -- Takings by their ticks, from what the blocks remember: where one is of another tick than the one before it, that tick's changes of
 -- ports come first, and then the new time. What changes inside a block comes where its taking is, so that in one tick a state may change more than
@@ -38,9 +38,9 @@ abbrev pub takings_text : (with_states : Bool) → System → (untaken : List Li
 takings_text b sys us t before now look [] = ticks_text sys t before now us
 takings_text b sys us t before now look (x ∷ xs) =
     if tick_of x == t
-    then inner b (turn_changes sys look x.turn) ++ takings_text b sys us t before (now ++ x.lines) x.turn.after xs
-    else tick_changes sys before now ++ time_text t (tick_of x) ++ inner b (turn_changes sys look x.turn)
-    ++ takings_text b sys us (tick_of x) (before ++ now) x.lines x.turn.after xs
+    then inner b (taking_changes sys look x.taking) ++ takings_text b sys us t before (now ++ x.lines) x.taking.after xs
+    else tick_changes sys before now ++ time_text t (tick_of x) ++ inner b (taking_changes sys look x.taking)
+    ++ takings_text b sys us (tick_of x) (before ++ now) x.lines x.taking.after xs
 
 -- The whole dump. Where nothing is shown of the inside of blocks, it is the dump of the lines (`specs/Laws`).
 abbrev pub state_dump : (with_states : Bool) → System → List Taken → Ending → List ℕ

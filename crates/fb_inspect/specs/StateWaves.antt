@@ -9,9 +9,9 @@ use Rattle.fb_wave.specs.CutOff.{IsCutTrace}
 use Rattle.fb_wave.specs.Waves.{AreLinesOf, IsTraceOf}
 use Rattle.fb_wave.specs.declared.truncation.Cut.{Cut}
 use Rattle.fb_wave.specs.declared.truncation.Cut.TheVariants as cut
-use Rattle.fb_inspect.specs.Inspections.{AreOfOne, AreTaken, AreTurns, EndsSo, NoneStops, most}
+use Rattle.fb_inspect.specs.Inspections.{AreOfOne, AreTaken, AreTakings, EndsSo, NoneStops, most}
 use Rattle.fb_inspect.specs.Looks.{opening_look}
-use Rattle.fb_inspect.specs.StateDumps.{HaveLines, Taken, cut_dump, lines_of, state_dump, turns_of}
+use Rattle.fb_inspect.specs.StateDumps.{HaveLines, Taken, cut_dump, lines_of, state_dump, takings_of}
 
 -- The text is a trace whose takings are gone through, each from what the blocks remember, and the writer got the dump of these. A trace
 -- that stops for its steps stops where these are used up in a tick, and another one may use up to the greatest limit.
@@ -21,10 +21,11 @@ pub record IsStateWave (sys : System) (steps : ℕ) (text : List ℕ) (old new :
   pub end : Ending
   pub trace : IsTraceOf sys form text (lines_of takings) end
   pub lines : HaveLines sys takings
-  pub ends : EndsSo sys steps (turns_of takings) end
+  pub ends : EndsSo sys steps (takings_of takings) end
   pub got : Appends old new (state_dump true sys takings end)
 
--- .. and it is cut off. The event is not taken after which only lines of its own block come in its tick, since some of them may be missing.
+-- The text is a trace that is cut off, and the writer got the dump of its takings. The event is not taken after
+-- which only lines of its own block come in its tick, since some of them may be missing.
 pub record IsCutStateWave (sys : System) (text : List ℕ) (old new : Option (List ℕ)) : Type 0 where
   pub form : Form
   pub takings : List Taken
@@ -32,11 +33,11 @@ pub record IsCutStateWave (sys : System) (text : List ℕ) (old new : Option (Li
   pub trace : IsCutTrace sys form text (lines_of takings ++ untaken)
   pub of_one : AreOfOne sys untaken
   pub lines : HaveLines sys takings
-  pub chain : AreTurns sys most (opening_look sys) (turns_of takings)
-  pub goes_on : NoneStops (turns_of takings)
+  pub chain : AreTakings sys most (opening_look sys) (takings_of takings)
+  pub goes_on : NoneStops (takings_of takings)
   pub got : Appends old new (cut_dump true sys takings untaken)
 
--- .. where a trace may be cut off or not
+-- The text is a trace, cut off only where that is allowed, and the writer got its dump.
 abbrev pub IsShownWith : Cut → System → (steps : ℕ) → (text : List ℕ) → (old new : Option (List ℕ)) → Type 0
 IsShownWith cut.Refused sys steps text old new = IsStateWave sys steps text old new
 IsShownWith cut.Allowed sys steps text old new = IsStateWave sys steps text old new ⊎ IsCutStateWave sys text old new
@@ -51,7 +52,7 @@ pub record WritesFront (sys : System) (steps : ℕ) (old new : Option (List ℕ)
   pub takings : List Taken
   pub are : AreLinesOf sys (lines_of takings)
   pub lines : HaveLines sys takings
-  pub taken : AreTaken sys steps (turns_of takings)
+  pub taken : AreTaken sys steps (takings_of takings)
   pub dump : List ℕ
   pub is : IsDumpOf sys takings dump
   pub bytes : List ℕ

@@ -14,7 +14,7 @@ use Rattle.fb_wave.specs.Lines.{IsLast}
 use Rattle.fb_inspect.specs.Inspections.{KeepSteps, KeepsLimit, RunsOut, limited}
 use Rattle.fb_inspect.specs.Lines.{IsNext}
 use Rattle.fb_inspect.specs.Looks.{Look, most}
-use Rattle.fb_inspect.specs.Walking.{AreCutOff, MayEnd, TurnGoes}
+use Rattle.fb_inspect.specs.Walking.{AreCutOff, MayEnd, WalkTakes}
 use Rattle.fb_inspect.specs.declared.ahead.Ahead.{Ahead}
 use Rattle.fb_inspect.specs.declared.reading.Next.TheVariants as next
 use Rattle.fb_inspect.specs.declared.walk.Step.{Step}
@@ -27,23 +27,23 @@ stop_at line reason = Stop (record { tick = line.key.tick; resource = line.key.r
 
 -- The event of a line was taken, and its resource goes on.
 pub record GoesOn (blocks : List BlockType) (sys : System) (form : Form) (look : Look) (line : Line) (old new : Walk) (remaining rest : Option (List ℕ)) : Type 0 where
-  pub goes : TurnGoes blocks sys form most look line None old new remaining rest
+  pub goes : WalkTakes blocks sys form most look line None old new remaining rest
   pub next : IsNext sys form line.key.tick new.trail.reading.line.items new.trail.reading.next
 
--- .. or a reason other than the steps stops it
+-- The event of a line was taken, and a reason other than the steps stops its resource.
 pub record IsStopped (blocks : List BlockType) (sys : System) (form : Form) (look : Look) (line : Line) (end : Outcome) (old new : Walk) (remaining rest : Option (List ℕ)) : Type 0 where
   pub reason : Reason
   pub other : reason ≡ Steps → ⊥
-  pub goes : TurnGoes blocks sys form most look line (Some reason) old new remaining rest
+  pub goes : WalkTakes blocks sys form most look line (Some reason) old new remaining rest
   pub is : end ≡ stop_at line reason
 
--- .. or it runs out of these steps
+-- The event of a line was taken, and its resource runs out of these steps.
 pub record IsUsedUp (blocks : List BlockType) (sys : System) (form : Form) (steps : ℕ) (look : Look) (line : Line) (end : Outcome) (old new : Walk) (remaining rest : Option (List ℕ)) : Type 0 where
   pub kept : KeepSteps sys steps look
   pub within : KeepsLimit steps line.key.tick line.key.resource look
   pub stop : Option Reason
-  pub goes : TurnGoes blocks sys form steps (limited steps line.key.tick line.key.resource look) line stop old new remaining rest
-  pub out : RunsOut steps line.key.tick line.key.resource (limited steps line.key.tick line.key.resource look) (goes.turn ∷ [])
+  pub goes : WalkTakes blocks sys form steps (limited steps line.key.tick line.key.resource look) line stop old new remaining rest
+  pub out : RunsOut steps line.key.tick line.key.resource (limited steps line.key.tick line.key.resource look) (goes.taking ∷ [])
   pub is : end ≡ stop_at line Steps
 
 -- The trace ends after the event of a line.

@@ -29,10 +29,10 @@ use Rattle.fb_wave.specs.Waves.{AreLinesOf}
 use Rattle.fb_coverage.specs.declared.marks.Marks.{Marks}
 use Rattle.fb_inspect.specs.Charting.{IsChartOf}
 use Rattle.fb_inspect.specs.Counted.{left_of}
-use Rattle.fb_inspect.specs.Inspections.{AreOfOne, AreTaken, AreTurns, EndsSo, IsOwnLine, KeepSteps, NoneStops, all_lines, all_text, cut_note, is_kept, last_look, one_text}
+use Rattle.fb_inspect.specs.Inspections.{AreOfOne, AreTaken, AreTakings, EndsSo, IsOwnLine, KeepSteps, NoneStops, all_lines, all_text, cut_note, is_kept, last_look, one_text}
 use Rattle.fb_inspect.specs.Lines.{IsNext, IsNextLine}
-use Rattle.fb_inspect.specs.Looks.{Look, Seen, Turn, Turns, TurnsAt, left_at, most, opening_look, turn_lines, turn_text, with_left}
-use Rattle.fb_inspect.specs.Markings.{TurnMarks, TurnsMark, lines_marked}
+use Rattle.fb_inspect.specs.Looks.{IsTaking, IsTakingAt, Look, Seen, Taking, left_at, most, opening_look, taking_lines, taking_text, with_left}
+use Rattle.fb_inspect.specs.Markings.{TakingMarks, TakingsMark, lines_marked}
 use Rattle.fb_inspect.specs.Moves.{Goes, StaysAlone, shown_text}
 use Rattle.fb_inspect.specs.Timing.{IsBlockKept}
 use Rattle.fb_inspect.specs.declared.ahead.Ahead.{Ahead}
@@ -74,7 +74,8 @@ keeps_chart _ = false
 abbrev pub OpensAs : System → (instance : ℕ) → Remembered → Type 0
 OpensAs sys k b = let p = path_at sys k in IsKept (sys.kind p) b ((opening_look sys).blocks p)
 
--- .. of the first instances, this many
+-- What is kept says what each of the first instances, of which there are this many, remembers before the first
+-- event.
 pub record OpenAll (sys : System) (n : ℕ) (blocks : List Remembered) : Type 0 where
   pub all : length blocks ≡ n
   pub each : (k : ℕ) (b : Remembered) → slice_get blocks k ≡ Some b → OpensAs sys k b
@@ -86,7 +87,7 @@ pub record AreKept (sys : System) (blocks : List Remembered) (look : Look) : Typ
   pub all : length blocks ≡ length sys.paths
   pub each : (k : ℕ) (b : Remembered) → slice_get blocks k ≡ Some b → IsKept (sys.kind (path_at sys k)) b (look.blocks (path_at sys k))
 
--- .. and of the steps
+-- What is kept of the blocks and of the steps says what the look says.
 pub record IsLookOf (sys : System) (blocks : List Remembered) (steps : List TickSteps) (look : Look) : Type 0 where
   pub are : AreKept sys blocks look
   pub counts : length steps ≡ length sys.resource_names
@@ -96,17 +97,17 @@ pub record IsLookOf (sys : System) (blocks : List Remembered) (steps : List Tick
 
 -- What an instance remembers has reacted to a line, and this is kept of it then.
 pub record KeptGoes (blocks : List BlockType) (sys : System) (form : Form) (look : Look) (left : ℕ) (line : Line) (stop : Option Reason) (b : Remembered) (steps : ℕ) (old new : Trail) (remaining rest : Option (List ℕ)) : Type 0 where
-  pub turn : Turn
-  pub first_is : turn.first ≡ line_of sys line
-  pub stop_is : turn.stop ≡ stop
-  pub turns : TurnsAt left look (sys.kind (path_at sys line.instance)) turn
-  pub kept : IsKept (sys.kind (path_at sys line.instance)) b (turn.after.blocks (path_at sys line.instance))
-  pub others : (q : Path) → same_path q (path_at sys line.instance) ≡ false → turn.after.blocks q ≡ look.blocks q
-  pub steps_are : turn.after.steps ≡ (with_left line.key steps look).steps
+  pub taking : Taking
+  pub first_is : taking.first ≡ line_of sys line
+  pub stop_is : taking.stop ≡ stop
+  pub is_taking : IsTakingAt left look (sys.kind (path_at sys line.instance)) taking
+  pub kept : IsKept (sys.kind (path_at sys line.instance)) b (taking.after.blocks (path_at sys line.instance))
+  pub others : (q : Path) → same_path q (path_at sys line.instance) ≡ false → taking.after.blocks q ≡ look.blocks q
+  pub steps_are : taking.after.steps ≡ (with_left line.key steps look).steps
   pub lines : List Line
-  pub lines_are : map (line_of sys) lines ≡ turn_lines turn
-  pub goes : Goes sys form line.key.tick lines (shown_text old.is_shown (turn_text form sys turn)) old new remaining rest
-  pub marked : TurnMarks blocks sys turn old.marks.charts new.marks.charts
+  pub lines_are : map (line_of sys) lines ≡ taking_lines taking
+  pub goes : Goes sys form line.key.tick lines (shown_text old.is_shown (taking_text form sys taking)) old new remaining rest
+  pub marked : TakingMarks blocks sys taking old.marks.charts new.marks.charts
   pub alone : StaysAlone old.reading new.reading remaining rest
 
 -- An instance can react to a line.
@@ -158,19 +159,19 @@ pub record ReactGoes (blocks : List BlockType) (sys : System) (form : Form) (loo
   pub shown_are : new.shown ≡ old.shown
 
 -- The taking of the event of a line was gone through: its lines were read, and what is shown of it was added.
-pub record TurnGoes (blocks : List BlockType) (sys : System) (form : Form) (limit : ℕ) (look : Look) (line : Line) (stop : Option Reason) (old new : Walk) (remaining rest : Option (List ℕ)) : Type 0 where
-  pub turn : Turn
-  pub first_is : turn.first ≡ line_of sys line
-  pub stop_is : turn.stop ≡ stop
-  pub turns : Turns sys limit look turn
-  pub look_after : IsLookOf sys new.blocks.items new.steps.items turn.after
+pub record WalkTakes (blocks : List BlockType) (sys : System) (form : Form) (limit : ℕ) (look : Look) (line : Line) (stop : Option Reason) (old new : Walk) (remaining rest : Option (List ℕ)) : Type 0 where
+  pub taking : Taking
+  pub first_is : taking.first ≡ line_of sys line
+  pub stop_is : taking.stop ≡ stop
+  pub is_taking : IsTaking sys limit look taking
+  pub look_after : IsLookOf sys new.blocks.items new.steps.items taking.after
   pub shown_are : new.shown ≡ old.shown
   pub lines : List Line
-  pub lines_are : map (line_of sys) lines ≡ turn_lines turn
+  pub lines_are : map (line_of sys) lines ≡ taking_lines taking
   pub goes :
       let is_shown = flag_at old.shown.items line.instance in
-      Goes sys form line.key.tick lines (shown_text is_shown (turn_text form sys turn)) (record old.trail { is_shown = is_shown }) new.trail remaining rest
-  pub marked : TurnMarks blocks sys turn old.trail.marks.charts new.trail.marks.charts
+      Goes sys form line.key.tick lines (shown_text is_shown (taking_text form sys taking)) (record old.trail { is_shown = is_shown }) new.trail remaining rest
+  pub marked : TakingMarks blocks sys taking old.trail.marks.charts new.trail.marks.charts
 
 -- ---- All takings so far
 
@@ -179,36 +180,36 @@ abbrev pub ShowsOf : System → (only : List Name) → (shown : List Bool) → T
 ShowsOf sys only shown = (k : ℕ) → k < length sys.paths → flag_at shown k ≡ is_kept only (path_at sys k)
 
 -- These takings were gone through, and the next line was read. A part of what is shown was sent, and a part waits.
-pub record IsGone (sys : System) (form : Form) (only : List Name) (steps : ℕ) (walk : Walk) (turns : List Turn) (input remaining old new : Option (List ℕ)) : Type 0 where
-  pub taken : AreTaken sys steps turns
+pub record IsGone (sys : System) (form : Form) (only : List Name) (steps : ℕ) (walk : Walk) (takings : List Taking) (input remaining old new : Option (List ℕ)) : Type 0 where
+  pub taken : AreTaken sys steps takings
   pub shown : ShowsOf sys only walk.shown.items
   pub lines : List Line
-  pub lines_are : map (line_of sys) lines ≡ all_lines turns
+  pub lines_are : map (line_of sys) lines ≡ all_lines takings
   pub are : AreLinesOf sys lines
   pub numbered : walk.trail.reading.number ≡ length lines + 1
   pub read : Consumes input remaining (lines_text form sys (map (line_of sys) lines) ++ walk.trail.reading.line.items)
   pub sent : List ℕ
   pub got : Appends old new sent
-  pub text : sent ++ walk.trail.page.text.items ≡ all_text form sys only turns
+  pub text : sent ++ walk.trail.page.text.items ≡ all_text form sys only takings
 
--- .. and none of them stopped its resource
+-- Takings were gone through, and none of them stopped its resource.
 pub record HasGone (sys : System) (form : Form) (only : List Name) (steps : ℕ) (walk : Walk) (input remaining old new : Option (List ℕ)) : Type 0 where
-  pub turns : List Turn
-  pub goes_on : NoneStops turns
-  pub chain : AreTurns sys most (opening_look sys) turns
-  pub look : IsLookOf sys walk.blocks.items walk.steps.items (last_look (opening_look sys) turns)
-  pub gone : IsGone sys form only steps walk turns input remaining old new
+  pub takings : List Taking
+  pub goes_on : NoneStops takings
+  pub chain : AreTakings sys most (opening_look sys) takings
+  pub look : IsLookOf sys walk.blocks.items walk.steps.items (last_look (opening_look sys) takings)
+  pub gone : IsGone sys form only steps walk takings input remaining old new
   pub next : IsNextLine sys form (last_tick 0 gone.lines) walk.trail.reading.line.items walk.trail.reading.next
 
 -- What takings cover was marked, next to what others covered.
-pub record AreMarked (blocks : List BlockType) (sys : System) (turns : List Turn) (lines : List Line) (first last : Marks) : Type 0 where
-  pub charts : TurnsMark blocks sys turns first.charts last.charts
+pub record AreMarked (blocks : List BlockType) (sys : System) (takings : List Taking) (lines : List Line) (first last : Marks) : Type 0 where
+  pub charts : TakingsMark blocks sys takings first.charts last.charts
   pub ports : last.ports ≡ lines_marked lines first.ports
 
--- .. of all takings so far
+-- Takings were gone through, and what all of them cover was marked, next to what others covered.
 pub record HasCovered (blocks : List BlockType) (first : Marks) (sys : System) (form : Form) (only : List Name) (steps : ℕ) (walk : Walk) (input remaining old new : Option (List ℕ)) : Type 0 where
   pub gone : HasGone sys form only steps walk input remaining old new
-  pub marked : AreMarked blocks sys gone.turns gone.gone.lines first walk.trail.marks
+  pub marked : AreMarked blocks sys gone.takings gone.gone.lines first walk.trail.marks
 
 -- A text ends in a part of a line after another text.
 pub record IsCutAfter (text front : List ℕ) : Type 0 where
@@ -216,30 +217,31 @@ pub record IsCutAfter (text front : List ℕ) : Type 0 where
   pub unended : has_no_feed part ≡ true
   pub is : text ≡ front ++ part
 
--- .. and the next line is the last one
+-- All takings of a trace were gone through, and the next line is the last one.
 pub record IsComplete (blocks : List BlockType) (first : Marks) (sys : System) (form : Form) (only : List Name) (steps : ℕ) (walk : Walk) (end : Outcome) (input remaining old new : Option (List ℕ)) : Type 0 where
-  pub turns : List Turn
-  pub gone : IsGone sys form only steps walk turns input remaining old new
-  pub ends : EndsSo sys steps turns (ending_of end)
+  pub takings : List Taking
+  pub gone : IsGone sys form only steps walk takings input remaining old new
+  pub ends : EndsSo sys steps takings (ending_of end)
   pub last : IsLast sys walk.trail.reading.line.items end
   pub after : IsAfter (last_tick 0 gone.lines) end
-  pub marked : AreMarked blocks sys turns gone.lines first walk.trail.marks
+  pub marked : AreMarked blocks sys takings gone.lines first walk.trail.marks
 
--- .. or the trace is cut off there, or after lines that may be a part of those of an event. These were added where they are shown.
+-- Takings were gone through, and the trace is cut off there, or after lines that may be a part of those of an event.
+-- These lines were added where they are shown.
 pub record IsSevered (blocks : List BlockType) (first : Marks) (sys : System) (form : Form) (only : List Name) (walk : Walk) (input old new : Option (List ℕ)) : Type 0 where
-  pub turns : List Turn
-  pub goes_on : NoneStops turns
-  pub chain : AreTurns sys most (opening_look sys) turns
+  pub takings : List Taking
+  pub goes_on : NoneStops takings
+  pub chain : AreTakings sys most (opening_look sys) takings
   pub lines : List Line
-  pub lines_are : map (line_of sys) lines ≡ all_lines turns
+  pub lines_are : map (line_of sys) lines ≡ all_lines takings
   pub untaken : List Line
   pub of_one : AreOfOne sys untaken
   pub are : AreLinesOf sys (lines ++ untaken)
   pub rest : IfSome input (λ text. IsCutAfter text (lines_text form sys (map (line_of sys) (lines ++ untaken))))
   pub sent : List ℕ
   pub got : Appends old new sent
-  pub text : sent ++ walk.trail.page.text.items ≡ all_text form sys only turns ++ one_text form sys only untaken
-  pub marked : AreMarked blocks sys turns lines first walk.trail.marks
+  pub text : sent ++ walk.trail.page.text.items ≡ all_text form sys only takings ++ one_text form sys only untaken
+  pub marked : AreMarked blocks sys takings lines first walk.trail.marks
 
 -- A walk went on by one taking, or a trace is over.
 abbrev pub HasAdvanced :
@@ -271,14 +273,14 @@ pub record AreRows (sys : System) (form : Form) (first : Line) (rows : List Line
   pub is : text ≡ lines_text form sys (map (line_of sys) rows)
   pub read : Consumes input remaining text
 
--- .. and then one more line
+-- These lines of emissions of the block of a line, in its tick, were read ahead, and then one more line.
 pub record AreGathered (sys : System) (form : Form) (first : Line) (rows : List Line) (text last : List ℕ) (input remaining : Option (List ℕ)) : Type 0 where
   pub each : All (IsOwnLine sys first) rows
   pub is : text ≡ lines_text form sys (map (line_of sys) rows)
   pub read : Consumes input remaining (text ++ last)
   pub alone : IfSome remaining (λ rest. input ≡ None ⊎ (last ≡ take_through 10 (last ++ rest)))
 
--- .. and that one is cut off
+-- These lines of emissions of the block of a line, in its tick, were read ahead, and the line after them is cut off.
 pub record AreCutOff (sys : System) (form : Form) (first : Line) (rows : List Line) (text : List ℕ) (input : Option (List ℕ)) : Type 0 where
   pub each : All (IsOwnLine sys first) rows
   pub is : text ≡ lines_text form sys (map (line_of sys) rows)
@@ -298,7 +300,7 @@ pub record Begins (sys : System) (only : List Name) (marks : Marks) (reading : R
   pub reading_is : walk.trail.reading ≡ reading
   pub marks_are : walk.trail.marks ≡ marks
 
--- .. and the line is one with which a trace can begin.
+-- A walk that was begun with a line with which a trace can begin.
 pub record Starts (sys : System) (form : Form) (only : List Name) (walk : Walk) : Type 0 where
   pub blocks : AreKept sys walk.blocks.items (opening_look sys)
   pub steps : AreUnused (length sys.resource_names) walk.steps.items

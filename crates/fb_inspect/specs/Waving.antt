@@ -17,9 +17,9 @@ use Rattle.fb_wave.specs.Copying.{IsAfter}
 use Rattle.fb_wave.specs.Dumps.{last_tick}
 use Rattle.fb_wave.specs.Lines.{IsLast}
 use Rattle.fb_wave.specs.Waves.{AreLinesOf}
-use Rattle.fb_inspect.specs.Inspections.{AreOfOne, AreTaken, AreTurns, EndsSo, NoneStops, last_look, most}
+use Rattle.fb_inspect.specs.Inspections.{AreOfOne, AreTaken, AreTakings, EndsSo, NoneStops, last_look, most}
 use Rattle.fb_inspect.specs.Lines.{IsNext}
-use Rattle.fb_inspect.specs.Looks.{Look, Seen, Turns, opening_look, turn_lines}
+use Rattle.fb_inspect.specs.Looks.{IsTaking, Look, Seen, opening_look, taking_lines}
 use Rattle.fb_inspect.specs.Moves.{IsLineAt}
 use Rattle.fb_inspect.specs.Walking.{AreKept, IsCutAfter, IsLookOf}
 use Rattle.fb_inspect.specs.declared.reading.Next.TheVariants as next
@@ -30,7 +30,7 @@ use Rattle.fb_inspect.specs.declared.walk.Walk.{Walk}
 use Rattle.fb_inspect.specs.Dumping.{IsPortDump, Shows, ShowsUntaken}
 use Rattle.fb_inspect.specs.Inner.{is_loss}
 use Rattle.fb_inspect.specs.Saved.{IsBefore}
-use Rattle.fb_inspect.specs.StateDumps.{HaveLines, Taken, cut_dump, lines_of, state_dump, tick_of, turns_of}
+use Rattle.fb_inspect.specs.StateDumps.{HaveLines, Taken, cut_dump, lines_of, state_dump, takings_of, tick_of}
 use Rattle.fb_inspect.specs.declared.before.Before.{Before}
 use Rattle.fb_inspect.specs.declared.state_wave.EventAt.{EventAt}
 use Rattle.fb_inspect.specs.declared.state_wave.StateWave.{StateWave}
@@ -45,7 +45,7 @@ pub record IsEventKept (sys : System) (walk : Walk) (before : Before) (at : Even
   pub tick_is : at.tick ≡ line.key.tick
   pub saved : (look : Look) → AreKept sys walk.blocks.items look → let p = path_at sys at.instance in IsBefore (sys.kind p) before (look.blocks p)
 
--- .. if it is that of an event
+-- The inside of the instance of the next line was kept, if that is the line of an event.
 abbrev pub IsNextKept : System → Walk → Before → Option EventAt → Type 0
 IsNextKept sys walk before (Some at) = IsEventKept sys walk before at
 IsNextKept sys walk before None = (line : Line) → walk.trail.reading.next ≡ next.Event line → ⊥
@@ -60,25 +60,25 @@ pub record CanShow (sys : System) (at : EventAt) (x : StateWave) : Type 0 where
   pub saved : IsBefore (sys.kind (path_at sys at.instance)) x.before seen
   pub lines : All (BelongsTo sys) x.walk.trail.passed.lines.items
 
--- The taking of an event was shown, from what the blocks remember before it to what they remember after it: that of any turn which is
+-- The taking of an event was shown, from what the blocks remember before it to what they remember after it: that of any taking which is
 -- from there to there.
 pub record ShowsTaking (sys : System) (at : EventAt) (look after : Look) (old new : StateWave) : Type 0 where
   pub shown :
-      (xs : List Taken) (y : Taken) (sent : List ℕ) → Shows sys xs (sent ++ old.page.text.items) old.dump → last_look (opening_look sys) (turns_of xs) ≡ look
-      → y.turn.first.at ≡ path_at sys at.instance → tick_of y ≡ at.tick → y.turn.after ≡ after → y.lines ≡ old.walk.trail.passed.lines.items
-      → ((t : BasicType) → sys.kind (path_at sys at.instance) ≡ Some (Basic t) → list_any is_loss y.turn.pieces ≡ old.walk.trail.marks.charts.lost)
-      → map (line_of sys) y.lines ≡ turn_lines y.turn
+      (xs : List Taken) (y : Taken) (sent : List ℕ) → Shows sys xs (sent ++ old.page.text.items) old.dump → last_look (opening_look sys) (takings_of xs) ≡ look
+      → y.taking.first.at ≡ path_at sys at.instance → tick_of y ≡ at.tick → y.taking.after ≡ after → y.lines ≡ old.walk.trail.passed.lines.items
+      → ((t : BasicType) → sys.kind (path_at sys at.instance) ≡ Some (Basic t) → list_any is_loss y.taking.pieces ≡ old.walk.trail.marks.charts.lost)
+      → map (line_of sys) y.lines ≡ taking_lines y.taking
       → Shows sys (xs ++ y ∷ []) (sent ++ new.page.text.items) new.dump
 
 -- The taking of the event of a line was gone through from a look, and shown after these takings.
 pub record TakingGoes (sys : System) (form : Form) (limit : ℕ) (look : Look) (xs : List Taken) (line : Line) (stop : Option Reason) (old new : StateWave) (remaining rest : Option (List ℕ)) : Type 0 where
   pub taken : Taken
-  pub first_is : taken.turn.first ≡ line_of sys line
-  pub stop_is : taken.turn.stop ≡ stop
-  pub turns : Turns sys limit look taken.turn
-  pub look_after : IsLookOf sys new.walk.blocks.items new.walk.steps.items taken.turn.after
+  pub first_is : taken.taking.first ≡ line_of sys line
+  pub stop_is : taken.taking.stop ≡ stop
+  pub is_taking : IsTaking sys limit look taken.taking
+  pub look_after : IsLookOf sys new.walk.blocks.items new.walk.steps.items taken.taking.after
   pub kept : new.walk.trail.passed.are_kept ≡ true
-  pub lines_are : map (line_of sys) taken.lines ≡ turn_lines taken.turn
+  pub lines_are : map (line_of sys) taken.lines ≡ taking_lines taken.taking
   pub each : All (IsLineAt sys line.key.tick) taken.lines
   pub bytes : List ℕ
   pub took : Consumes remaining rest bytes
@@ -91,7 +91,7 @@ pub record TakingGoes (sys : System) (form : Form) (limit : ℕ) (look : Look) (
 
 -- These takings were gone through, and the next line was read, which is this. A part of the dump was sent, and a part waits.
 pub record IsWaved (sys : System) (form : Form) (steps : ℕ) (x : StateWave) (line : List ℕ) (xs : List Taken) (input remaining old new : Option (List ℕ)) : Type 0 where
-  pub taken : AreTaken sys steps (turns_of xs)
+  pub taken : AreTaken sys steps (takings_of xs)
   pub lines : HaveLines sys xs
   pub are : AreLinesOf sys (lines_of xs)
   pub numbered : x.walk.trail.reading.number ≡ length (lines_of xs) + 1
@@ -101,30 +101,31 @@ pub record IsWaved (sys : System) (form : Form) (steps : ℕ) (x : StateWave) (l
   pub got : Appends old new sent
   pub shown : Shows sys xs (sent ++ x.page.text.items) x.dump
 
--- .. and none of them stopped its resource
+-- Takings were gone through and shown, and none of them stopped its resource.
 pub record HasWaved (sys : System) (form : Form) (steps : ℕ) (x : StateWave) (input remaining old new : Option (List ℕ)) : Type 0 where
   pub takings : List Taken
-  pub goes_on : NoneStops (turns_of takings)
-  pub chain : AreTurns sys most (opening_look sys) (turns_of takings)
-  pub look : IsLookOf sys x.walk.blocks.items x.walk.steps.items (last_look (opening_look sys) (turns_of takings))
+  pub goes_on : NoneStops (takings_of takings)
+  pub chain : AreTakings sys most (opening_look sys) (takings_of takings)
+  pub look : IsLookOf sys x.walk.blocks.items x.walk.steps.items (last_look (opening_look sys) (takings_of takings))
   pub kept : x.walk.trail.passed.are_kept ≡ true
   pub waved : IsWaved sys form steps x x.walk.trail.reading.line.items takings input remaining old new
   pub next : IsNext sys form (last_tick 0 (lines_of takings)) x.walk.trail.reading.line.items x.walk.trail.reading.next
 
--- .. or the next line is the last one
+-- All takings of a trace were gone through and shown, and the next line is the last one.
 pub record IsWhole (sys : System) (form : Form) (steps : ℕ) (x : StateWave) (end : Outcome) (input remaining old new : Option (List ℕ)) : Type 0 where
   pub takings : List Taken
   pub line : List ℕ
   pub waved : IsWaved sys form steps x line takings input remaining old new
-  pub ends : EndsSo sys steps (turns_of takings) (ending_of end)
+  pub ends : EndsSo sys steps (takings_of takings) (ending_of end)
   pub last : IsLast sys line end
   pub after : IsAfter (last_tick 0 (lines_of takings)) end
 
--- .. or the trace is cut off there, or after lines that may be a part of those of an event
+-- Takings were gone through and shown, and the trace is cut off there, or after lines that may be a part of those of
+-- an event.
 pub record IsCut (sys : System) (form : Form) (x : StateWave) (input old new : Option (List ℕ)) : Type 0 where
   pub takings : List Taken
-  pub goes_on : NoneStops (turns_of takings)
-  pub chain : AreTurns sys most (opening_look sys) (turns_of takings)
+  pub goes_on : NoneStops (takings_of takings)
+  pub chain : AreTakings sys most (opening_look sys) (takings_of takings)
   pub lines : HaveLines sys takings
   pub before : AreLinesOf sys (lines_of takings)
   pub untaken : List Line
@@ -150,7 +151,7 @@ pub record Begins (sys : System) (reading : Reading) (x : StateWave) : Type 0 wh
   pub shown : Shows sys [] x.page.text.items x.dump
   pub reading_is : x.walk.trail.reading ≡ reading
 
--- .. with which a trace can begin
+-- A dump that was begun with a line with which a trace can begin.
 pub record WaveStarts (sys : System) (form : Form) (x : StateWave) : Type 0 where
   pub look : IsLookOf sys x.walk.blocks.items x.walk.steps.items (opening_look sys)
   pub kept : x.walk.trail.passed.are_kept ≡ true

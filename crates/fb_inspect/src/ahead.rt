@@ -137,7 +137,8 @@ impl Ahead {
         self.watched.is_excess = self.watched.is_excess || is_excess;
     }
 
-    /// Goes back to the first event after which its resource had used too many steps. Answers `false` where there is none.
+    /// Goes back to the first event after which its resource had used too many steps. Answers `false` where there is
+    /// none.
     pub(crate) fn go_back(&mut self, reading: &mut Reading) -> bool
         ensures excess { result ≡ self.old.watched.is_excess }
         ensures back { IsTrue result → reading.new.number ≡ self.old.watched.number }
@@ -187,8 +188,8 @@ impl Ahead {
         Err(InspectError::Read)
     }
 
-    /// Reads the lines after that of an event. Answers whether the trace is cut off in them, if it may be: then the part of
-    /// a line is not added to the text.
+    /// Reads the lines after that of an event. Answers whether the trace is cut off in them, if it may be: then the
+    /// part of a line is not added to the text.
     fn fill<R: BufRead>(
         &mut self,
         fixed: &Fixed<'_, '_>,
@@ -223,8 +224,8 @@ impl Ahead {
         }
     }
 
-    /// Reads the lines after that of an event, if the walk has passed all lines that were read ahead. Answers whether the
-    /// trace is cut off in them, if it may be.
+    /// Reads the lines after that of an event, if the walk has passed all lines that were read ahead. Answers whether
+    /// the trace is cut off in them, if it may be.
     pub(crate) fn look<R: BufRead>(
         &mut self,
         fixed: &Fixed<'_, '_>,

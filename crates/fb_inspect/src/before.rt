@@ -8,7 +8,6 @@ ghost use Rattle.fb_types.specs.declared.library.BasicType.{BasicType};
 ghost use Rattle.fb_types.specs.OfSystem.{IsInstance, kind_at, path_at};
 ghost use Rattle.fb_st.specs.Frames.{values_of};
 ghost use Rattle.fb_coverage.specs.Reports.{listed};
-ghost use Rattle.fb_ecc.specs.Indexes.{state_at};
 ghost use Rattle.fb_inspect.specs.Looks.{Look, Seen};
 ghost use Rattle.fb_inspect.specs.Notes.{own_variables};
 ghost use Rattle.fb_inspect.specs.Walking.{IsChartKept};
@@ -19,6 +18,7 @@ ghost use Rattle.fb_inspect.specs.Saved.{IsBefore, IsSaved};
 ghost use Rattle.fb_inspect.specs.OfSystem.{AreKept};
 
 use crate::blocks::{Chart, Remembered, basic_type, keep_values};
+use crate::charts::state_name;
 use crate::inner::{put_lost, put_state, put_value};
 use crate::notes::are_same;
 use fb_st::Frame;
@@ -59,16 +59,6 @@ pub(crate) fn inside_of<'a>(
     let block = basic_type(system, instance)?;
     let chart = chart_at(blocks, instance)?;
     Some(Inside { block, chart })
-}
-
-/// The name of the state at an index.
-fn state_name(block: &BasicType, state: usize) -> &[u8]
-    ensures { result.now ≡ state_at block.now state }
-{
-    match block.states.get(state) {
-        Some(state) => state.name.as_bytes(),
-        None => b"",
-    }
 }
 
 /// The internal variables of a basic block.

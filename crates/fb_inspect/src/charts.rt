@@ -227,7 +227,7 @@ fn perform_all<R: BufRead>(
 }
 
 /// The name of the state at an index.
-fn state_name(block: &BasicType, state: usize) -> &[u8]
+pub(crate) fn state_name(block: &BasicType, state: usize) -> &[u8]
     ensures { result.now ≡ state_at block.now state }
 {
     match block.states.get(state) {

@@ -162,7 +162,7 @@ pub(crate) fn react_block<R: BufRead>(
     requires line { IsBlockLine fixed.now block.old line.now }
     requires taken { line.now.taken ≡ true }
     requires next { IsNext fixed.now line.now.key.tick trail.old.reading }
-    ensures turned { (s : Seen) → IsBlockKept block.old.state.kind block.old s → OnOk result (TakenGoes fixed.now block.old.state.kind line.now s block.new trail.old trail.new (R.remaining input.old) (R.remaining input.new)) }
+    ensures takes { (s : Seen) → IsBlockKept block.old.state.kind block.old s → OnOk result (TakenGoes fixed.now block.old.state.kind line.now s block.new trail.old trail.new (R.remaining input.old) (R.remaining input.new)) }
     ensures refused { (s : Seen) → IsBlockKept block.old.state.kind block.old s
         → HasNames fixed.now → IsPlain fixed.now.form line.now.key
         → IfErr result (OfRefusal (λ n. EmitsFail fixed.now line.now (emissions_by block.old.state.kind (reaction_at fixed.now block.old.state.kind s line.now)) trail.old.reading trail.new.reading (R.remaining input.old) (R.remaining input.new) n)) }
@@ -211,8 +211,8 @@ fn expire_at(block: &mut EventBlock, tick: u64, emits: &mut Emits) -> Result<(),
     }
 }
 
-/// The reaction of an event block to its timer, which goes off at the tick of a line. Answers whether the line is that of
-/// its only emission.
+/// The reaction of an event block to its timer, which goes off at the tick of a line. Answers whether the line is that
+/// of its only emission.
 fn expire_to(alloc: Global, block: &mut EventBlock, line: &Line) -> Result<bool, InspectError>
     requires early { line.now.key.tick ≤ 10 ^ 12 }
     ensures only { IfOk result (λ is_only. IsTrue is_only → HasExpired line.now block.old block.new) }
@@ -237,7 +237,7 @@ pub(crate) fn expire_block<R: BufRead>(
 ) -> Result<(), InspectError>
     requires line { IsBlockLine fixed.now block.old line.now }
     requires text { IsTextOf fixed.now line.now trail.old.reading.line.items }
-    ensures turned { (s : Seen) → IsBlockKept block.old.state.kind block.old s → OnOk result (TimerGoes fixed.now block.old.state.kind line.now s block.new trail.old trail.new (R.remaining input.old) (R.remaining input.new)) }
+    ensures takes { (s : Seen) → IsBlockKept block.old.state.kind block.old s → OnOk result (TimerGoes fixed.now block.old.state.kind line.now s block.new trail.old trail.new (R.remaining input.old) (R.remaining input.new)) }
     ensures refused { (s : Seen) → IsBlockKept block.old.state.kind block.old s
         → HasNames fixed.now → IsPlain fixed.now.form line.now.key
         → IfErr result (OfRefusal (λ n. IsNotDue fixed.now block.old.state.kind s line.now trail.old.reading trail.new.reading n)) }

@@ -1,5 +1,6 @@
 //! Texts that are composed of words, numbers and parts of a line.
 
+use fb_types::Value;
 use std::alloc::{AllocError, Global};
 
 /// The most bytes of a part of a line that are shown.
@@ -13,8 +14,8 @@ fn shown(byte: u8) -> u8 {
     }
 }
 
-/// A growing text. If memory runs out for a part, it stops growing, and `into_string` reports it. So code that appends needs no
-/// check.
+/// A growing text. If memory runs out for a part, it stops growing, and `into_string` reports it. So code that appends
+/// needs no check.
 #[derive(Drop)]
 pub(crate) struct LineText {
     all: String,
@@ -54,6 +55,19 @@ impl LineText {
         self.words(words);
         if self.written.is_ok() {
             self.written = write!(self.all, "{number}");
+        }
+    }
+
+    /// Appends a value, as a trace has it.
+    pub(crate) fn value(&mut self, value: Value) {
+        match value {
+            Value::Bool(true) => self.words("TRUE"),
+            Value::Bool(false) => self.words("FALSE"),
+            Value::Whole(number) => {
+                if self.written.is_ok() {
+                    self.written = write!(self.all, "{number}");
+                }
+            }
         }
     }
 

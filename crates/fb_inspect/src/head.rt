@@ -26,8 +26,8 @@ fn put_inner(text: &mut Vec<u8>, system: &System, instance: u32) -> Result<(), A
     }
 }
 
-/// Puts the scope of an instance with its inside, where the given number of scopes of instances are open, and returns how many
-/// are open then.
+/// Puts the scope of an instance with its inside, where the given number of scopes of instances are open, and returns
+/// how many are open then.
 fn put_whole(
     text: &mut Vec<u8>,
     system: &System,

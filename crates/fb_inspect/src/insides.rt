@@ -16,6 +16,7 @@ ghost use Rattle.fb_inspect.specs.OfSystem.{BeginsWalk, IsNext, IsShownBy, IsWro
 use crate::ahead::Ahead;
 use crate::blocks::opened_all;
 use crate::error::InspectError;
+use crate::fault_names::instance_of;
 use crate::finding::{Finding, RefusedLine};
 use crate::page::Page;
 use crate::reading::{Reading, judged};
@@ -96,21 +97,10 @@ fn shown_of(alloc: Global, system: &System, only: &[Name]) -> Result<Vec<bool>, 
     Ok(shown)
 }
 
-/// Whether an instance has this path.
-fn has_path(system: &System, path: &Name) -> bool {
-    system.facts();
-    for index in 0..system.count() {
-        if system.path(index as u32) == path.as_bytes() {
-            return true;
-        }
-    }
-    false
-}
-
 /// Whether an instance has each of these paths.
 fn have_paths(system: &System, only: &[Name]) -> bool {
     for path in only {
-        if !has_path(system, path) {
+        if instance_of(system, path.as_bytes()).is_none() {
             return false;
         }
     }
@@ -238,19 +228,21 @@ fn inspect_with<R: BufRead, W: Write>(
     Ok(())
 }
 
-/// Reads a trace of the system, in either form, and writes it with what happens inside the blocks between its lines. Each
-/// line between them begins with two spaces.
+/// Reads a trace of the system, in either form, and writes it with what happens inside the blocks between its lines.
+/// Each line between them begins with two spaces.
 ///
 /// If a trace ends where a resource has used up its steps, the walk uses the limit of the terms, otherwise the greatest
 /// that a run may have. What is written of a trace that is cut off ends in a line that says so, if the terms allow it.
 /// Before that, lines that may be only a part of what an event causes are written as they are.
 ///
-/// All memory is that of the blocks, of a line, of a page, of the lines that an event causes, and of what is shown of it.
+/// All memory is that of the blocks, of a line, of a page, of the lines that an event causes, and of what is shown of
+/// it.
 ///
 /// # Errors
-/// `Refused` with the number of the first line that shows that no run has the trace: it is no line of the system, or not
-/// what the blocks emit there. That line is lent then. Sampled values and the ticks of events are taken as they are. What
-/// was written then is the beginning of what would be written of the trace, up to an event that was taken as a whole.
+/// `Refused` with the number of the first line that shows that no run has the trace: it is no line of the system, or
+/// not what the blocks emit there. That line is lent then. Sampled values and the ticks of events are taken as they
+/// are. What was written then is the beginning of what would be written of the trace, up to an event that was taken as
+/// a whole.
 pub fn inspect<R: BufRead, W: Write>(
     alloc: Global,
     system: &System,

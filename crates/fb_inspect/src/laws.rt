@@ -1,6 +1,6 @@
 //! Laws of the definitions, which callers may use.
 
-ghost use Rattle.fb_inspect.specs.Laws.{AddsUp, FewerSteps, MoreSteps, OneLine, OneRow, OneTaking, ReactionsAreTurns, RefusedIsNoRun, RunsAreTurns, RunsBegin, RunsGoOn, SomeTaking, TracesAreAccepted};
+ghost use Rattle.fb_inspect.specs.Laws.{AddsUp, FewerSteps, MoreSteps, OneLine, OneRow, OneTaking, ReactionsAreTakings, RefusedIsNoRun, RunsAreTakings, RunsBegin, RunsGoOn, SomeTaking, TracesAreAccepted};
 
 /// For proofs: marks of one trace after another are exactly those of what the takings of all of them do.
 pub fn marks_add_up()
@@ -28,30 +28,31 @@ pub fn more_steps_change_nothing()
     ensures begins { FewerSteps }
 {}
 
-/// Each reaction of a run is a taking of a walk through its trace: with the same lines, the same stop and the same steps,
-/// and what the blocks remember after it is what the walk says.
+/// Each reaction of a run is a taking of a walk through its trace: with the same lines, the same stop and the same
+/// steps, and what the blocks remember after it is what the walk says.
 pub fn reactions_are_takings()
-    ensures { ReactionsAreTurns }
+    ensures { ReactionsAreTakings }
 {}
 
-/// The takings of a run, to any horizon and with any limit on steps, are those of a walk through its trace, with the same
-/// lines, and the walk ends as the run does. So the contract of `inspect` leaves out no run. After the first line of a
-/// taking the lines of each run go on with the emissions of that taking, as long as its steps last, and the next line after
-/// takings begins one. So a text with other lines is that of no run.
+/// The takings of a run, to any horizon and with any limit on steps, are those of a walk through its trace, with the
+/// same lines, and the walk ends as the run does. So the contract of `inspect` leaves out no run. After the first line
+/// of a taking the lines of each run go on with the emissions of that taking, as long as its steps last, and the next
+/// line after takings begins one. So a text with other lines is that of no run.
 pub fn runs_are_walks()
-    ensures takings { RunsAreTurns }
+    ensures takings { RunsAreTakings }
     ensures lines { RunsGoOn }
     ensures next { RunsBegin }
 {}
 
-/// Each trace of each run is one that `inspect` accepts, with the limit that the run had: it is a trace of the system, and each
-/// block in it emits what its reaction gives. In form Two the numbers of its keys are below 2^128, as those of the program are.
+/// Each trace of each run is one that `inspect` accepts, with the limit that the run had: it is a trace of the system,
+/// and each block in it emits what its reaction gives. In form Two the numbers of its keys are below 2^128, as those of
+/// the program are.
 pub fn traces_are_accepted()
     ensures { TracesAreAccepted }
 {}
 
-/// No trace of a run is refused: a text that is wrong at a line, as `inspect` says where it refuses one, is the trace of no run
-/// with that limit, whatever the horizon and the form are.
+/// No trace of a run is refused: a text that is wrong at a line, as `inspect` says where it refuses one, is the trace
+/// of no run with that limit, whatever the horizon and the form are.
 pub fn refused_is_no_run()
     ensures { RefusedIsNoRun }
 {}

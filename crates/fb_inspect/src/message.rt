@@ -1,96 +1,44 @@
 //! The texts that say why no run gives a line.
 
+use crate::fault_text::LineText;
 use crate::finding::{Finding, RefusedLine};
-use fb_draw::put_value;
 use fb_system::System;
 use fb_types::{Emission, Ports, Reason};
 use std::alloc::{AllocError, Global};
 
-/// Adds the path of an instance, if there is one.
-fn put_path(text: &mut Vec<u8>, system: &System, instance: u32) -> Result<(), AllocError> {
-    if (instance as usize) < system.count() {
-        text.extend_from_slice(system.path(instance))?;
-    }
-    Ok(())
-}
-
 /// Adds the values of the variables WITH an event.
-fn put_values(
-    alloc: Global,
-    text: &mut Vec<u8>,
-    ports: &Ports,
-    indexes: &[u32],
-    emission: &Emission,
-) -> Result<(), AllocError> {
+fn push_values(text: &mut LineText, ports: &Ports, indexes: &[u32], emission: &Emission) {
     for (index, value) in indexes.iter().zip(emission.values.as_slice()) {
         if let Some(variable) = ports.outputs.as_slice().get(*index as usize) {
-            text.extend_from_slice(b" ")?;
-            text.extend_from_slice(variable.name.as_bytes())?;
-            text.extend_from_slice(b"=")?;
-            put_value(alloc, text, *value)?;
+            text.words(" ");
+            text.name(variable.name.as_bytes());
+            text.words("=");
+            text.value(*value);
         }
     }
-    Ok(())
 }
 
 /// Adds an event that an instance emits, as a line has it.
-fn put_emission(
-    alloc: Global,
-    text: &mut Vec<u8>,
-    system: &System,
-    instance: u32,
-    emission: &Emission,
-) -> Result<(), AllocError> {
+fn push_emission(text: &mut LineText, system: &System, instance: u32, emission: &Emission) {
     if instance as usize >= system.count() {
-        return Ok(());
+        return;
     }
     let ports = system.ports(instance);
-    put_path(text, system, instance)?;
+    text.name(system.path(instance));
     if let Some(event) = ports.event_outputs.as_slice().get(emission.event as usize) {
-        text.extend_from_slice(b".")?;
-        text.extend_from_slice(event.name.as_bytes())?;
+        text.words(".");
+        text.name(event.name.as_bytes());
         let indexes = system.outputs_with(instance, emission.event);
-        put_values(alloc, text, ports, indexes, emission)?;
+        push_values(text, ports, indexes, emission);
     }
-    Ok(())
 }
 
 /// The word of a reason, as a last line has it.
-fn reason_word(reason: Reason) -> &'static [u8] {
+fn reason_word(reason: Reason) -> &'static str {
     match reason {
-        Reason::Steps => b"steps",
-        Reason::Divide => b"divide",
-        Reason::Range => b"range",
-    }
-}
-
-/// Adds why no run gives the line.
-fn put_finding(
-    alloc: Global,
-    text: &mut Vec<u8>,
-    system: &System,
-    finding: &Finding,
-) -> Result<(), AllocError> {
-    match finding {
-        Finding::Line => Ok(()),
-        Finding::Emits { instance, emission } => {
-            text.extend_from_slice(b"the reaction emits ")?;
-            put_emission(alloc, text, system, *instance, emission)?;
-            text.extend_from_slice(b" here")
-        }
-        Finding::Unmade => text.extend_from_slice(b"the block does not emit this event here"),
-        Finding::NotDue => {
-            text.extend_from_slice(b"the timer of the block does not emit this event in this tick")
-        }
-        Finding::Late => text.extend_from_slice(b"no run has so late a tick"),
-        Finding::NoStep => {
-            text.extend_from_slice(b"the resource uses more steps in this tick than it has")
-        }
-        Finding::Stops(reason) => {
-            text.extend_from_slice(b"the reaction stops the resource here: ")?;
-            text.extend_from_slice(reason_word(*reason))
-        }
-        Finding::Runs => text.extend_from_slice(b"nothing stops the resource here"),
+        Reason::Steps => "steps",
+        Reason::Divide => "divide",
+        Reason::Range => "range",
     }
 }
 
@@ -104,7 +52,25 @@ pub fn finding_message(
     system: &System,
     refused: &RefusedLine,
 ) -> Result<String, AllocError> {
-    let mut text = Vec::new(alloc);
-    put_finding(alloc, &mut text, system, &refused.finding)?;
-    String::from_utf8_lossy(alloc, text.as_slice())
+    let mut text = LineText::new(alloc);
+    match &refused.finding {
+        Finding::Line => {}
+        Finding::Emits { instance, emission } => {
+            text.words("the reaction emits ");
+            push_emission(&mut text, system, *instance, emission);
+            text.words(" here");
+        }
+        Finding::Unmade => text.words("the block does not emit this event here"),
+        Finding::NotDue => {
+            text.words("the timer of the block does not emit this event in this tick");
+        }
+        Finding::Late => text.words("no run has so late a tick"),
+        Finding::NoStep => text.words("the resource uses more steps in this tick than it has"),
+        Finding::Stops(reason) => {
+            text.words("the reaction stops the resource here: ");
+            text.words(reason_word(*reason));
+        }
+        Finding::Runs => text.words("nothing stops the resource here"),
+    }
+    text.into_string()
 }

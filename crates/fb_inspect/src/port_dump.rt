@@ -5,7 +5,7 @@ ghost use Rattle.fb_types.specs.Systems.{System as Flat};
 ghost use Rattle.fb_types.specs.declared.run.Line as run;
 ghost use Rattle.fb_system.specs.OfSystem.{BelongsTo};
 ghost use Rattle.fb_trace.specs.End.{ending_of};
-ghost use Rattle.fb_inspect.specs.Dumping.{IsTurned};
+ghost use Rattle.fb_inspect.specs.Dumping.{ShowsUpTo};
 ghost use Rattle.fb_inspect.specs.Dumping as dumping;
 ghost use Rattle.fb_inspect.specs.StateDumps.{Taken, cut_dump};
 ghost use Rattle.fb_inspect.specs.OfSystem.{AreKept, IsPortDump, Shows, ShowsLines, opening_look, state_dump};
@@ -46,10 +46,10 @@ impl PortDump {
     }
 
     /// Goes on to a tick: puts what changed at ports in the one before after a text, unless it is the same.
-    pub(crate) fn turn(&mut self, tick: u64, text: &mut Vec<u8>) -> Result<(), AllocError>
+    pub(crate) fn go_to(&mut self, tick: u64, text: &mut Vec<u8>) -> Result<(), AllocError>
         ensures numbers { (sys : Flat) → dumping.IsPortDump sys self.old → OnOk result (dumping.IsPortDump sys self.new) }
-        ensures turned { (sys : Flat) (xs : List Taken) (sent : List ℕ) → dumping.Shows sys xs (sent ++ text.old.items) self.old
-            → OnOk result (IsTurned sys xs (sent ++ text.new.items) tick self.new) }
+        ensures shown { (sys : Flat) (xs : List Taken) (sent : List ℕ) → dumping.Shows sys xs (sent ++ text.old.items) self.old
+            → OnOk result (ShowsUpTo sys xs (sent ++ text.new.items) tick self.new) }
     {
         if tick == self.tick {
             return Ok(());

@@ -120,7 +120,7 @@ impl StateWave {
     {
         system.facts();
         let text = &mut self.page.text;
-        self.dump.turn(at.tick, text)?;
+        self.dump.go_to(at.tick, text)?;
         let is_lost = self.walk.trail.marks.charts.lost;
         let blocks = self.walk.blocks.as_slice();
         self.before
@@ -143,7 +143,7 @@ impl StateWave {
         let Next::Event(line) = &self.walk.trail.reading.next else {
             unreachable!()
         };
-        self.dump.turn(line.key.tick, &mut self.page.text)?;
+        self.dump.go_to(line.key.tick, &mut self.page.text)?;
         self.dump.show_line(system, line)?;
         self.dump.show_lines(system, ahead.rows.as_slice())
     }

@@ -80,17 +80,17 @@ fn write_with<R: BufRead, W: Write>(
 /// Reads a trace of the system, in either form, and writes its value change dump with the inside of basic blocks. The
 /// scope of each has, after its ports, its state by name, its internal variables, and the events that it lost.
 ///
-/// A time of the dump is a tick, in milliseconds. In a tick each signal of a port changes once, at most. What changes inside
-/// a block comes where its taking is, so a state changes as often as takings change it. All memory is that of the blocks and
-/// the signals, of the lines that an event causes, and of a page.
+/// A time of the dump is a tick, in milliseconds. In a tick each signal of a port changes once, at most. What changes
+/// inside a block comes where its taking is, so a state changes as often as takings change it. All memory is that of
+/// the blocks and the signals, of the lines that an event causes, and of a page.
 ///
 /// If a trace ends where a resource has used up its steps, the walk uses the limit of the terms, otherwise the greatest
-/// that a run may have. The dump of a trace that is cut off ends in a comment that says so, if the terms allow it. Before
-/// that, lines that may be only a part of what an event causes are shown at ports alone.
+/// that a run may have. The dump of a trace that is cut off ends in a comment that says so, if the terms allow it.
+/// Before that, lines that may be only a part of what an event causes are shown at ports alone.
 ///
 /// # Errors
-/// As those of `crate::inspect`: the line is lent at which the trace is refused. What was written then is the beginning of
-/// a dump of the takings before the fault.
+/// As those of `crate::inspect`: the line is lent at which the trace is refused. What was written then is the beginning
+/// of a dump of the takings before the fault.
 pub fn write_states<R: BufRead, W: Write>(
     alloc: Global,
     system: &System,

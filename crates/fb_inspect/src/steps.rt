@@ -75,8 +75,8 @@ impl TickSteps {
         true
     }
 
-    /// Leaves in a tick what is left of these steps, in place of what is left of the greatest limit. Where more were used
-    /// nothing changes, and the answer is `false`.
+    /// Leaves in a tick what is left of these steps, in place of what is left of the greatest limit. Where more were
+    /// used nothing changes, and the answer is `false`.
     pub(crate) fn limit(&mut self, steps: u64, tick: u64) -> bool
         ensures within { OnTrue result (most ≤ spec.left_at most tick (left_of self.old) + steps) }
         ensures left { OnTrue result (left_of self.new ≡ record { tick = Some tick; left = (spec.left_at most tick (left_of self.old) + steps) - most; least = self.old.least }) }

@@ -14,7 +14,7 @@ ghost use Rattle.fb_wave.specs.Lines.{IsEndOf};
 ghost use Rattle.fb_inspect.specs.Counted.{left_of};
 ghost use Rattle.fb_inspect.specs.Inspections.{KeepSteps};
 ghost use Rattle.fb_inspect.specs.Lines.{IsAlone, IsPlain};
-ghost use Rattle.fb_inspect.specs.Looks.{Look, Turn, left_at, most};
+ghost use Rattle.fb_inspect.specs.Looks.{Look, Taking, left_at, most};
 ghost use Rattle.fb_inspect.specs.Walking as spec;
 ghost use Rattle.fb_inspect.specs.Moves.{shown_text};
 ghost use Rattle.fb_inspect.specs.Refusals.{IsNoRefusal, OfRefusal};
@@ -22,7 +22,7 @@ ghost use Rattle.fb_inspect.specs.declared.error.InspectError.TheVariants.{Refus
 ghost use Rattle.fb_inspect.specs.Standing.{IsStepsStop};
 ghost use Rattle.fb_inspect.specs.Walking.{Finishes, FinishesCut, HasLimited, HasStepped, IsLookOf, MayEnd, SendsCutPart, SendsPart, unread};
 ghost use Rattle.fb_inspect.specs.declared.blocks.Remembered.TheVariants as kept;
-ghost use Rattle.fb_inspect.specs.OfWalk.{AreAhead, AreApart, AreKept, BeginsText, CanReact, FailsAt, GoesAfter, HasAdvanced, HasCovered, HasLook, HasNames, IsCoveredBy, IsKeptAt, IsLineOf, IsNear, IsNext, IsNextLine, IsNotNear, IsShownBy, IsTextOf, IsWrongAt, KeptGoes, LineGoes, LooksAs, ReactGoes, ShowsFront, StandsAfter, StandsAt, StandsWell, Starts, StepGoes, TurnFails, TurnGoes, Watches, resource_count};
+ghost use Rattle.fb_inspect.specs.OfWalk.{AreAhead, AreApart, AreKept, BeginsText, CanReact, FailsAt, GoesAfter, HasAdvanced, HasCovered, HasLook, HasNames, IsCoveredBy, IsKeptAt, IsLineOf, IsNear, IsNext, IsNextLine, IsNotNear, IsShownBy, IsTextOf, IsWrongAt, KeptGoes, LineGoes, LooksAs, ReactGoes, ShowsFront, StandsAfter, StandsAt, StandsWell, Starts, StepGoes, TakingFails, WalkTakes, Watches, resource_count};
 
 use crate::ahead::Ahead;
 use crate::blocks::{Chart, EventBlock, Remembered, basic_type, type_number};
@@ -299,11 +299,11 @@ impl Walk {
         requires is { IsTextOf fixed.now line.now self.old.trail.reading.line.items }
         requires look { HasLook fixed.now self.old }
         ensures goes { (look : Look) → LooksAs fixed.now self.old look
-            → IfOk result (λ stop. TurnGoes fixed.now look line.now stop self.old self.new (R.remaining input.old) (R.remaining input.new)) }
+            → IfOk result (λ stop. WalkTakes fixed.now look line.now stop self.old self.new (R.remaining input.old) (R.remaining input.new)) }
         ensures alone { OnOk result (IsAlone self.old.trail.reading.line.items (R.remaining input.old) → IsAlone self.new.trail.reading.line.items (R.remaining input.new)) }
         ensures refused { (look : Look)
             → HasNames fixed.now → IsPlain fixed.now.form line.now.key → LooksAs fixed.now self.old look
-            → IfErr result (OfRefusal (TurnFails fixed.now look line.now self.old.trail.reading self.new.trail.reading (R.remaining input.old) (R.remaining input.new))) }
+            → IfErr result (OfRefusal (TakingFails fixed.now look line.now self.old.trail.reading self.new.trail.reading (R.remaining input.old) (R.remaining input.new))) }
         ensures next { OnOk result (IsNext fixed.now line.now.key.tick self.new.trail.reading) }
     {
         fixed.table.system.facts();
@@ -317,7 +317,8 @@ impl Walk {
         self.react(fixed, line, input)
     }
 
-    /// Whether a trace may end so where no reaction was stopped: at a horizon, or where a resource has used up these steps.
+    /// Whether a trace may end so where no reaction was stopped: at a horizon, or where a resource has used up these
+    /// steps.
     pub fn may_end(&self, steps: u64, end: Outcome) -> bool
         ensures may { (sys : System) (look : Look) → IsLookOf sys self.now.blocks.items self.now.steps.items look → IsTrue result → MayEnd sys steps look (ending_of end) }
         ensures other { (sys : System) (look : Look) → IsLookOf sys self.now.blocks.items self.now.steps.items look → IsEndOf sys (ending_of end) → result ≡ false → MayEnd sys steps look (ending_of end) → ⊥ }
@@ -351,8 +352,8 @@ impl Walk {
         }
     }
 
-    /// The refusal of a trace that stops where a resource has used up its steps: of the first event after which a resource
-    /// had used too many, or else of the next line, for what was found.
+    /// The refusal of a trace that stops where a resource has used up its steps: of the first event after which a
+    /// resource had used too many, or else of the next line, for what was found.
     fn refusal_for_steps(&mut self, ahead: &mut Ahead, finding: Finding) -> InspectError
         ensures back { ahead.old.watched.is_excess ≡ true → result ≡ Refused ahead.old.watched.number }
         ensures none { ahead.old.watched.is_excess ≡ false → result ≡ Refused self.old.trail.reading.number }
@@ -399,8 +400,8 @@ impl Walk {
         }
     }
 
-    /// Leaves the resource of a key in its tick what is left of these steps, in place of what is left of the greatest limit.
-    /// Answers `false` where more were used.
+    /// Leaves the resource of a key in its tick what is left of these steps, in place of what is left of the greatest
+    /// limit. Answers `false` where more were used.
     fn limit(&mut self, steps: u64, key: &Key) -> bool
         requires { key.now.resource < length self.old.steps.items }
         ensures limited { IsTrue result → HasLimited steps key.now self.old.steps.items self.new.steps.items }
@@ -425,7 +426,8 @@ impl Walk {
         }
     }
 
-    /// Whether the taking of the event of a line may end by its steps: the line that was read ahead is that of such a stop.
+    /// Whether the taking of the event of a line may end by its steps: the line that was read ahead is that of such a
+    /// stop.
     fn is_near(&self, fixed: &Fixed<'_, '_>, ahead: &Ahead, line: &Line) -> bool
         requires { line.now.instance < length self.now.blocks.items }
         ensures near { (look : Look) → AreKept fixed.now self.now.blocks.items look → IsTrue result → IsNear fixed.now line.now ahead.now.last.items }
@@ -444,8 +446,8 @@ impl Walk {
         }
     }
 
-    /// Takes the event of the next line, and goes on in what was read ahead. Answers the reason that stops the resource, if
-    /// one does.
+    /// Takes the event of the next line, and goes on in what was read ahead. Answers the reason that stops the
+    /// resource, if one does.
     fn take_ahead(
         &mut self,
         fixed: &Fixed<'_, '_>,
@@ -455,13 +457,13 @@ impl Walk {
         requires is { IsTextOf fixed.now line.now self.old.trail.reading.line.items }
         requires look { HasLook fixed.now self.old }
         ensures goes { (look : Look) (remaining : Option (List ℕ)) → LooksAs fixed.now self.old look
-            → IfOk result (λ stop. TurnGoes fixed.now look line.now stop self.old self.new (unread ahead.old remaining) (unread ahead.new remaining)) }
+            → IfOk result (λ stop. WalkTakes fixed.now look line.now stop self.old self.new (unread ahead.old remaining) (unread ahead.new remaining)) }
         ensures alone { OnOk result (IsAlone self.old.trail.reading.line.items (Some ahead.old.text.items) → IsAlone self.new.trail.reading.line.items (Some ahead.new.text.items)) }
         ensures last { OnOk result (ahead.new.last ≡ ahead.old.last) }
         ensures watched { ahead.new.watched ≡ ahead.old.watched }
         ensures refused { (look : Look)
             → HasNames fixed.now → IsPlain fixed.now.form line.now.key → LooksAs fixed.now self.old look
-            → IfErr result (OfRefusal (λ n. (rest : List ℕ) × TurnFails fixed.now look line.now self.old.trail.reading self.new.trail.reading (Some ahead.old.text.items) (Some rest) n)) }
+            → IfErr result (OfRefusal (λ n. (rest : List ℕ) × TakingFails fixed.now look line.now self.old.trail.reading self.new.trail.reading (Some ahead.old.text.items) (Some rest) n)) }
         ensures next { OnOk result (IsNext fixed.now line.now.key.tick self.new.trail.reading) }
     {
         let mut rest = ahead.text.as_slice();
@@ -484,12 +486,12 @@ impl Walk {
         ensures goes { (first : Marks) (only : List Name) (steps : ℕ) (known remaining old new : Option (List ℕ))
             → (covered : HasCovered fixed.now first only steps self.old known (unread ahead.old remaining) old new) → last_tick 0 covered.gone.gone.lines ≤ line.now.key.tick
             → IfOk result (HasAdvanced fixed.now first only steps self.new known (unread ahead.new remaining) old new) }
-        ensures turned { (look : Look) (steps : ℕ) (remaining : Option (List ℕ))
+        ensures takes { (look : Look) (steps : ℕ) (remaining : Option (List ℕ))
             → LooksAs fixed.now self.old look
             → IfOk result (LineGoes fixed.now steps look line.now self.old self.new ahead.new (unread ahead.old remaining) (unread ahead.new remaining)) }
-        ensures stands { (steps : ℕ) (turns : List Turn) (rest text : List ℕ) (rows : List run.Line) → StandsAt fixed.now turns self.old ahead.old.text.items ahead.old.last.items line.now rest text
+        ensures stands { (steps : ℕ) (takings : List Taking) (rest text : List ℕ) (rows : List run.Line) → StandsAt fixed.now takings self.old ahead.old.text.items ahead.old.last.items line.now rest text
             → AreAhead fixed.now line.now rows ahead.old.text.items ahead.old.last.items rest → IsNotNear fixed.now line.now ahead.old.last.items
-            → StandsAfter fixed.now steps turns self.new ahead.new.text.items ahead.new.last.items line.now rest text result }
+            → StandsAfter fixed.now steps takings self.new ahead.new.text.items ahead.new.last.items line.now rest text result }
         ensures watched { ahead.new.watched ≡ ahead.old.watched }
         ensures whole { IfOk result (λ step. step ≡ Step.CutOff → ⊥) }
     {
@@ -506,8 +508,8 @@ impl Walk {
         Ok(Step::Ended(stop_of(&line.key, reason)))
     }
 
-    /// Takes the event of the next line, whose resource has all steps of the greatest limit, and notes if it is the first
-    /// after which its resource had used more than these in a tick.
+    /// Takes the event of the next line, whose resource has all steps of the greatest limit, and notes if it is the
+    /// first after which its resource had used more than these in a tick.
     fn take_watched(
         &mut self,
         fixed: &Fixed<'_, '_>,
@@ -521,11 +523,11 @@ impl Walk {
         ensures goes { (first : Marks) (only : List Name) (known remaining old new : Option (List ℕ))
             → (covered : HasCovered fixed.now first only steps self.old known (unread ahead.old remaining) old new) → last_tick 0 covered.gone.gone.lines ≤ line.now.key.tick
             → IfOk result (HasAdvanced fixed.now first only steps self.new known (unread ahead.new remaining) old new) }
-        ensures turned { (look : Look) (remaining : Option (List ℕ))
+        ensures takes { (look : Look) (remaining : Option (List ℕ))
             → LooksAs fixed.now self.old look
             → IfOk result (LineGoes fixed.now steps look line.now self.old self.new ahead.new (unread ahead.old remaining) (unread ahead.new remaining)) }
-        ensures stands { (turns : List Turn) (rest text : List ℕ) (rows : List run.Line) → StandsAt fixed.now turns self.old ahead.old.text.items ahead.old.last.items line.now rest text
-            → Watches fixed.now steps turns ahead.old.watched.number ahead.old.watched.text.items ahead.old.watched.is_excess
+        ensures stands { (takings : List Taking) (rest text : List ℕ) (rows : List run.Line) → StandsAt fixed.now takings self.old ahead.old.text.items ahead.old.last.items line.now rest text
+            → Watches fixed.now steps takings ahead.old.watched.number ahead.old.watched.text.items ahead.old.watched.is_excess
             → AreAhead fixed.now line.now rows ahead.old.text.items ahead.old.last.items rest → IsNotNear fixed.now line.now ahead.old.last.items
             → GoesAfter fixed.now steps self.new ahead.new (Some rest) text result }
         ensures whole { IfOk result (λ step. step ≡ Step.CutOff → ⊥) }
@@ -550,11 +552,11 @@ impl Walk {
         ensures goes { (first : Marks) (only : List Name) (known remaining old new : Option (List ℕ))
             → (covered : HasCovered fixed.now first only steps self.old known (unread ahead.old remaining) old new) → last_tick 0 covered.gone.gone.lines ≤ line.now.key.tick
             → IfOk result (HasAdvanced fixed.now first only steps self.new known (unread ahead.new remaining) old new) }
-        ensures turned { (look : Look) (remaining : Option (List ℕ))
+        ensures takes { (look : Look) (remaining : Option (List ℕ))
             → LooksAs fixed.now self.old look
             → IfOk result (LineGoes fixed.now steps look line.now self.old self.new ahead.new (unread ahead.old remaining) (unread ahead.new remaining)) }
-        ensures stands { (turns : List Turn) (rest text : List ℕ) (rows : List run.Line) → steps ≤ most → StandsAt fixed.now turns self.old ahead.old.text.items ahead.old.last.items line.now rest text
-            → Watches fixed.now steps turns ahead.old.watched.number ahead.old.watched.text.items ahead.old.watched.is_excess
+        ensures stands { (takings : List Taking) (rest text : List ℕ) (rows : List run.Line) → steps ≤ most → StandsAt fixed.now takings self.old ahead.old.text.items ahead.old.last.items line.now rest text
+            → Watches fixed.now steps takings ahead.old.watched.number ahead.old.watched.text.items ahead.old.watched.is_excess
             → AreAhead fixed.now line.now rows ahead.old.text.items ahead.old.last.items rest → IsNear fixed.now line.now ahead.old.last.items
             → GoesAfter fixed.now steps self.new ahead.new (Some rest) text result }
         ensures whole { IfOk result (λ step. step ≡ Step.CutOff → ⊥) }
@@ -621,12 +623,12 @@ impl Walk {
         ensures goes { (first : Marks) (only : List Name) (known old new : Option (List ℕ))
             → (covered : HasCovered fixed.now first only terms.steps self.old known (unread ahead.old (R.remaining input.old)) old new) → last_tick 0 covered.gone.gone.lines ≤ line.now.key.tick
             → IfOk result (HasAdvanced fixed.now first only terms.steps self.new known (unread ahead.new (R.remaining input.new)) old new) }
-        ensures turned { (look : Look)
+        ensures takes { (look : Look)
             → LooksAs fixed.now self.old look
             → IfOk result (LineGoes fixed.now terms.steps look line.now self.old self.new ahead.new (unread ahead.old (R.remaining input.old)) (unread ahead.new (R.remaining input.new))) }
-        ensures stands { (turns : List Turn) (rest text : List ℕ) → terms.steps ≤ most → R.remaining input.old ≡ Some rest
-            → StandsAt fixed.now turns self.old ahead.old.text.items ahead.old.last.items line.now rest text
-            → Watches fixed.now terms.steps turns ahead.old.watched.number ahead.old.watched.text.items ahead.old.watched.is_excess
+        ensures stands { (takings : List Taking) (rest text : List ℕ) → terms.steps ≤ most → R.remaining input.old ≡ Some rest
+            → StandsAt fixed.now takings self.old ahead.old.text.items ahead.old.last.items line.now rest text
+            → Watches fixed.now terms.steps takings ahead.old.watched.number ahead.old.watched.text.items ahead.old.watched.is_excess
             → GoesAfter fixed.now terms.steps self.new ahead.new (R.remaining input.new) text result }
         ensures cut { IfOk result (λ step. step ≡ Step.CutOff → terms.cut ≡ Cut.Allowed) }
     {
@@ -658,7 +660,7 @@ impl Walk {
         ensures goes { (first : Marks) (only : List Name) (known old new : Option (List ℕ))
             → HasCovered fixed.now first only terms.steps self.old known (unread ahead.old (R.remaining input.old)) old new
             → IfOk result (HasAdvanced fixed.now first only terms.steps self.new known (unread ahead.new (R.remaining input.new)) old new) }
-        ensures turned { (look : Look)
+        ensures takes { (look : Look)
             → LooksAs fixed.now self.old look
             → IfOk result (StepGoes fixed.now terms.steps look self.old self.new ahead.new (unread ahead.old (R.remaining input.old)) (unread ahead.new (R.remaining input.new))) }
         ensures stands { (rest text : List ℕ) → terms.steps ≤ most → HasNames fixed.now → R.remaining input.old ≡ Some rest

@@ -1,8 +1,8 @@
 //! Tests of what no run of the program shows: blocks, agendas and shared data by themselves; resources that run by
 //! themselves; lines and inputs that no run has. Expected values were worked out by hand.
 //!
-//! Each test ends the process if memory runs out. `fb_window` frees what holds a system or resources, and a test
-//! forgets other values: code that drops a value proves again how each of its parts is dropped.
+//! Each test ends the process if memory runs out. It drops systems and resources, which cost one call, and
+//! forgets other values: code that drops such a value proves again how each of its parts is dropped.
 
 mod agendas;
 mod belonging;

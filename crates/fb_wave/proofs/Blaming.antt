@@ -14,7 +14,7 @@ use Rattle.fb_types.specs.declared.run.Form.{Form}
 use Rattle.fb_types.specs.declared.run.Line.{Line}
 use Rattle.fb_trace.specs.End.{ending_of}
 use Rattle.fb_trace.specs.declared.last.Outcome.{Outcome}
-use Rattle.fb_wave.specs.Copying.{IsAfter, IsCopied, IsCutShort, IsNoLineFrom, RefusesEnd, RefusesLine}
+use Rattle.fb_wave.specs.Copying.{IsAfter, IsCopied, IsNoLineFrom, RefusesEnd, RefusesLine}
 use Rattle.fb_wave.specs.Dumps.{last_tick}
 use Rattle.fb_wave.specs.Lines.{IsLast, IsLineOf, IsNoLast}
 use Rattle.fb_wave.specs.Named.{HasNames}
@@ -22,7 +22,6 @@ use Rattle.fb_wave.specs.Refusals.{Blames, IsFirstBad}
 use Rattle.fb_wave.specs.declared.copy.Progress.{Progress}
 use Rattle.fb_wave.specs.declared.error.WaveError.{WaveError}
 use Rattle.fb_wave.specs.declared.error.WaveError.TheVariants.{Refused, Names, Memory, Read, Write}
-use Rattle.fb_wave.specs.declared.page.DumpPage.{DumpPage}
 use Rattle.fb_wave.proofs.Copied.{ends_after}
 use Rattle.fb_wave.proofs.Ends.{after_once}
 use Rattle.fb_wave.proofs.Lining.{line_not_last}
@@ -45,11 +44,6 @@ pub known :
 known None left before next P read then = tt
 known (Some t) None before next P read then = absurd read
 known (Some t) (Some u) before next P read then = then t u refl refl (read ∙ append_assoc before next u)
-
--- a writer that fails blames no line
-pub write_blamed : (sys : System) (text old new : Option (List ℕ)) (page : DumpPage) (e : WaveError) → IsCutShort old new page e → Blames sys text e
-write_blamed sys text old new page (Write n) cut = tt
-write_blamed sys text old new page e cut = absurd cut
 
 -- ---- The lines before it
 

@@ -1,24 +1,9 @@
 -- A text is a word and what comes after it in one way at most.
-use Rattle.std.proofs.Common.{◌≡◌, ℕ, ◌+◌, ◌<◌, true, false, List, [], ◌∷◌, ◌++◌, length, take, drop, get_or, refl, sym, ap, ◌∙◌, take-append-drop}
+use Rattle.std.proofs.Common.{◌≡◌, ℕ, true, false, List, [], ◌∷◌, ◌++◌, refl, sym, ap, ◌∙◌}
 use Rattle.std.specs.Prelude.{not}
-use Rattle.std.proofs.lemmas.Bool.{and_parts, and_from, false≢true, not-true, not_from_false}
-use Rattle.std.proofs.lemmas.List.{drop_more}
-use Rattle.std.proofs.lemmas.List.Folds.{list_all-append, list_all_more}
+use Rattle.std.proofs.lemmas.Bool.{and_parts, false≢true, not-true}
+use Rattle.std.proofs.lemmas.List.Folds.{list_all-append}
 use Rattle.fb_wave.specs.Words.{is_end, is_word, is_ended, IsCut}
-
--- what a test of one byte says of a word with one more
-pub word_more : (text : List ℕ) (p b : ℕ) → p < length text → b ≡ get_or text p b → is_end b ≡ false → is_word (take p text) ≡ true → is_word (take (p + 1) text) ≡ true
-word_more text p b within at other word =
-    list_all_more (λ (c : ℕ). not (is_end c)) text p b within
-    ∙ and_from (is_word (take p text)) (not (is_end (get_or text p b))) word (ap (λ (c : ℕ). not (is_end c)) (sym at) ∙ not_from_false (is_end b) other)
-
-pub word_ended : (text : List ℕ) (p b : ℕ) → p < length text → b ≡ get_or text p b → is_end b ≡ true → is_word (take p text) ≡ true → IsCut text (take p text) (drop p text)
-word_ended text p b within at end word =
-    record {
-      parts = sym (take-append-drop p text);
-      whole = word;
-      ended = ap is_ended (drop_more text p b within) ∙ ap is_end (sym at) ∙ end;
-    }
 
 -- a word that is ended is not a word with what ends it
 pub not_word : (w r : List ℕ) → is_ended r ≡ true → is_word (w ++ r) ≡ true → ⊥

@@ -1,4 +1,4 @@
--- What keeps a text from being the last line of a trace, and which ends have one text.
+-- What keeps a text from being the end of a last line, and which ends have one text.
 use Rattle.std.proofs.Common.{◌≡◌, ℕ, ◌<◌, ◌^◌, true, List, [], ◌∷◌, ◌++◌, length, get_or, codes, decimal, refl, sym, ap, ◌∙◌, arith, append_assoc}
 use Rattle.std.specs.Prelude.{slice_get, unwrap_or}
 use Rattle.std.proofs.lemmas.List.{append_cancel_left}
@@ -12,14 +12,13 @@ use Rattle.fb_trace.specs.End.{ending_of}
 use Rattle.fb_trace.specs.declared.last.Outcome.{Outcome}
 use Rattle.fb_trace.specs.declared.last.Outcome.TheVariants.{End, Stop}
 use Rattle.fb_wave.specs.Copying.{IsAfter}
-use Rattle.fb_wave.specs.Lines.{IsEndOf, IsNoLast, IsNoStop, stop_text}
+use Rattle.fb_wave.specs.Lines.{IsEndOf, IsNoStop, stop_text}
 use Rattle.fb_wave.specs.Named.{HasNames}
-use Rattle.fb_wave.specs.Reading.{HasNoNumber, number_text}
+use Rattle.fb_wave.specs.Reading.{number_text}
 use Rattle.fb_wave.specs.Waves.{EndsAfter}
 use Rattle.fb_wave.specs.Words.{IsCut, is_word}
 use Rattle.fb_wave.proofs.Cutting.{cut_once, uncut, word_once}
 use Rattle.fb_wave.proofs.Known.{there}
-use Rattle.fb_wave.proofs.Lining.{last_first}
 use Rattle.fb_wave.proofs.Numerals.{decimal_once, digits_of, number_once}
 use Rattle.fb_wave.proofs.Plain.{name_word}
 
@@ -42,9 +41,6 @@ stop_parts n h b r l = simp append_assoc
 
 stop_is : (sys : System) (k r : ℕ) (reason : Reason) → stop_text sys k r reason ≡ number_text k ++ (name_at sys r ++ after_name reason)
 stop_is sys k r reason = stop_parts (number_text k) (name_at sys r) (codes " ") (reason_text reason) (10 ∷ [])
-
-pub no_tick : (sys : System) (text : List ℕ) → HasNoNumber (2 ^ 64) text → IsNoStop sys text
-no_tick sys text none k r reason small within e = none k _ small (e ∙ stop_is sys k r reason)
 
 module _ (sys : System) (text rest : List ℕ) (t : ℕ) (small : t < 2 ^ 64) (tick : text ≡ number_text t ++ rest) where
   rest_is : (k r : ℕ) (reason : Reason) → k < 2 ^ 64 → text ≡ stop_text sys k r reason → rest ≡ name_at sys r ++ after_name reason
@@ -78,26 +74,8 @@ horizon_is sys h = append_assoc (codes "end ") (decimal h) (10 ∷ [])
 last_is : (sys : System) (k r : ℕ) (reason : Reason) → last_line sys (AtStop k r reason) ≡ codes "stop " ++ stop_text sys k r reason
 last_is sys k r reason = last_parts (codes "stop ") (tick_and_resource_text sys k r) (codes " ") (reason_text reason) (10 ∷ [])
 
--- with a digit begins no end
-pub digit_first : (sys : System) (text : List ℕ) → get_or text 0 0 < 58 → IsNoLast sys text
-digit_first sys text low end can e =
-    let high = last_first sys end in let same = ap (λ (t : List ℕ). get_or t 0 0) e in omega (arith, low, high, same)
-
-pub neither : (sys : System) (text : List ℕ) → ((rest : List ℕ) → text ≡ codes "end " ++ rest → ⊥) → ((rest : List ℕ) → text ≡ codes "stop " ++ rest → ⊥) → IsNoLast sys text
-neither sys text no_end no_stop (AtHorizon h) can e = no_end _ (e ∙ horizon_is sys h)
-neither sys text no_end no_stop (AtStop k r reason) can e = no_stop _ (e ∙ last_is sys k r reason)
-
 apart : (t u : List ℕ) → codes "end " ++ t ≡ codes "stop " ++ u → ⊥
 apart t u e = let first : 101 ≡ 115 = ap (λ (l : List ℕ). get_or l 0 0) e in omega (arith, first)
-
-pub no_horizon : (sys : System) (text rest : List ℕ) → text ≡ codes "end " ++ rest → ((h : ℕ) → h < 2 ^ 64 → rest ≡ decimal h ++ 10 ∷ [] → ⊥) → IsNoLast sys text
-no_horizon sys text rest is none (AtHorizon h) can e = none h can (append_cancel_left (codes "end ") rest (decimal h ++ 10 ∷ []) (sym is ∙ e ∙ horizon_is sys h))
-no_horizon sys text rest is none (AtStop k r reason) can e = apart rest (stop_text sys k r reason) (sym is ∙ e ∙ last_is sys k r reason)
-
-pub no_stop : (sys : System) (text rest : List ℕ) → text ≡ codes "stop " ++ rest → IsNoStop sys rest → IsNoLast sys text
-no_stop sys text rest is none (AtHorizon h) can e = apart (decimal h ++ 10 ∷ []) rest (sym (horizon_is sys h) ∙ sym e ∙ is)
-no_stop sys text rest is none (AtStop k r reason) can e =
-    none k r reason can.0 can.1 (append_cancel_left (codes "stop ") rest (stop_text sys k r reason) (sym is ∙ e ∙ last_is sys k r reason))
 
 -- ---- Ends with one text come after the same ticks
 

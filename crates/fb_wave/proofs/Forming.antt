@@ -15,9 +15,6 @@ use Rattle.fb_wave.proofs.Lining.{after_holder, after_key, holder_named, key_thr
 use Rattle.fb_wave.proofs.Numerals.{digits_of, number_cut}
 use Rattle.fb_wave.proofs.Plain.{name_first}
 
-pub chosen : (t : Bool) (x b : ℕ) (f : Form) → f ≡ (if t then Two else One) → t ≡ is_digit x → x ≡ b → f ≡ (if is_digit b then Two else One)
-chosen t x b f is digit same = is ∙ ap (λ (s : Bool). if s then Two else One) (digit ∙ ap is_digit same)
-
 -- what a function is promised to answer for a line by its second word
 abbrev pub ShowsForm : Form → List ℕ → Type 0
 ShowsForm f text =

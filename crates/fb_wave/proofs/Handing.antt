@@ -1,7 +1,7 @@
 -- What holds of the last call of a function, whose answer is the function's.
 use Rattle.std.proofs.Common.{◌≡◌, ℕ, List, Result, Ok, Err, sym, subst}
 use Rattle.std.specs.Result.{IsErrAnd}
-use Rattle.std.specs.Prelude.{IfErr, IfNone, IfOk, None, OnOk, Option, Some, if◌then◌else◌, is_ok}
+use Rattle.std.specs.Prelude.{IfErr, IfNone, None, OnOk, Option, Some, if◌then◌else◌, is_ok}
 
 -- where the call goes well, something more holds
 pub on_ok : {A E : Type 0} (r : Result A E) (P Q : Type 0) → OnOk r P → (P → Q) → OnOk r Q
@@ -37,8 +37,3 @@ on_put (Err e) new put old P is f = tt
 pub none_then : {A : Type 0} (o : Option A) (P Q : Type 0) → IfNone o P → (P → Q) → IfNone o Q
 none_then None P Q h f = f h
 none_then (Some x) P Q h f = tt
-
--- where the call answers none, something more holds
-pub ok_none : {A E : Type 0} (r : Result (Option A) E) (P Q : Type 0) → IfOk r (λ o. IfNone o P) → (P → Q) → IfOk r (λ o. IfNone o Q)
-ok_none (Ok o) P Q h f = none_then o P Q h f
-ok_none (Err e) P Q h f = tt

@@ -1,7 +1,7 @@
 -- The head of a dump, instance by instance and resource by resource.
-use Rattle.std.proofs.Common.{◌≡◌, ℕ, ◌+◌, ◌-◌, ◌<◌, ◌≤◌, Bool, cond, List, [], ◌∷◌, ◌++◌, length, drop, get_or, codes, refl, sym, ap, ◌∙◌, arith, append_assoc, append-nil}
+use Rattle.std.proofs.Common.{◌≡◌, ℕ, ◌+◌, ◌-◌, ◌<◌, ◌≤◌, Bool, cond, List, [], ◌∷◌, ◌++◌, length, drop, get_or, codes, refl, sym, ap, ◌∙◌, arith, append_assoc}
 use Rattle.std.proofs.lemmas.Bool.{eq-eqb, ne_eqb}
-use Rattle.std.proofs.lemmas.List.{drop_all, drop_more, drop_at, length-append}
+use Rattle.std.proofs.lemmas.List.{drop_more, drop_at, length-append}
 use Rattle.fb_types.specs.Flat.{parent}
 use Rattle.fb_types.specs.Names.{Name, Path}
 use Rattle.fb_types.specs.Systems.{System}
@@ -18,11 +18,6 @@ use Rattle.fb_wave.proofs.Numbering.{first_signal-next, paths_from}
 pub route_length : (lib : Library) (p : Path) → length (route_to lib p) ≡ length p
 route_length lib [] = refl
 route_length lib (n ∷ p) = let e = route_length lib p in omega (arith, e, length-append (route_to lib p) (index_at lib p n ∷ []))
-
-pub own_top : (p : Path) → parent p ≡ [] → path_text p ≡ own_name p
-own_top [] e = refl
-own_top (n ∷ []) e = refl
-own_top (n ∷ m ∷ p) e = absurd (cc)
 
 pub own_inner : (p q : Path) → q ≡ parent p → 0 < length q → drop (length (path_text q) + 1) (path_text p) ≡ own_name p
 own_inner [] q e some = absurd (omega (arith, some, ap length e))
@@ -78,12 +73,6 @@ declared_past sys r depth i text all within other soFar =
     ap (λ (k : ℕ). text ++ instances_declared sys r depth k (drop (i + 1) sys.paths)) (first_signal-next sys i within)
     ∙ ap (λ (l : List ℕ). text ++ l) (sym split) ∙ soFar
 
-pub declared_all :
-    (sys : System) (r depth i s : ℕ) (text all : List ℕ) → length sys.paths ≤ i → text ++ instances_declared sys r depth s (drop i sys.paths) ≡ all
-    → text ++ closed depth ≡ all
-declared_all sys r depth i s text all past soFar =
-    ap (λ (l : List ℕ). text ++ l) (sym (ap (instances_declared sys r depth s) (drop_all i sys.paths past))) ∙ soFar
-
 -- ---- Beginnings
 
 pub begun_on :
@@ -98,10 +87,6 @@ begun_on sys i text new all within put soFar =
     ap (λ (k : ℕ). new ++ instances_begun sys k (drop (i + 1) sys.paths)) (first_signal-next sys i within)
     ∙ ap (λ (l : List ℕ). l ++ rest) put ∙ append_assoc text (ports_begun (initial_in sys (path_at sys i)) s its) rest
     ∙ ap (λ (l : List ℕ). text ++ l) (sym (ap (instances_begun sys s) (paths_from sys i within))) ∙ soFar
-
-pub begun_all : (sys : System) (i s : ℕ) (text all : List ℕ) → length sys.paths ≤ i → text ++ instances_begun sys s (drop i sys.paths) ≡ all → text ≡ all
-begun_all sys i s text all past soFar =
-    sym (append-nil text) ∙ ap (λ (l : List ℕ). text ++ l) (sym (ap (instances_begun sys s) (drop_all i sys.paths past))) ∙ soFar
 
 -- ---- Resources
 
@@ -122,8 +107,3 @@ resources_on sys r n a b c d all within at one two three soFar =
   where
     regroup : (a o i k r : List ℕ) → (((a ++ o) ++ i) ++ k) ++ r ≡ a ++ (((o ++ i) ++ k) ++ r)
     regroup a o i k r = simp append_assoc
-
-pub resources_all :
-    (sys : System) (r : ℕ) (text all : List ℕ) → length sys.resource_names ≤ r → text ++ resources_declared sys r (drop r sys.resource_names) ≡ all → text ≡ all
-resources_all sys r text all past soFar =
-    sym (append-nil text) ∙ ap (λ (l : List ℕ). text ++ l) (sym (ap (resources_declared sys r) (drop_all r sys.resource_names past))) ∙ soFar

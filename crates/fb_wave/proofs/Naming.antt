@@ -141,12 +141,6 @@ module _ (i : Inputs) where
 
   -- ---- What is no name
 
-  pub resource_unnamed : (k : ℕ) → k < length (system_of i).resource_names → is_name (slice_index_or (system_of i).resource_names k []) ≡ false → HasNames (system_of i) → ⊥
-  resource_unnamed k h is names =
-      let sys = system_of i in
-      let c : Contains sys.resource_names (slice_index_or sys.resource_names k []) = (k, h, at_any sys.resource_names k (slice_index_or sys.resource_names k []) [] h) in
-      true≢false (sym (names.resources (slice_index_or sys.resource_names k []) c) ∙ is)
-
   own_named : (p : Path) → 0 < length p → AreNames p → is_name (own_name p) ≡ true
   own_named [] h are = absurd (omega (arith, h))
   own_named (n ∷ p) h are = are n (Contains-here n p)

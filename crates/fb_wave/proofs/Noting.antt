@@ -215,8 +215,3 @@ fired_one n f t u x y s d e v all within is cells listed =
     (λ k differ. ap (shows (last_shown k t)) (count_same f s k differ))
     (is ∙ ap after_event ((all.cells s e within).shown) ∙ after-shows (last_shown s t) (count_in s f) ∙ ap (shows (last_shown s t)) (count_next f s))
     cells listed
-
--- ---- The beginning
-
-pub cell_new : (s : ℕ) → IsCell [] [] [] s (record { shown = Count 0; is_marked = false })
-cell_new s = record { shown = refl; is_marked = refl }

@@ -1,5 +1,5 @@
 -- The numbers of signals, instance by instance.
-use Rattle.std.proofs.Common.{◌≡◌, ℕ, ◌+◌, ◌^◌, ◌<◌, ◌≤◌, List, [], ◌∷◌, ◌++◌, length, take, drop, get_or, refl, sym, ap, subst, ◌∙◌, arith, inl, inr, take-append-drop}
+use Rattle.std.proofs.Common.{◌≡◌, ℕ, ◌+◌, ◌^◌, ◌<◌, ◌≤◌, List, [], ◌∷◌, ◌++◌, length, take, drop, get_or, sym, ap, subst, ◌∙◌, arith, inl, inr, take-append-drop}
 use Rattle.std.proofs.lemmas.Bool.{cases_lt}
 use Rattle.std.proofs.lemmas.Grind.{take_at_read}
 use Rattle.std.proofs.lemmas.Option.{unwrap_or-slice_get}
@@ -44,9 +44,6 @@ paths_from sys i within = drop_more sys.paths i [] within ∙ ap (λ (p : Path).
 pub record AreFirstsBefore (sys : System) (n : ℕ) (firsts : List ℕ) : Type 0 where
   pub counted : length firsts ≡ n
   pub each : (i : ℕ) → i < n → get_or firsts i 0 ≡ first_signal sys i
-
-pub firsts-none : (sys : System) → AreFirstsBefore sys 0 []
-firsts-none sys = record { counted = refl; each = λ i h. absurd (omega arith) }
 
 pub firsts-more : (sys : System) (n f : ℕ) (firsts more : List ℕ) → AreFirstsBefore sys n firsts → f ≡ first_signal sys n → more ≡ firsts ++ f ∷ [] → AreFirstsBefore sys (n + 1) more
 firsts-more sys n f firsts more are is grown =

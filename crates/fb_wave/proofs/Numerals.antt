@@ -3,7 +3,7 @@ use Rattle.std.proofs.Common.{◌≡◌, ℕ, ◌+◌, ◌-◌, ◌*◌, ◌/◌
 use Rattle.std.specs.Prelude.{not, All, MatchOption, Option, Some, None}
 use Rattle.std.proofs.lemmas.Bool.{cases_lt, and_from, or_from, not_from_false, ne_eqb}
 use Rattle.std.proofs.lemmas.Fmt.{decimal_digit, decimal_step_wide, decimal_by_steps_wide}
-use Rattle.std.proofs.lemmas.List.{take_all, drop_more, take_more, length-take-le, get_or_append_left, get_or-take}
+use Rattle.std.proofs.lemmas.List.{drop_more, take_more, length-take-le, get_or_append_left, get_or-take}
 use Rattle.std.proofs.lemmas.List.Elements.{All-push, All-nil}
 use Rattle.std.proofs.lemmas.List.Folds.{list_all-append}
 use Rattle.fb_wave.proofs.Cutting.{cut_once, word_once}
@@ -82,9 +82,6 @@ pub record Reads (value index : ℕ) (text : List ℕ) : Type 0 where
   pub none : index ≡ 0 → value ≡ 0
   pub some : 0 < index → decimal value ≡ take index text
 
-pub Reads-none : (text : List ℕ) → Reads 0 0 text
-Reads-none text = record { fits = omega arith; none = λ e. e; some = λ h. absurd (omega arith) }
-
 pub Reads-more :
     (v p c n : ℕ) (text : List ℕ) → Reads v p text → p < length text → c ≡ get_or text p c → IsGrown v c n → (0 < p → 0 < v)
     → Reads n (p + 1) text
@@ -110,9 +107,6 @@ Reads-more v p c n text r within at grown some =
     ]
     in
     record { fits = small; none = λ e. absurd (omega arith); some = λ _. longer }
-
-pub Reads-all : (v p : ℕ) (text : List ℕ) → Reads v p text → 0 < length text → length text ≤ p → text ≡ decimal v
-Reads-all v p text r some past = sym (r.some (omega arith) ∙ take_all p text past)
 
 -- ---- Texts that are no numbers
 

@@ -1,5 +1,5 @@
 -- Signals shown one after another.
-use Rattle.std.proofs.Common.{◌≡◌, ℕ, zero, suc, ◌+◌, ◌<◌, List, [], ◌∷◌, ◌++◌, length, map, take, get_or, min, sym, ap, subst, ◌∙◌, arith, append_assoc, append-nil, add-one}
+use Rattle.std.proofs.Common.{◌≡◌, ℕ, zero, suc, ◌+◌, ◌<◌, List, [], ◌∷◌, ◌++◌, length, map, take, get_or, min, sym, ap, subst, ◌∙◌, arith, append_assoc, add-one}
 use Rattle.std.proofs.lemmas.List.{map-append}
 use Rattle.fb_types.specs.declared.value.Value.{Value}
 use Rattle.fb_wave.specs.Levels.{AreLevels}
@@ -31,11 +31,6 @@ length-pairs (s ∷ ss) (v ∷ vs) = let e = length-pairs ss vs in omega arith
 abbrev pub AreShown : (from to : Levels) (ps : List (ℕ × Value)) → Type 0
 AreShown from to ps =
     (n : ℕ) (f : List ℕ) (t : List (ℕ × Value)) (u : List ℕ) → AreLevels n f t u from → AreLevels n f (t ++ ps) (u ++ map (λ p. p.0) ps) to
-
-pub shown-none : (from : Levels) → AreShown from from []
-shown-none from n f t u are =
-    subst (λ (ts : List (ℕ × Value)). AreLevels n f ts (u ++ []) from) (sym (append-nil t))
-    (subst (λ (us : List ℕ). AreLevels n f t us from) (sym (append-nil u)) are)
 
 pub shown-more :
     (from to past : Levels) (ps qs : List (ℕ × Value)) (s : ℕ) (v : Value) → AreShown from to ps → qs ≡ ps ++ (s, v) ∷ []

@@ -16,7 +16,7 @@ use Rattle.fb_types.specs.declared.value.Value.{Value}
 use Rattle.fb_types.specs.declared.value.Value.TheVariants as value
 use Rattle.fb_wave.proofs.Cutting.{cut_once, uncut, word_once}
 use Rattle.fb_wave.proofs.Numerals.{digits_of, decimal_once}
-use Rattle.fb_wave.specs.Reading.{IsSmall, IsSmallValue, IsNoNumber, HasNoDigits, IsNoWhole, IsNoTruth, IsNone, IsNoValue, IsTextOfValue, IsTextOfWhole, binding_text, IsBound, IsUnbound, name_at, type_at, fit_each, AreRead, AreUnread}
+use Rattle.fb_wave.specs.Reading.{IsSmall, IsSmallValue, HasNoDigits, IsNoWhole, IsNoValue, IsTextOfValue, IsTextOfWhole, binding_text, IsBound, IsUnbound, name_at, type_at, fit_each, AreRead, AreUnread}
 use Rattle.fb_wave.specs.Words.{is_word, is_ended, IsCut}
 
 -- ---- Values of every type are small
@@ -51,18 +51,10 @@ fits_small Boolean (value.Whole z) is = absurd (false≢true is)
 first_of : (n : ℕ) → n < 2 ^ 64 → get_or (decimal n) 0 0 ≡ 45 → ⊥
 first_of n small e = let are = digits_of n (omega arith) in let low = (are.each 0 0 are.some).low in omega (arith, low, e)
 
--- digits without a sign
-pub plain_is_none : (text : List ℕ) → ((rest : List ℕ) → text ≡ codes "-" ++ rest → ⊥) → IsNoNumber (2 ^ 64) text → IsNoWhole text
-plain_is_none text plain none (pos n) small e = none n small e
-plain_is_none text plain none (negsuc n) small e = plain (decimal (suc n)) e
-
 -- a sign, and no digits of a number above 0 after it
 pub signed_is_none : (text digits : List ℕ) → text ≡ codes "-" ++ digits → HasNoDigits digits → IsNoWhole text
 signed_is_none text digits parts none (pos n) small e = first_of n small (ap (λ (l : List ℕ). get_or l 0 0) (sym e ∙ parts))
 signed_is_none text digits parts none (negsuc n) small e = none n small (append_cancel_left (codes "-") digits (decimal (suc n)) (sym parts ∙ e))
-
-pub no_digits : (digits : List ℕ) → IsNoNumber (2 ^ 64) digits → HasNoDigits digits
-no_digits digits none n small e = none (suc n) small e
 
 pub zero_digits : (digits : List ℕ) (n : ℕ) → digits ≡ decimal n → n ≡ 0 → HasNoDigits digits
 zero_digits digits n is zeroth k small e =
@@ -80,13 +72,6 @@ value_word (value.Whole (negsuc n)) small = (digits_of (suc n) (omega arith)).wo
 pub signed_whole : (o : Option ℤ) (text digits : List ℕ) → text ≡ codes "-" ++ digits → MatchOption o (HasNoDigits digits) (λ z. IsTextOfWhole z (codes "-" ++ digits)) → MatchOption o (IsNoWhole text) (λ z. IsTextOfWhole z text)
 signed_whole None text digits parts none = signed_is_none text digits parts none
 signed_whole (Some z) text digits parts is = record { small = is.small; is = parts ∙ is.is }
-
-pub none_of_both : (text : List ℕ) → IsNoTruth text → IsNoWhole text → IsNone text
-none_of_both text truth whole (value.Bool b) small e = truth b e
-none_of_both text truth whole (value.Whole z) small e = whole z small e
-
-pub none_is_no_value : (ty : Ty) (text : List ℕ) → IsNone text → IsNoValue ty text
-none_is_no_value ty text none v is e = none v (fits_small ty v is) e
 
 whole_once : (y z : ℤ) → IsSmall y → IsSmall z → value_text (value.Whole y) ≡ value_text (value.Whole z) → y ≡ z
 whole_once (pos m) (pos n) low high e = ap pos (decimal_once m n (omega arith) (omega arith) e)
@@ -144,12 +129,6 @@ pub past_sign :
     → w ≡ value_text v ++ rest
 past_sign n ty text t u w v rest is named signed bound = append_cancel_left (codes "=") w _ (sym signed ∙ past_name n ty text t u v rest is named bound)
 
-pub unblank : (n : Name) (ty : Ty) (text : List ℕ) → ((r : List ℕ) → text ≡ codes " " ++ r → ⊥) → IsUnbound n ty text
-unblank n ty text other v rest bound = other _ (bound.parts ∙ spread n v rest)
-
-pub unnamed : (n : Name) (ty : Ty) (text t : List ℕ) → text ≡ codes " " ++ t → ((r : List ℕ) → t ≡ n ++ r → ⊥) → IsUnbound n ty text
-unnamed n ty text t is other v rest bound = other _ (past_blank n ty text t v rest is bound)
-
 pub unsigned : (n : Name) (ty : Ty) (text t u : List ℕ) → text ≡ codes " " ++ t → t ≡ n ++ u → ((r : List ℕ) → u ≡ codes "=" ++ r → ⊥) → IsUnbound n ty text
 unsigned n ty text t u is named other v rest bound = other _ (past_name n ty text t u v rest is named bound)
 
@@ -163,17 +142,6 @@ pub unvalued :
 unvalued n ty text t u w x r is named signed cut other v rest bound =
     let word = value_word v (fits_small ty v bound.typed) in
     other v bound.typed (cut_once w x r (value_text v) rest cut word bound.ended (past_sign n ty text t u w v rest is named signed bound)).0
-
-pub bound_so :
-    (n : Name) (ty : Ty) (text t u w x r : List ℕ) (v : Value) → text ≡ codes " " ++ t → t ≡ n ++ u → u ≡ codes "=" ++ w → IsCut w x r
-    → (fits ty v ≡ true) × (x ≡ value_text v) → IsBound n ty text v r
-bound_so n ty text t u w x r v is named signed cut valued =
-    let after_front : w ≡ value_text v ++ r = cut.parts ∙ ap (λ (l : List ℕ). l ++ r) valued.1 in
-    record {
-      parts = is ∙ ap (λ (l : List ℕ). codes " " ++ l) (named ∙ ap (λ (l : List ℕ). n ++ l) (signed ∙ ap (λ (l : List ℕ). codes "=" ++ l) after_front)) ∙ sym (spread n v r);
-      typed = valued.0;
-      ended = cut.ended;
-    }
 
 -- a text begins with a variable and a value in one way at most
 pub bound_once : (n : Name) (ty : Ty) (text : List ℕ) (v w : Value) (r q : List ℕ) → IsBound n ty text v r → IsBound n ty text w q → (v ≡ w) × (r ≡ q)

@@ -169,7 +169,7 @@ Blames i = refusals.Blames (system_of i)
 abbrev pub IsRefusedLine : Inputs → (text : Option (List ℕ)) → CurrentLine → WaveError → Type 0
 IsRefusedLine i = current_lines.IsRefusedLine (system_of i)
 
--- .. of a trace that may be cut off
+-- The wave of a trace that may be cut off is shown.
 abbrev pub IsShown : Cut → Inputs → (text : List ℕ) → (old new : Option (List ℕ)) → Type 0
 IsShown cut i = cut_off.IsShown cut (system_of i)
 

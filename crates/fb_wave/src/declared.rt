@@ -8,8 +8,8 @@ use crate::digits::put_decimal;
 use fb_types::Ty;
 use std::alloc::AllocError;
 
-/// Declares a signal. The front has its kind, and ends in the letter with which the dump calls it. The mark is the end of
-/// its name.
+/// Declares a signal. The front has its kind, and ends in the letter with which the dump calls it. The mark is the end
+/// of its name.
 fn put_declared(
     text: &mut Vec<u8>,
     front: &[u8],

@@ -80,7 +80,7 @@ fn put_stop(text: &mut Vec<u8>, resource: &[u8], reason: Reason) -> Result<(), A
 }
 
 /// Goes on to a tick: appends what changed in the tick before, unless it is the same.
-fn turn(levels: &mut Levels, shown: u64, tick: u64, text: &mut Vec<u8>) -> Result<(), AllocError>
+fn move_to(levels: &mut Levels, shown: u64, tick: u64, text: &mut Vec<u8>) -> Result<(), AllocError>
     ensures counted { length levels.new.cells.items ≡ length levels.old.cells.items }
     ensures turned { (sys : Flat) (ls : List Line) (sent : List ℕ) → Shows sys ls (sent ++ text.old.items) shown levels.old
         → OnOk result (Turns sys ls (sent ++ text.new.items) tick levels.new) }
@@ -120,7 +120,7 @@ impl Dump {
         ensures shown { (ls : List Line) (sent : List ℕ) → HasShown system.now ls (sent ++ text.old.items) self.old
             → OnOk result (HasShown system.now (ls ++ line.now ∷ []) (sent ++ text.new.items) self.new) }
     {
-        turn(&mut self.signals.levels, self.tick, line.key.tick, text)?;
+        move_to(&mut self.signals.levels, self.tick, line.key.tick, text)?;
         self.tick = line.key.tick;
         self.signals.show(system, line)
     }

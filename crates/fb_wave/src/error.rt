@@ -37,14 +37,21 @@ impl From<AllocError> for WaveError {
     }
 }
 
+/// The fault of a reader that fails with an error of this kind.
+fn fault_of(kind: io::ErrorKind) -> WaveError
+    ensures { IsFaultOf kind result }
+{
+    if kind == io::ErrorKind::OutOfMemory {
+        return WaveError::Memory;
+    }
+    WaveError::Read
+}
+
 /// A reader fails for memory too: if the line that it reads into can't grow.
 impl From<io::Error> for WaveError {
     ghost from_gives = { λ error e. IsFaultOf (error_kind error) e };
 
     fn from(error: io::Error) -> WaveError {
-        if error.kind() == io::ErrorKind::OutOfMemory {
-            return WaveError::Memory;
-        }
-        WaveError::Read
+        fault_of(error.kind())
     }
 }

@@ -2,19 +2,23 @@
 //!
 //! Guarantees to callers:
 //!
-//! - If a text is shown, it is the trace of some lines of the system with an end after them, in one of the two forms. The
-//!   writer got exactly the dump that the definitions have of these, as a function of the whole list.
-//! - If a text is refused, the line is the first that no trace of the system has after the lines before it. The caller gets
-//!   that line.
+//! - If a text is shown, it is the trace of some lines of the system with an end after them, in one of the two forms.
+//!   The writer got exactly the dump that the definitions have of these, as a function of the whole list.
+//! - If a text is refused, the line is the first that no trace of the system has after the lines before it. The caller
+//!   gets that line.
 //! - If a text is refused or something fails, the writer got the first bytes of a dump.
 //! - If a trace may be cut off, no text is refused for its end, and the dump says that the trace is cut off.
 //!
-//! Read in this order: `wave`, the entry, with `error` and `truncation`; `copy`, line by line, with `current_line`, and
-//! `page`, where text waits. Then how lines are read: `names`, which texts are names; `words`, the words of a line; `number`
-//! and `values`, the meaning of words; `ports` and `system_ports`, the event ports of a system; `table`, which finds a port
-//! by its text; `line`; `last`. Then how they are shown: `levels` and `change`, what signals show and how changes are
-//! written; `scopes`, `declared`, `begun` and `signals`, the parts of the head; `digits`; `system_signals` and `head`;
-//! `dump`.
+//! Read in this order:
+//!
+//! - `wave`, with `error` and `truncation`: the entry;
+//! - `copy`, with `current_line` and `page`: a trace line by line;
+//! - `names`, `words`, `number` and `values`: the meaning of words;
+//! - `ports`, `system_ports` and `table`: the event ports of a system, and how one is found by its text;
+//! - `line` and `last`: the meaning of lines;
+//! - `levels` and `change`: what signals show, and how changes are written;
+//! - `scopes`, `declared`, `begun`, `signals`, `digits`, `system_signals` and `head`: the head of a dump;
+//! - `dump`, and `laws` of its shape.
 #![tactic(auto)]
 
 mod begun;
@@ -27,6 +31,7 @@ pub mod dump;
 pub mod error;
 pub mod head;
 pub mod last;
+pub mod laws;
 pub mod levels;
 pub mod line;
 mod names;

@@ -67,8 +67,8 @@ fn add_ports(levels: &mut Levels, ports: &Ports) -> Result<(), AllocError>
     levels.add(ports.outputs.len())
 }
 
-/// Adds the signals of all instances to none. The answer is the number of the first signal of each instance, and after them
-/// the count of signals.
+/// Adds the signals of all instances to none. The answer is the number of the first signal of each instance, and after
+/// them the count of signals.
 fn firsts_of(alloc: Global, system: &System, levels: &mut Levels) -> Result<Vec<usize>, AllocError>
     requires { AreLevels 0 [] [] [] levels.old }
     ensures firsts { IfOk result (λ v. AreFirsts system.now v.items) }

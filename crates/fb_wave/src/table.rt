@@ -141,8 +141,8 @@ impl<'a> PortTable<'a> {
         Some((*port, rest))
     }
 
-    /// The port whose text is the beginning of a text, and what comes after it. Its index is guessed, and looked up if the
-    /// guess is wrong.
+    /// The port whose text is the beginning of a text, and what comes after it. Its index is guessed, and looked up if
+    /// the guess is wrong.
     pub fn find<'b>(&self, guess: &mut Guess, text: &'b [u8]) -> Option<(Port, &'b [u8])>
         ensures found { IfSome result (λ p. BeginsWith self.now.system.now text.now p.0 p.1.now) }
         ensures none { HasNames self.now.system.now → IfNone result (HasNoPort self.now.system.now text.now) }

@@ -19,13 +19,14 @@ use std::io::{BufRead, Write};
 /// Reads a trace of the system, in either form, and writes its value change dump.
 ///
 /// A time of the dump is a tick, in milliseconds. In a tick each signal changes once at most. An event port fires if it
-/// had an event, and the count next to it has 64 bits. A variable takes its last value. The memory is that of the signals,
-/// a line and a page.
+/// had an event, and the count next to it has 64 bits. A variable takes its last value. The memory is that of the
+/// signals, a line and a page.
 ///
 /// # Errors
-/// `Refused` with the number of the first line that no trace of the system has after the lines before it. So no trace is
-/// refused. What was written then is the beginning of a dump and ends at a line. The same holds if the reader fails (`Read`)
-/// or memory runs out (`Memory`). If the writer fails (`Write`), it got as many bytes as the error says, but not all.
+/// `Refused` with the number of the first line that no trace of the system has after the lines before it. So no trace
+/// is refused. What was written then is the beginning of a dump and ends at a line. The same holds if the reader fails
+/// (`Read`) or memory runs out (`Memory`). If the writer fails (`Write`), it got as many bytes as the error says, but
+/// not all.
 ///
 /// # Example
 ///
@@ -38,7 +39,7 @@ use std::io::{BufRead, Write};
 /// let mut dump = Vec::new(rt.alloc());
 /// write_wave(rt.alloc(), &system, &mut trace, &mut dump).expect(&rt, "waves");
 /// assert!(rt; dump.as_slice().ends_with(b"#5\n"));
-/// discard_system(system);
+/// drop(system);
 /// ```
 pub fn write_wave<R: BufRead, W: Write>(
     alloc: Global,

@@ -1,5 +1,5 @@
 -- Whether a test holds for some number below another.
-use Rattle.std.proofs.Common.{List, [], ◌∷◌, length, get_or, map, drop, ◌≡◌, ℕ, zero, suc, ◌+◌, ◌<◌, Bool, true, false, refl, sym, ap, ap₂, ◌∙◌, subst, arith, inl, inr, add-one}
+use Rattle.std.proofs.Common.{List, [], ◌∷◌, length, get_or, map, drop, ◌≡◌, ℕ, zero, suc, ◌+◌, ◌<◌, Bool, true, false, refl, sym, ap, ◌∙◌, subst, arith, inl, inr}
 use Rattle.std.specs.Prelude.{◌&&◌, ◌||◌}
 use Rattle.std.specs.List.{list_any}
 use Rattle.std.proofs.lemmas.Bool.{cases_eq}
@@ -12,10 +12,6 @@ use Rattle.fb_expect.specs.Patterns as patterns
 use Rattle.fb_expect.specs.declared.pattern.Condition.{Condition}
 use Rattle.fb_expect.specs.declared.pattern.Pattern.{Pattern}
 use Rattle.fbsim_command.specs.Known.{any_below, any_event, any_port, are_named, event_there, events_of, has_port, is_of, names_with, numbered, ports_of, variables_of}
-
--- one more number
-pub any-more : (test : ℕ → Bool) (n : ℕ) → any_below test n ≡ false → test n ≡ false → any_below test (n + 1) ≡ false
-any-more test n none off = ap (any_below test) (add-one n) ∙ ap₂ (λ a b. a || b) none off
 
 or-right : (a : Bool) → (a || true) ≡ true
 or-right true = refl

@@ -74,7 +74,3 @@ joined_on before sub (Err e) a b adds is of = tt
 joined_on before sub (Ok new) a b adds is of =
     let joins : Builds adds.1 b = made_so sub adds.1 (λ c. Builds c b) of adds.3 in
     joined adds.0 new adds.1 a b adds.4 joins.local (made_so before adds.0 (λ c. app_of c ≡ a) is adds.2) joins.app
-
--- what a command that may not be there represents, in other words
-pub app_on : {E : Type 0} (made : Result Command E) (f : App → App) (a b : App) → IfOk made (λ c. app_of c ≡ f a) → a ≡ b → IfOk made (λ c. app_of c ≡ f b)
-app_on made f a b at is = subst (λ x. IfOk made (λ c. app_of c ≡ f x)) is at

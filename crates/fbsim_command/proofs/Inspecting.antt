@@ -1,6 +1,6 @@
 -- How a call that inspects a trace ends.
 use Rattle.std.proofs.Common.{◌≡◌, ◌⊎◌, ℕ, Bool, List, Option, Some, None, Result, Ok, Err, codes, decimal, option_map, ◌++◌, inl, inr, refl, sym, ap, subst, ◌∙◌}
-use Rattle.std.specs.Prelude.{IfSome, IsErrAnd, IsTrue, OnErr}
+use Rattle.std.specs.Prelude.{IfSome, IsTrue, OnErr}
 use Rattle.fb_types.specs.Headline.{Inputs, system_of}
 use Rattle.fb_read.specs.declared.error.ReadError.{ReadError}
 use Rattle.fb_read.specs.declared.error.ReadError.TheVariants as read
@@ -71,11 +71,6 @@ inspects_front given x trace old new i is inspection.Unknown front = inr (i, is,
 inspects_front given x trace old new i is inspection.Memory front = inr (i, is, front)
 inspects_front given x trace old new i is inspection.Read front = (i, is, front)
 inspects_front given x trace old new i is (inspection.Write n) front = (i, is, front)
-
--- a failure that is passed on
-pub inspects_passed : (given : Given) (x : Inspect) (trace old new : Held) (r : End) (f : Failure) → IsErrAnd r (λ g. g ≡ f) → Inspects given x trace old new (Err f) → Inspects given x trace old new r
-inspects_passed given x trace old new (Ok d) f bad ends = absurd bad
-inspects_passed given x trace old new (Err g) f is ends = subst (λ (h : Failure). Inspects given x trace old new (Err h)) (sym is) ends
 
 -- ---- What was read
 

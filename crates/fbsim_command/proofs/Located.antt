@@ -8,7 +8,6 @@ use Rattle.fb_read.specs.Blank.{Text}
 use Rattle.fb_read_positions.specs.declared.position.Position.{Position}
 use Rattle.fb_sim.specs.Given.{Given}
 use Rattle.fb_sim.specs.Reports.{Hears}
-use Rattle.fb_sim.specs.Serial.{Declares}
 use Rattle.fb_stop.specs.Found.{IsStop}
 use Rattle.fb_stop.specs.Places.{IsStopPosition}
 use Rattle.fb_stop.specs.Shown.{IsStopShown}
@@ -18,7 +17,7 @@ use Rattle.fb_read_positions.specs.Locations.{IsPlaceAt}
 use Rattle.fb_read_positions.specs.Locations.{IsLocation, IsStretch}
 use Rattle.fb_read_positions.specs.declared.text_locations.TextLocation.{TextLocation}
 use Rattle.fbsim_command.specs.Outcomes.{Held}
-use Rattle.fbsim_command.specs.Stops.{IsNoteAtStop, IsNoteOfRun, IsNoteOfStop, IsOperatorPlace, IsStopNote, IsStopPlace}
+use Rattle.fbsim_command.specs.Stops.{IsNoteAtStop, IsNoteOfRun, IsNoteOfStop, IsOperatorPlace, IsStopPlace}
 
 -- one report after another, of which all was taken
 pub hears_after : (old mid new : Held) (first report : List ℕ) (heard : Bool) → Hears true old mid first → Hears heard mid new report → Hears heard old new (first ++ report)
@@ -72,10 +71,3 @@ pub noted_run : {A : Type 0} (types : List (List ℕ)) (own lines : List ℕ) (g
 noted_run types own lines given i horizon steps stop (Ok None) is h = tt
 noted_run types own lines given i horizon steps stop (Ok (Some note)) is h = (stop, is, h)
 noted_run types own lines given i horizon steps stop (Err e) is h = tt
-
--- .. of what is given
-pub noted_given : {A : Type 0} (types : List (List ℕ)) (own lines : List ℕ) (given : Given) (i : Inputs) (horizon steps : ℕ) (o : Option (String A)) → Declares given i
-    → IfSome o (λ note. IsNoteOfRun types own lines given i horizon steps (string_bytes note))
-    → IfSome o (λ note. IsStopNote types own lines given horizon steps (string_bytes note))
-noted_given types own lines given i horizon steps None declares h = tt
-noted_given types own lines given i horizon steps (Some note) declares h = (i, declares, h)

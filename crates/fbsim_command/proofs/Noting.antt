@@ -8,7 +8,7 @@ use Rattle.fbsim_command.specs.Expecting.{IsNoteAt, input_names_of, own_of, type
 use Rattle.fbsim_command.specs.Texts.{given_of, lines_of, may_lines_of}
 use Rattle.fbsim_command.specs.declared.bench_line.Expect.{Expect}
 use Rattle.fbsim_command.specs.declared.texts.Texts.{Texts}
-use Rattle.fbsim_command.specs.Notes.{AreNotesFrom, AreNotesOf, IsNote, IsNoteBy, IsNoteIn, IsNoteOfFindings, IsNoteOfNumber, Notes, more_line, number_of, on_line}
+use Rattle.fbsim_command.specs.Notes.{AreNotesFrom, AreNotesOf, IsNote, IsNoteBy, IsNoteIn, IsNoteOfFindings, IsNoteOfNumber, Notes, number_of, on_line}
 use Rattle.fbsim_command.specs.InputNotes.{FileNames, IsNoteThere, IsNoteWith}
 use Rattle.std.specs.List.{AllZip}
 use Rattle.fb_why.specs.InputPlaces.{IsPlaceOf}
@@ -79,14 +79,6 @@ notes_more types own names lines given fs i f first text note all within is at b
     let whole : all ≡ text ++ on_line (true && is_nil (take i fs)) note = made ∙ ap (λ (b : Bool). text ++ on_line b note) (at ∙ first_is fs i within) in
     subst (λ (gs : List PlacedFinding). AreNotesOf types own names lines given gs all) (ap (λ (g : PlacedFinding). take i fs ++ g ∷ []) is ∙ sym (take_more fs i f within))
     (subst (λ (t : List ℕ). AreNotesOf types own names lines given (take i fs ++ f ∷ []) t) (sym whole) pushed)
-
--- the note of what was found, if anything was
-pub noted-of :
-    {A : Type 0} (types : List (List ℕ)) (own : List ℕ) (names : FileNames) (lines : List ℕ) (given : Given) (text : List ℕ) (f : Findings) (fs : List PlacedFinding) (note : Option (String A)) → fs ≡ f.shown.items → (length fs ≡ 0 → ⊥)
-    → AreNotesOf types own names lines given fs text → IfSome note (λ t. string_bytes t ≡ text ++ more_line f.more) → IfSome note (λ t. IsNoteOfFindings types own names lines given f (string_bytes t))
-noted-of types own names lines given text f fs None same some are is = tt
-noted-of types own names lines given text f fs (Some t) same some are is =
-    (λ none. some (ap length (same ∙ none)), (text, subst (λ (gs : List PlacedFinding). AreNotesOf types own names lines given gs text) same are, is))
 
 -- the note of findings of a number
 pub noted-in :

@@ -1,6 +1,5 @@
 -- How a call for waveforms ends where there are none, or no whole ones.
-use Rattle.std.proofs.Common.{◌≡◌, ◌⊎◌, ℕ, List, Option, Some, None, Ok, Err, inl, inr, refl, sym, ap, subst}
-use Rattle.std.specs.Prelude.{IsErrAnd}
+use Rattle.std.proofs.Common.{◌≡◌, ◌⊎◌, ℕ, List, Option, Some, None, Ok, Err, inl, inr, refl, ap, subst}
 use Rattle.fb_types.specs.Headline.{Inputs, system_of}
 use Rattle.fb_read.specs.declared.error.ReadError.{ReadError}
 use Rattle.fb_read.specs.declared.error.ReadError.TheVariants as read
@@ -75,11 +74,6 @@ dumps_front may given trace old new i is wave.Memory fails blames = inr (i, is, 
 dumps_front may given trace old new i is wave.Read fails blames = (i, is, front_of may i old new wave.Read (λ f. f) (λ f. f) fails)
 dumps_front may given trace old new i is (wave.Write n) fails blames = (i, is, fails)
 dumps_front may given trace old new i is wave.Names fails blames = inr (i, is, front_of may i old new wave.Names (λ f. f) (λ f. f) fails)
-
--- a failure that is passed on
-pub passed : (may : Cut) (given : Given) (trace old new : Held) (r : End) (f : Failure) → IsErrAnd r (λ g. g ≡ f) → Dumps may given trace old new (Err f) → Dumps may given trace old new r
-passed may given trace old new (Ok d) f bad ends = absurd bad
-passed may given trace old new (Err g) f is ends = subst (λ (h : Failure). Dumps may given trace old new (Err h)) (sym is) ends
 
 -- ---- What was read
 

@@ -80,12 +80,12 @@ Dumps may given trace old new (Err (Line message)) = ⊥
 Dumps may given trace old new (Err BadOption) = ⊥
 Dumps may given trace old new (Err (RefusedTrace text)) = ⊥
 
--- .. with the inside of basic blocks, or without
+-- What is written of a trace, with the inside of basic blocks or without it.
 abbrev pub DumpsAs : (has_states : Bool) → (steps : ℕ) → Cut → Given → (trace : Held) → (old new : Held) → End → Type 0
 DumpsAs true steps may given trace old new end = DumpsStates may steps given trace old new end
 DumpsAs false steps may given trace old new end = Dumps may given trace old new end
 
--- .. and what is reported of the line at which it is refused
+-- What is reported of the line at which a trace is refused, with the inside of basic blocks or without it.
 abbrev pub NotesAs : (has_states why : Bool) → Given → (trace : Held) → End → Option Text → Type 0
 NotesAs true why given trace end note = NotesInside why end note
 NotesAs false why given trace end note = NotesLine why given trace end note

@@ -46,7 +46,7 @@ IsNoteOfStop types own lines given i stop note =
 abbrev pub IsNoteOfRun : (types : List (List ℕ)) → (own : List ℕ) → (lines : List ℕ) → Given → Inputs → (horizon steps : ℕ) → (note : List ℕ) → Type 0
 IsNoteOfRun types own lines given i horizon steps note = (stop : FoundStop) × IsStop i horizon steps stop × IsNoteOfStop types own lines given i stop note
 
--- .. of what is given
+-- the note to a stop of a run of what is given
 abbrev pub IsStopNote : (types : List (List ℕ)) → (own : List ℕ) → (lines : List ℕ) → Given → (horizon steps : ℕ) → (note : List ℕ) → Type 0
 IsStopNote types own lines given horizon steps note = (i : Inputs) × Declares given i × IsNoteOfRun types own lines given i horizon steps note
 

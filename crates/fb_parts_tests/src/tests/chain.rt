@@ -21,7 +21,6 @@ use fb_resource::{Resource, WindowDone};
 use fb_system::System;
 use fb_trace::write_lines;
 use fb_types::{Deploy, Form, Line, Message, StopMark};
-use fb_window::discard_resource;
 use std::alloc::Global;
 use std::mem::forget;
 use std::process::Abort;
@@ -127,7 +126,7 @@ pub fn run(
         } => {
             assert!(rt; stop.is_some() || resource.clock() == to);
             let next = resource.next();
-            discard_resource(resource);
+            drop(resource);
             Ran {
                 lines,
                 sent,

@@ -10,7 +10,6 @@ use fb_resource::WindowDone;
 use fb_st::Meter;
 use fb_types::{Deploy, TimerAsk};
 use fb_wave::write_wave;
-use fb_window::{discard_resource, discard_system};
 use std::mem::forget;
 
 #[test]
@@ -26,7 +25,7 @@ fn an_application_is_accepted(rt: HostRuntime) {
     );
     let system = accept(rt.alloc(), library, deploy, stimuli).expect(&rt, "accepted");
     assert!(rt; system.resources() == 1);
-    discard_system(system);
+    drop(system);
 }
 
 #[test]
@@ -45,7 +44,7 @@ fn a_tree_takes_a_timer(rt: HostRuntime) {
         .expect(&rt, "taken");
     assert!(rt; outbox.lines.len() == 1 && outbox.outs.is_empty());
     forget((tree, outbox));
-    discard_system(system);
+    drop(system);
 }
 
 #[test]
@@ -68,9 +67,9 @@ fn a_resource_runs_below_a_tick(rt: HostRuntime) {
     };
     assert!(rt; resource.clock() == 8 && resource.next() == Some(9));
     assert!(rt; lines.len() == 4 && sent.is_empty() && stop.is_none());
-    discard_resource(resource);
+    drop(resource);
     forget((lines, sent));
-    discard_system(system);
+    drop(system);
 }
 
 #[test]
@@ -81,5 +80,5 @@ fn a_trace_is_shown_as_waves(rt: HostRuntime) {
     let mut dump = Vec::new(rt.alloc());
     write_wave(rt.alloc(), &system, &mut trace, &mut dump).expect(&rt, "waves");
     assert!(rt; dump.as_slice().ends_with(b"#5\n"));
-    discard_system(system);
+    drop(system);
 }

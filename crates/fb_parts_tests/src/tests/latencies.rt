@@ -7,7 +7,6 @@ use crate::tests::chain::accepted;
 use fb_link::{arrival, earliest};
 use fb_system::System;
 use fb_types::{Entry, Items, Latency};
-use fb_window::discard_system;
 use std::mem::forget;
 use std::process::Abort;
 
@@ -57,7 +56,7 @@ fn a_message_overtakes_another(rt: HostRuntime) {
     expect_arrival(&rt, &system, 8, 13);
     expect_arrival(&rt, &system, 10, 11);
     expect_arrival(&rt, &system, 12, 13);
-    discard_system(system);
+    drop(system);
 }
 
 #[test]
@@ -76,7 +75,7 @@ fn the_earliest_arrival_may_be_that_of_a_later_message(rt: HostRuntime) {
 fn one_latency_at_every_tick(rt: HostRuntime) {
     let system = accepted(&rt, rt.alloc(), DECLARATION, STEADY_LINK, NO_STIMULI);
     expect_arrival(&rt, &system, 3, 5);
-    discard_system(system);
+    drop(system);
     let Ok(latency) = Latency::constant(rt.alloc(), 2) else {
         panic!(rt; "memory");
     };

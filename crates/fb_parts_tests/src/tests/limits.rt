@@ -3,7 +3,6 @@
 use fb_check::accept;
 use fb_read::read_library;
 use fb_types::{Deploy, Items, Name, Stimulus};
-use fb_window::discard_system;
 use std::alloc::Global;
 use std::process::Abort;
 
@@ -31,7 +30,7 @@ fn number_of(rt: &impl Abort, alloc: Global, count: u64) -> Option<u8> {
     }
     match accept(alloc, library, deploy, stimuli) {
         Ok(system) => {
-            discard_system(system);
+            drop(system);
             None
         }
         Err(error) => error.number(),

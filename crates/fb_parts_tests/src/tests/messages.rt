@@ -3,7 +3,6 @@
 use super::chain::{ENOUGH, accepted, deliver_first, expect_text, handed, opened, run, turned};
 use fb_system::System;
 use fb_types::{Form, Reason, StopMark};
-use fb_window::discard_system;
 use std::alloc::Global;
 use std::mem::forget;
 use std::process::Abort;
@@ -135,7 +134,7 @@ fn messages_come_after_out_of_memory(rt: HostRuntime) {
     for talk in [&LATCH, &SPLIT, &OTHER, &PASS] {
         let system = accepted(&rt, rt.alloc(), talk.declaration, talk.deploy, talk.stimuli);
         expect_received(&rt, rt.alloc(), &system, talk);
-        discard_system(system);
+        drop(system);
     }
 }
 
@@ -184,5 +183,5 @@ fn a_resource_stops_by_itself(rt: HostRuntime) {
     let stimuli = "tick,event,values\n7,C.EI1,\n7,L.GO,\n7,A.EI1,\n";
     let system = accepted(&rt, rt.alloc(), LOOPER, IN_THREE, stimuli);
     expect_stop(&rt, rt.alloc(), &system);
-    discard_system(system);
+    drop(system);
 }

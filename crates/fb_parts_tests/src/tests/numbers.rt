@@ -5,7 +5,6 @@ use super::chain::{accepted, expect_text};
 use fb_system::System;
 use fb_trace::{Outcome, write_last};
 use fb_types::{Form, Key, Line, Reason, StopMark, Value, Values};
-use fb_window::discard_system;
 use std::alloc::Global;
 use std::mem::forget;
 use std::process::Abort;
@@ -228,5 +227,5 @@ fn lines_and_last_lines_have_their_texts(rt: HostRuntime) {
     for (end, text) in &ENDS {
         expect_end(&rt, alloc, &system, *end, *text);
     }
-    discard_system(system);
+    drop(system);
 }

@@ -1,10 +1,9 @@
 //! The blocks of a resource as trees, and its shells, each at the seat of its instance.
 
 use fb_event::EventState;
-use fb_net::{Block, Forest};
+use fb_net::{Block, Forest, HeldCopies};
 use fb_types::{EventKind, Items};
 use std::alloc::Global;
-use std::collections::BTreeMap;
 use std::mem::forget;
 use std::process::Abort;
 
@@ -47,7 +46,10 @@ fn an_instance_without_a_seat_has_the_first(rt: HostRuntime) {
         blocks: Items::new(alloc),
         seats: Items::from_vec(Vec::from_slice(alloc, &[0, 0, 1, 2, 2]).expect(&rt, "memory")),
         shells: Items::new(alloc),
-        held: BTreeMap::new(alloc),
+        held: HeldCopies {
+            indexes: Items::new(alloc),
+            rows: Items::new(alloc),
+        },
     };
     assert!(rt; forest.seat(2) == 1 && forest.seat(4) == 2);
     assert!(rt; forest.seat(5) == 0);

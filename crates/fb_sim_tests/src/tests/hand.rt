@@ -13,7 +13,7 @@ use fb_resource::WindowDone;
 use fb_system::System;
 use fb_trace::{Outcome, write_last, write_lines};
 use fb_types::{Form, Line};
-use fb_window::{Bounds, Core, Job, Settled, discard_jobs};
+use fb_window::{Bounds, Core, Job, Settled};
 use std::alloc::Global;
 use std::mem::forget;
 use std::process::Abort;
@@ -53,7 +53,7 @@ fn run_jobs<R: Abort>(rt: &R, alloc: Global, mut jobs: Vec<Job>, order: u64) -> 
     ensures { AllZip Does jobs.items result.items }
 {
     let Some(last) = jobs.pop() else {
-        discard_jobs(jobs);
+        drop(jobs);
         return Vec::new(alloc);
     };
     let next = order.rotate_right(1);
@@ -162,7 +162,7 @@ fn run_on<R: Abort>(
             Settled::Ended(last, lines) => {
                 hand_out(rt, system, plan.form, lines, out);
                 write_last(out, system, Outcome::End(plan.horizon)).expect(rt, "written");
-                last.discard();
+                drop(last);
                 return;
             }
             Settled::Stopped(lines, mark) => {

@@ -120,7 +120,7 @@ fn expect_rounds<R: Abort + Threads + Wait + Sync>(
         match round(rt, alloc, &system, core, options, &mut out, &OpenGate) {
             Ok(Round::Going(next)) => core = next,
             Ok(Round::Ended(last)) => {
-                last.discard();
+                drop(last);
                 expect_lines(rt, &out, before, lines);
                 assert!(rt; is_last && case.outcome == Outcome::End(case.horizon));
                 return discard(system);

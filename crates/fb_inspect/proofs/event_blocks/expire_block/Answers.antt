@@ -10,8 +10,8 @@ use Rattle.fb_inspect.proofs.NotDue.{not_due}
 use Rattle.fb_inspect.proofs.Refused.{none_passed}
 use Rattle.fb_inspect.proofs.event_blocks.expire_block.Goals as goal
 
-pub returns-clause-turned : goal.returns-clause-turned
-returns-clause-turned g c = λ s kept.
+pub returns-clause-takes : goal.returns-clause-takes
+returns-clause-takes g c = λ s kept.
     timer_goes (system_of c.args.fixed.now.table.now.system.now) c.args.block.now c.args.line.now c.requires.line s kept c.args.fixed.now.form c.expire_to.new.block
     (seen_memory c.seen_of-before.result.memory) (seen_memory c.seen_of-after.result.memory) c.seen_of-before.result.due c.seen_of-after.result.due c.args.trail.now c.pass.new.self _ _ _
     (c.in_ok-expire_to.ensures.only c.if-not-branch.false)

@@ -29,8 +29,8 @@ pub emit_all-requires : goal.emit_all-requires
 emit_all-requires g c =
     subst (λ (r : Reading). IsNext c.args.fixed.now c.args.line.now.key.tick r) (sym c.in_ok-note_change.ensures.reading) c.requires.next
 
-pub returns-clause-turned : goal.returns-clause-turned
-returns-clause-turned g c = λ s kept.
+pub returns-clause-takes : goal.returns-clause-takes
+returns-clause-takes g c = λ s kept.
     let b = c.args.block.now in
     let l = c.args.line.now in
     let trail : Trail = c.args.trail.now in

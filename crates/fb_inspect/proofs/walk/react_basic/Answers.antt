@@ -7,7 +7,7 @@ use Rattle.std.proofs.lemmas.Result.{err_from_is_err_and}
 use Rattle.std.proofs.Common.{[], ◌∷◌, None, inl, inr, refl}
 use Rattle.fb_types.specs.Numbers.{event_at}
 use Rattle.fb_inspect.specs.Chains.{ShowsReaction}
-use Rattle.fb_inspect.specs.Looks.{TurnsAt}
+use Rattle.fb_inspect.specs.Looks.{IsTakingAt}
 use Rattle.fb_inspect.specs.Refusals.{ChartFails, FailsBy}
 use Rattle.fb_inspect.proofs.Failed.{chart_fails, untaken_chart}
 use Rattle.fb_inspect.proofs.Errors.{of_number}
@@ -35,7 +35,7 @@ returns-then-not-line-clause-refused g c = λ look names plain kept.
     let k = sys.kind (path_at sys l.instance) in
     let old = c.args.trail.now.reading in
     let new = c.refusal.new.self.reading in
-    of_number (FailsBy (TurnsAt c.args.meter.now.left look k) sys c.args.fixed.now.form l old new (g.R.Read.remaining c.args.input.now) (g.R.Read.remaining c.args.input.now)) c.refusal.result old.number
+    of_number (FailsBy (IsTakingAt c.args.meter.now.left look k) sys c.args.fixed.now.form l old new (g.R.Read.remaining c.args.input.now) (g.R.Read.remaining c.args.input.now)) c.refusal.result old.number
     c.refusal.ensures.refused
     (inl (untaken_chart sys k c.in-Some.block.now look c.args.meter.now.left l old new old.number c.in-Some.ensures.basic c.if-not-line.true c.refusal.ensures.reading refl))
 
@@ -63,7 +63,7 @@ returns-clause-refused g c = λ look names plain kept.
     let after = g.R.Read.remaining c.react_chart.new.input in
     err_refused c.react_chart.result
     (ChartFails x (ShowsReaction basic (event_at basic.ports.event_inputs l.event)) (begun x look chart chart left 0 None) mid.reading new between after)
-    (FailsBy (TurnsAt left look (sys.kind p)) sys form l old.reading new before after) (c.react_chart.ensures.refused names plain)
+    (FailsBy (IsTakingAt left look (sys.kind p)) sys form l old.reading new before after) (c.react_chart.ensures.refused names plain)
     (λ n fails.
     inr
     (chart_fails x look chart chart left 0 old.reading mid.reading new before between after n taking is

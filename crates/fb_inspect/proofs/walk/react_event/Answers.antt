@@ -5,7 +5,7 @@ use Rattle.fb_wave.proofs.Handing.{on_ok}
 use Rattle.fb_inspect.proofs.Walked.{event_goes, event_kept_at, event_line, expired_goes}
 use Rattle.std.proofs.Common.{[], ◌∷◌, inl, inr}
 use Rattle.std.proofs.lemmas.Result.{err_from_is_err_and}
-use Rattle.fb_inspect.specs.Looks.{TurnsAt, emissions_by}
+use Rattle.fb_inspect.specs.Looks.{IsTakingAt, emissions_by}
 use Rattle.fb_inspect.specs.Refusals.{EmitsFail, FailsBy, IsNotDue}
 use Rattle.fb_inspect.specs.Timing.{taken_reaction}
 use Rattle.fb_inspect.proofs.Failed.{block_fails, not_due}
@@ -24,7 +24,7 @@ returns-then-not-line-clause-goes g c = λ look left kept.
     let l = c.args.line.now in
     let p = path_at sys l.instance in
     let line = event_line sys form b l c.args.trail.now.reading.line.items c.requires in
-    on_ok c.expire_block.result _ _ (c.expire_block.ensures.turned (look.blocks p) (event_kept_at (sys.kind p) b (look.blocks p) kept))
+    on_ok c.expire_block.result _ _ (c.expire_block.ensures.takes (look.blocks p) (event_kept_at (sys.kind p) b (look.blocks p) kept))
     (λ goes.
     expired_goes c.args.fixed.now.table.now.system.now.library.blocks sys form look left l b c.expire_block.new.block line.kind c.args.trail.now c.expire_block.new.trail (g.R.Read.remaining c.args.input.now) (g.R.Read.remaining c.expire_block.new.input) c.expire_block.ensures.charts goes)
 
@@ -40,7 +40,7 @@ returns-clause-goes g c = λ look left kept.
     let l = c.args.line.now in
     let p = path_at sys l.instance in
     let line = event_line sys form b l c.args.trail.now.reading.line.items c.requires in
-    on_ok c.react_block.result _ _ (c.react_block.ensures.turned (look.blocks p) (event_kept_at (sys.kind p) b (look.blocks p) kept))
+    on_ok c.react_block.result _ _ (c.react_block.ensures.takes (look.blocks p) (event_kept_at (sys.kind p) b (look.blocks p) kept))
     (λ goes.
     event_goes c.args.fixed.now.table.now.system.now.library.blocks sys form look left l b c.react_block.new.block line.kind c.args.trail.now c.pass.new.self c.react_block.new.trail (g.R.Read.remaining c.args.input.now)
     (g.R.Read.remaining c.pass.new.input) (g.R.Read.remaining c.react_block.new.input) c.if-not-line.false (c.react_block.ensures.charts ∙ c.in_ok-pass.ensures.charts) c.in_ok-pass.ensures.goes c.in_ok-pass.ensures.alone goes)
@@ -56,7 +56,7 @@ returns-then-not-line-clause-refused g c = λ look left names plain kept.
     let new = c.expire_block.new.trail.reading in
     let line = event_line sys form b l c.args.trail.now.reading.line.items c.requires in
     err_refused c.expire_block.result (IsNotDue sys b.state.kind (look.blocks p) l old new)
-    (FailsBy (TurnsAt left look (sys.kind p)) sys form l old new (g.R.Read.remaining c.args.input.now) (g.R.Read.remaining c.expire_block.new.input))
+    (FailsBy (IsTakingAt left look (sys.kind p)) sys form l old new (g.R.Read.remaining c.args.input.now) (g.R.Read.remaining c.expire_block.new.input))
     (c.expire_block.ensures.refused (look.blocks p) (event_kept_at (sys.kind p) b (look.blocks p) kept) names plain)
     (λ n due. inl (not_due sys (sys.kind p) b.state.kind look left l old new n line.kind c.if-not-line.true due))
 
@@ -79,7 +79,7 @@ returns-clause-refused g c = λ look left names plain kept.
     let after = g.R.Read.remaining c.react_block.new.input in
     let line = event_line sys form b l c.args.trail.now.reading.line.items c.requires in
     err_refused c.react_block.result (EmitsFail sys form l (emissions_by b.state.kind (taken_reaction sys b.state.kind (look.blocks p) l)) mid.reading new between after)
-    (FailsBy (TurnsAt left look (sys.kind p)) sys form l old.reading new before after)
+    (FailsBy (IsTakingAt left look (sys.kind p)) sys form l old.reading new before after)
     (c.react_block.ensures.refused (look.blocks p) (event_kept_at (sys.kind p) b (look.blocks p) kept) names plain)
     (λ n fails.
     inr

@@ -8,7 +8,7 @@ use Rattle.fb_inspect.proofs.Placed.{err_any, err_then}
 use Rattle.fb_inspect.proofs.Stepped.{none_ahead}
 use Rattle.fb_wave.specs.Dumps.{last_tick}
 use Rattle.fb_wave.proofs.Handing.{on_ok}
-use Rattle.fb_inspect.specs.StateDumps.{lines_of, turns_of}
+use Rattle.fb_inspect.specs.StateDumps.{lines_of, takings_of}
 use Rattle.fb_inspect.specs.Waving.{HasGoneOn, HasWaved}
 use Rattle.fb_inspect.proofs.Ending.{cut_done, cut_part, front_flush, front_waved, shown_cut, shown_whole, some_text, whole_done, whole_part}
 use Rattle.fb_inspect.proofs.Waved.{flushed_on, waved_none}
@@ -40,7 +40,7 @@ pub step-requires-clause-look : goal.step-requires-clause-look
 step-requires-clause-look g c =
     let known = some_text (g.R.Read.remaining c.args.input.now) c.args.self.now.walk.trail.reading.line.items in
     let have = c.loop.invariant.0 known.0 known.1 in
-    (last_look (opening_look (system_of c.args.fixed.now.table.now.system.now)) (turns_of have.takings), have.look)
+    (last_look (opening_look (system_of c.args.fixed.now.table.now.system.now)) (takings_of have.takings), have.look)
 
 pub step-requires-clause-next : goal.step-requires-clause-next
 step-requires-clause-next g c =

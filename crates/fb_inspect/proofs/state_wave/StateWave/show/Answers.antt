@@ -9,7 +9,7 @@ use Rattle.fb_inspect.specs.Walking.{AreKept}
 use Rattle.fb_inspect.specs.declared.blocks.Remembered.{Remembered}
 use Rattle.fb_inspect.specs.Dumping.{ShowsLines}
 use Rattle.fb_inspect.specs.StateDumps.{lines_of}
-use Rattle.fb_inspect.proofs.Changing.{turn_text}
+use Rattle.fb_inspect.proofs.Changing.{taking_text}
 use Rattle.fb_inspect.proofs.Growing.{here, shows_more}
 use Rattle.fb_inspect.proofs.Without.{last_lines}
 use Rattle.fb_inspect.proofs.state_wave.StateWave.show.Goals as goal
@@ -25,7 +25,7 @@ pub put_changes-requires-clause-saved : goal.put_changes-requires-clause-saved
 put_changes-requires-clause-saved c = (c.requires.seen, c.requires.saved)
 
 pub show_lines-requires-clause-dump : goal.show_lines-requires-clause-dump
-show_lines-requires-clause-dump c = c.in_ok-turn.ensures.numbers (system_of c.args.system.now) c.requires.dump
+show_lines-requires-clause-dump c = c.in_ok-go_to.ensures.numbers (system_of c.args.system.now) c.requires.dump
 
 pub show_lines-requires-clause-lines : goal.show_lines-requires-clause-lines
 show_lines-requires-clause-lines c = subst (All (BelongsTo (system_of c.args.system.now))) (sym c.as_slice-lines.ensures.value) c.requires.lines
@@ -38,10 +38,10 @@ returns-clause-shown c = λ look after before are.
     on_ok c.show_lines.result _ _ c.show_lines.ensures.shown
     (λ lines. record {
       shown = λ xs y sent shows same first tick then own lost have.
-          shows_more sys xs y sent c.turn.new.text.items c.put_changes.new.text.items at.tick c.turn.new.self c.show_lines.new.self (c.in_ok-turn.ensures.turned sys xs sent shows) tick
+          shows_more sys xs y sent c.go_to.new.text.items c.put_changes.new.text.items at.tick c.go_to.new.self c.show_lines.new.self (c.in_ok-go_to.ensures.shown sys xs sent shows) tick
           (c.in_ok-put_changes.ensures (look.blocks p) after before (subst (λ (bs : List Remembered). AreKept sys bs after) (sym c.as_slice-blocks.ensures.value) are)
-          ∙ ap (λ (t : List ℕ). c.turn.new.text.items ++ t)
-          (turn_text sys (here sys xs) look after y.turn at.instance p c.args.self.now.walk.trail.marks.charts.lost same first then (c.facts.ensures.numbered at.instance c.requires.within) lost))
-          (subst (λ (ls : List Line). ShowsLines sys ls c.turn.new.self c.show_lines.new.self) (c.as_slice-lines.ensures.value ∙ sym own) lines)
-          (last_lines sys 0 (lines_of xs) y.lines y.turn.first y.turn.emits have ∙ tick);
+          ∙ ap (λ (t : List ℕ). c.go_to.new.text.items ++ t)
+          (taking_text sys (here sys xs) look after y.taking at.instance p c.args.self.now.walk.trail.marks.charts.lost same first then (c.facts.ensures.numbered at.instance c.requires.within) lost))
+          (subst (λ (ls : List Line). ShowsLines sys ls c.go_to.new.self c.show_lines.new.self) (c.as_slice-lines.ensures.value ∙ sym own) lines)
+          (last_lines sys 0 (lines_of xs) y.lines y.taking.first y.taking.emits have ∙ tick);
     })

@@ -5,13 +5,13 @@ use Rattle.fb_types.specs.declared.run.Line.{Line}
 use Rattle.fb_system.specs.Lines.{BelongsTo}
 use Rattle.fb_wave.proofs.Handing.{on_ok}
 use Rattle.fb_inspect.specs.declared.reading.Next.TheVariants as next
-use Rattle.fb_inspect.specs.Dumping.{IsTurned, ShowsLines}
+use Rattle.fb_inspect.specs.Dumping.{ShowsLines, ShowsUpTo}
 use Rattle.fb_inspect.proofs.GoneOn.{same_line}
 use Rattle.fb_inspect.proofs.Growing.{shows_untaken}
 use Rattle.fb_inspect.proofs.state_wave.StateWave.show_untaken.Goals as goal
 
 pub show_line-requires-clause-dump : goal.show_line-requires-clause-dump
-show_line-requires-clause-dump c = c.in_ok-turn.ensures.numbers (system_of c.args.system.now) c.requires.dump
+show_line-requires-clause-dump c = c.in_ok-go_to.ensures.numbers (system_of c.args.system.now) c.requires.dump
 
 pub show_line-requires-clause-line : goal.show_line-requires-clause-line
 show_line-requires-clause-line c =
@@ -30,7 +30,7 @@ returns-clause-shown c = λ line xs sent is at shows.
     let same = same_line l line c.args.self.now.walk.trail.reading.next (sym c.in-Event.is) is in
     on_ok c.show_lines.result _ _ c.show_lines.ensures.shown
     (λ more.
-    shows_untaken sys xs line c.args.ahead.now.rows.items (sent ++ c.turn.new.text.items) c.turn.new.self c.show_line.new.self c.show_lines.new.self
-    (subst (λ (k : Line). IsTurned sys xs (sent ++ c.turn.new.text.items) k.key.tick c.turn.new.self) same (c.in_ok-turn.ensures.turned sys xs sent shows))
-    (subst (λ (k : Line). ShowsLines sys (k ∷ []) c.turn.new.self c.show_line.new.self) same c.in_ok-show_line.ensures.shown)
+    shows_untaken sys xs line c.args.ahead.now.rows.items (sent ++ c.go_to.new.text.items) c.go_to.new.self c.show_line.new.self c.show_lines.new.self
+    (subst (λ (k : Line). ShowsUpTo sys xs (sent ++ c.go_to.new.text.items) k.key.tick c.go_to.new.self) same (c.in_ok-go_to.ensures.shown sys xs sent shows))
+    (subst (λ (k : Line). ShowsLines sys (k ∷ []) c.go_to.new.self c.show_line.new.self) same c.in_ok-show_line.ensures.shown)
     (subst (λ (ls : List Line). ShowsLines sys ls c.show_line.new.self c.show_lines.new.self) c.as_slice.ensures.value more) at)

@@ -11,7 +11,7 @@ use Rattle.fb_inspect.specs.declared.trail.Trail.{Trail}
 use Rattle.fb_inspect.specs.declared.walk.Step.{Step}
 use Rattle.fb_inspect.specs.declared.walk.Step.TheVariants as step
 use Rattle.fb_inspect.specs.declared.walk.Walk.{Walk}
-use Rattle.fb_inspect.specs.StateDumps.{turns_of}
+use Rattle.fb_inspect.specs.StateDumps.{takings_of}
 use Rattle.fb_inspect.specs.Waving.{HasGoneOn, IsEventKept, IsNextKept}
 use Rattle.fb_inspect.specs.declared.state_wave.EventAt.{EventAt}
 use Rattle.fb_inspect.proofs.GoneOn.{can_show, gone_cut, gone_none, gone_on, own_rows, ready_of, rows_belong, within_of}
@@ -49,7 +49,7 @@ show_untaken-requires-clause-next g c =
     let fixed = c.args.fixed.now in
     let sys = system_of fixed.table.now.system.now in
     let x = subst (StepGoes fixed.table.now.system.now.library.blocks sys fixed.form c.args.terms.steps c.requires.look.0 _ _ _ _ _) (c.is_cut_off.ensures.yes c.if-is_cut_off.true)
-    (c.in_ok-step.ensures.turned c.requires.look.0 c.requires.look.1) in
+    (c.in_ok-step.ensures.takes c.requires.look.0 c.requires.look.1) in
     (x.0.line, x.1 ∙ sym x.0.is, (subst (IsNext sys fixed.form c.requires.next.0 c.args.self.now.walk.trail.reading.line.items) (sym (x.0.is ∙ ap (λ (t : Trail). t.reading.next) c.forget.ensures.others)) c.requires.next.1).0.line.belongs)
 
 pub show_untaken-requires-clause-rows : goal.show_untaken-requires-clause-rows
@@ -57,7 +57,7 @@ show_untaken-requires-clause-rows g c =
     let fixed = c.args.fixed.now in
     let sys = system_of fixed.table.now.system.now in
     let x = subst (StepGoes fixed.table.now.system.now.library.blocks sys fixed.form c.args.terms.steps c.requires.look.0 _ _ _ _ _) (c.is_cut_off.ensures.yes c.if-is_cut_off.true)
-    (c.in_ok-step.ensures.turned c.requires.look.0 c.requires.look.1) in
+    (c.in_ok-step.ensures.takes c.requires.look.0 c.requires.look.1) in
     rows_belong sys fixed.form x.0.line _ _ _ x.0.goes
 
 pub returns-then-is_cut_off-clause-goes : goal.returns-then-is_cut_off-clause-goes
@@ -66,10 +66,10 @@ returns-then-is_cut_off-clause-goes g c = λ known old new have.
     let types = fixed.table.now.system.now.library.blocks in
     let sys = system_of fixed.table.now.system.now in
     let steps = c.args.terms.steps in
-    let seen : Look = last_look (opening_look sys) (turns_of have.takings) in
+    let seen : Look = last_look (opening_look sys) (takings_of have.takings) in
     let r = unread c.args.ahead.now (g.R.Read.remaining c.args.input.now) in
     let rest = unread c.step.new.ahead (g.R.Read.remaining c.step.new.input) in
-    let x = subst (StepGoes types sys fixed.form steps seen _ _ _ _ _) (c.is_cut_off.ensures.yes c.if-is_cut_off.true) (c.in_ok-step.ensures.turned seen have.look) in
+    let x = subst (StepGoes types sys fixed.form steps seen _ _ _ _ _) (c.is_cut_off.ensures.yes c.if-is_cut_off.true) (c.in_ok-step.ensures.takes seen have.look) in
     subst (HasGoneOn sys fixed.form steps c.show_untaken.new.self known rest old new) (sym (c.is_cut_off.ensures.yes c.if-is_cut_off.true))
     (gone_cut types sys fixed.form steps c.args.self.now known r old new have _ c.step.new.self c.step.new.ahead rest c.show_untaken.new.self (ready_of c.args.self.now c.forget.new.self have.kept c.forget.ensures.none c.forget.ensures.others)
     x.0 c.in_ok-show_untaken.ensures.numbers
@@ -81,12 +81,12 @@ returns-in_default-clause-goes g c = λ known old new have.
     let types = fixed.table.now.system.now.library.blocks in
     let sys = system_of fixed.table.now.system.now in
     let steps = c.args.terms.steps in
-    let seen : Look = last_look (opening_look sys) (turns_of have.takings) in
+    let seen : Look = last_look (opening_look sys) (takings_of have.takings) in
     let r = unread c.args.ahead.now (g.R.Read.remaining c.args.input.now) in
     let rest = unread c.step.new.ahead (g.R.Read.remaining c.step.new.input) in
     gone_none types sys fixed.form steps c.args.self.now known r old new have _ c.step.new.self c.keep_next.new.before (ready_of c.args.self.now c.forget.new.self have.kept c.forget.ensures.none c.forget.ensures.others)
     rest c.step.new.ahead _ (subst (IsNextKept sys c.args.self.now.walk c.keep_next.new.before) c.in_default.is c.in_ok-kept.ensures) (c.is_cut_off.ensures.no c.if-is_cut_off.false)
-    (c.in_ok-step.ensures.turned seen have.look)
+    (c.in_ok-step.ensures.takes seen have.look)
 
 pub show-requires : goal.show-requires
 show-requires g c =
@@ -99,7 +99,7 @@ show-requires g c =
     can_show types sys fixed.form c.args.terms.steps c.args.self.now c.requires.look.0 _ c.step.new.self c.keep_next.new.before c.in-Some.event c.step.new.ahead r rest _
     (ready_of c.args.self.now c.forget.new.self c.requires.kept c.forget.ensures.none c.forget.ensures.others) event c.requires.dump c.requires.look.1.are
     (within_of sys fixed.form c.requires.next.0 c.args.self.now.walk c.keep_next.new.before c.in-Some.event event c.requires.next.1) (c.is_cut_off.ensures.no c.if-is_cut_off.false)
-    (c.in_ok-step.ensures.turned c.requires.look.0 c.requires.look.1)
+    (c.in_ok-step.ensures.takes c.requires.look.0 c.requires.look.1)
 
 pub returns-clause-goes : goal.returns-clause-goes
 returns-clause-goes g c = λ known old new have.
@@ -107,13 +107,13 @@ returns-clause-goes g c = λ known old new have.
     let types = fixed.table.now.system.now.library.blocks in
     let sys = system_of fixed.table.now.system.now in
     let steps = c.args.terms.steps in
-    let seen : Look = last_look (opening_look sys) (turns_of have.takings) in
+    let seen : Look = last_look (opening_look sys) (takings_of have.takings) in
     let event = subst (IsNextKept sys c.args.self.now.walk c.keep_next.new.before) c.in-Some.is c.in_ok-kept.ensures in
     let r = unread c.args.ahead.now (g.R.Read.remaining c.args.input.now) in
     let rest = unread c.step.new.ahead (g.R.Read.remaining c.step.new.input) in
     gone_on types sys fixed.form steps c.args.self.now known r old new have _ c.step.new.self c.keep_next.new.before c.show.new.self c.in-Some.event rest
     (ready_of c.args.self.now c.forget.new.self have.kept c.forget.ensures.none c.forget.ensures.others) event c.in_ok-show.ensures.walk c.in_ok-show.ensures.numbers
-    (λ look after before are. c.in_ok-show.ensures.shown look after before are) c.step.new.ahead _ (c.is_cut_off.ensures.no c.if-is_cut_off.false) (c.in_ok-step.ensures.turned seen have.look)
+    (λ look after before are. c.in_ok-show.ensures.shown look after before are) c.step.new.ahead _ (c.is_cut_off.ensures.no c.if-is_cut_off.false) (c.in_ok-step.ensures.takes seen have.look)
 
 pub returns-in_err-step-clause-stands : goal.returns-in_err-step-clause-stands
 returns-in_err-step-clause-stands g c = λ rest text few names known well.

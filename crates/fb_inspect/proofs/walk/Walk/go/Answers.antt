@@ -41,7 +41,7 @@ pub step-requires-clause-look : goal.step-requires-clause-look
 step-requires-clause-look g c =
     let known = some_text (g.R.Read.remaining c.args.input.now) c.args.self.now.trail.reading.line.items in
     let covered = c.loop.invariant.0 c.requires.starts.0 known.0 c.requires.starts.1 known.1 in
-    (last_look (opening_look (system_of c.args.fixed.now.table.now.system.now)) covered.gone.turns, covered.gone.look)
+    (last_look (opening_look (system_of c.args.fixed.now.table.now.system.now)) covered.gone.takings, covered.gone.look)
 
 pub step-requires-clause-next : goal.step-requires-clause-next
 step-requires-clause-next g c =
@@ -55,7 +55,7 @@ returns-in_err-step-clause-fault g c = λ only starts.
     let known = some_text (g.R.Read.remaining c.args.input.now) c.args.self.now.trail.reading.line.items in
     let covered = c.loop.invariant.0 only known.0 starts known.1 in
     err_any c.from_residual.result _
-    (front_gone (system_of fixed.table.now.system.now) fixed.form only c.args.terms.steps c.loop.self covered.gone.turns known.0 (unread c.loop.ahead (g.R.Read.remaining c.loop.input))
+    (front_gone (system_of fixed.table.now.system.now) fixed.form only c.args.terms.steps c.loop.self covered.gone.takings known.0 (unread c.loop.ahead (g.R.Read.remaining c.loop.input))
     (g.W.Write.contents c.args.out.now) (g.W.Write.contents c.loop.out) covered.gone.gone)
 
 pub returns-in_err-flush_much-in-Taken-clause-fault :
@@ -73,7 +73,7 @@ returns-in_err-flush_much-in-Taken-clause-fault g c = λ only starts.
     let next = subst (λ (s : Step). HasAdvanced types first sys fixed.form only steps c.step.new.self known.0 r old mid s) c.in-Taken.is
     (c.in_ok-step.ensures.goes first only known.0 old mid (c.loop.invariant.0 only known.0 starts known.1)) in
     err_any c.from_residual-in_err-flush_much-in-Taken.result _
-    (front_flush sys fixed.form only steps c.step.new.self next.gone.turns known.0 r old mid (g.W.Write.contents c.flush_much.new.out) c.in_err-flush_much-in-Taken.field-0.0 next.gone.gone
+    (front_flush sys fixed.form only steps c.step.new.self next.gone.takings known.0 r old mid (g.W.Write.contents c.flush_much.new.out) c.in_err-flush_much-in-Taken.field-0.0 next.gone.gone
     c.in_err-flush_much-in-Taken.ensures.part)
 
 pub loop-preserved : goal.loop-preserved
@@ -195,7 +195,7 @@ returns-clause-fault g c = λ only starts.
     let fixed = c.args.fixed.now in
     let known = some_text (g.R.Read.remaining c.args.input.now) c.args.self.now.trail.reading.line.items in
     let covered = c.loop.invariant.0 only known.0 starts known.1 in
-    front_gone (system_of fixed.table.now.system.now) fixed.form only c.args.terms.steps c.loop.self covered.gone.turns known.0 (unread c.loop.ahead (g.R.Read.remaining c.loop.input))
+    front_gone (system_of fixed.table.now.system.now) fixed.form only c.args.terms.steps c.loop.self covered.gone.takings known.0 (unread c.loop.ahead (g.R.Read.remaining c.loop.input))
     (g.W.Write.contents c.args.out.now) (g.W.Write.contents c.loop.out) covered.gone.gone
 
 pub returns-in_err-step-clause-refused : goal.returns-in_err-step-clause-refused

@@ -5,7 +5,7 @@ use Rattle.fb_inspect.proofs.Placed.{item_is}
 use Rattle.std.proofs.Common.{◌≡◌, ◌∙◌}
 use Rattle.std.proofs.lemmas.Result.{err_from_is_err_and}
 use Rattle.std.proofs.lemmas.Option.{same_Some}
-use Rattle.fb_inspect.specs.Looks.{TurnsAt}
+use Rattle.fb_inspect.specs.Looks.{IsTakingAt}
 use Rattle.fb_inspect.specs.Refusals.{FailsBy, OfRefusal}
 use Rattle.fb_inspect.specs.declared.steps.TickSteps.{TickSteps}
 use Rattle.fb_inspect.proofs.walk.Walk.react.Goals as goal
@@ -53,6 +53,6 @@ returns-in_err-stop-clause-refused g c = λ look own names plain are stood.
     let q = err_from_is_err_and c.from_residual.result c.from_residual.ensures.1 in
     rw (q.1, q.2)
     (subst
-    (λ (s : TickSteps). OfRefusal (FailsBy (TurnsAt s.meter.left look (sys.kind (path_at sys l.instance))) sys c.args.fixed.now.form l c.args.self.now.trail.reading c.react_kept.new.trail.reading
+    (λ (s : TickSteps). OfRefusal (FailsBy (IsTakingAt s.meter.left look (sys.kind (path_at sys l.instance))) sys c.args.fixed.now.form l c.args.self.now.trail.reading c.react_kept.new.trail.reading
     (g.R.Read.remaining c.args.input.now) (g.R.Read.remaining c.react_kept.new.input)) c.in_err-stop.field-0.0) same
     (c.in_err-stop.ensures.refused look names plain (are.each l.instance c.in-Some-get_mut.block.now at)))

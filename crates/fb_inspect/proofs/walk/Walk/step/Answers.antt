@@ -35,15 +35,15 @@ returns-in-CutOff-clause-goes g c = λ first only known old new covered.
     (subst (HasAdvanced types first sys fixed.form only c.args.terms.steps c.step_on.new.self known (unread c.step_on.new.ahead (g.R.Read.remaining c.step_on.new.input)) old new) c.in-CutOff.is
     (c.in_ok-step_on-in-Event.ensures.goes first only known old new past.0 past.1)))
 
-pub returns-in-CutOff-clause-turned : goal.returns-in-CutOff-clause-turned
-returns-in-CutOff-clause-turned g c = λ look is.
+pub returns-in-CutOff-clause-takes : goal.returns-in-CutOff-clause-takes
+returns-in-CutOff-clause-takes g c = λ look is.
     let fixed = c.args.fixed.now in
     let types = fixed.table.now.system.now.library.blocks in
     let sys = system_of fixed.table.now.system.now in
     let r = unread c.args.ahead.now (g.R.Read.remaining c.args.input.now) in
     let rest = unread c.step_on.new.ahead (g.R.Read.remaining c.step_on.new.input) in
     let goes = line_next types sys fixed.form c.args.terms.steps look c.in-Event.line c.args.self.now c.replace.new.dest c.step_on.new.self r rest c.step_on.new.ahead _
-    (c.in_ok-step_on-in-Event.ensures.turned look is) in (
+    (c.in_ok-step_on-in-Event.ensures.takes look is) in (
       record {
         line = c.in-Event.line;
         is = c.in-Event.ensures.value;
@@ -63,15 +63,15 @@ returns-in-Taken-clause-goes g c = λ first only known old new covered.
     subst (HasAdvanced types first sys fixed.form only c.args.terms.steps c.step_on.new.self known (unread c.step_on.new.ahead (g.R.Read.remaining c.step_on.new.input)) old new) c.in-Taken.is
     (c.in_ok-step_on-in-Event.ensures.goes first only known old new past.0 past.1)
 
-pub returns-in-Taken-clause-turned : goal.returns-in-Taken-clause-turned
-returns-in-Taken-clause-turned g c = λ look is.
+pub returns-in-Taken-clause-takes : goal.returns-in-Taken-clause-takes
+returns-in-Taken-clause-takes g c = λ look is.
     let fixed = c.args.fixed.now in
     let types = fixed.table.now.system.now.library.blocks in
     let sys = system_of fixed.table.now.system.now in
     let r = unread c.args.ahead.now (g.R.Read.remaining c.args.input.now) in
     let rest = unread c.step_on.new.ahead (g.R.Read.remaining c.step_on.new.input) in
     let goes = line_next types sys fixed.form c.args.terms.steps look c.in-Event.line c.args.self.now c.replace.new.dest c.step_on.new.self r rest c.step_on.new.ahead _
-    (c.in_ok-step_on-in-Event.ensures.turned look is) in
+    (c.in_ok-step_on-in-Event.ensures.takes look is) in
     step_over types sys fixed.form c.args.terms.steps look c.args.self.now c.step_on.new.self c.in-Event.line c.step_on.new.ahead r rest _ c.in-Event.ensures.value taken_whole
     (subst (LineGoes types sys fixed.form c.args.terms.steps look c.in-Event.line c.args.self.now c.step_on.new.self c.step_on.new.ahead r rest) c.in-Taken.is goes)
 
@@ -86,15 +86,15 @@ returns-in-Ended-clause-goes g c = λ first only known old new covered.
     subst (HasAdvanced types first sys fixed.form only c.args.terms.steps c.step_on.new.self known (unread c.step_on.new.ahead (g.R.Read.remaining c.step_on.new.input)) old new) c.in-Ended.is
     (c.in_ok-step_on-in-Event.ensures.goes first only known old new past.0 past.1)
 
-pub returns-in-Ended-clause-turned : goal.returns-in-Ended-clause-turned
-returns-in-Ended-clause-turned g c = λ look is.
+pub returns-in-Ended-clause-takes : goal.returns-in-Ended-clause-takes
+returns-in-Ended-clause-takes g c = λ look is.
     let fixed = c.args.fixed.now in
     let types = fixed.table.now.system.now.library.blocks in
     let sys = system_of fixed.table.now.system.now in
     let r = unread c.args.ahead.now (g.R.Read.remaining c.args.input.now) in
     let rest = unread c.step_on.new.ahead (g.R.Read.remaining c.step_on.new.input) in
     let goes = line_next types sys fixed.form c.args.terms.steps look c.in-Event.line c.args.self.now c.replace.new.dest c.step_on.new.self r rest c.step_on.new.ahead _
-    (c.in_ok-step_on-in-Event.ensures.turned look is) in
+    (c.in_ok-step_on-in-Event.ensures.takes look is) in
     step_over types sys fixed.form c.args.terms.steps look c.args.self.now c.step_on.new.self c.in-Event.line c.step_on.new.ahead r rest _ c.in-Event.ensures.value (ended_whole _)
     (subst (LineGoes types sys fixed.form c.args.terms.steps look c.in-Event.line c.args.self.now c.step_on.new.self c.step_on.new.ahead r rest) c.in-Ended.is goes)
 
@@ -107,10 +107,10 @@ returns-in-End-clause-goes g c = λ first only known old new covered.
     let here = subst (λ (n : Next). IsNextLine sys fixed.form (last_tick 0 covered.gone.gone.lines) c.args.self.now.trail.reading.line.items n) (sym c.in-End.ensures.value) covered.gone.next in
     complete_bad types first sys fixed.form only c.args.terms.steps c.args.self.now c.replace.new.dest c.in-End.end known r old new
     (ended_here types first sys fixed.form only c.args.terms.steps c.args.self.now known r old new covered c.in-End.end here
-    (c.may_end.ensures.may sys (last_look (opening_look sys) covered.gone.turns) covered.gone.look c.if-may_end.true))
+    (c.may_end.ensures.may sys (last_look (opening_look sys) covered.gone.takings) covered.gone.look c.if-may_end.true))
 
-pub returns-in-End-clause-turned : goal.returns-in-End-clause-turned
-returns-in-End-clause-turned g c = λ look is.
+pub returns-in-End-clause-takes : goal.returns-in-End-clause-takes
+returns-in-End-clause-takes g c = λ look is.
     inl (record { is = c.in-End.ensures.value; may = c.may_end.ensures.may (system_of c.args.fixed.now.table.now.system.now) look is c.if-may_end.true; left = refl; number = refl })
 
 pub returns-in_err-step_on-in-Event-clause-stands : goal.returns-in_err-step_on-in-Event-clause-stands
@@ -119,8 +119,8 @@ returns-in_err-step_on-in-Event-clause-stands g c = λ rest text few names known
     let sys = system_of fixed.table.now.system.now in
     let q = err_from_is_err_and c.from_residual.result c.from_residual.ensures.1 in
     rw (q.1, q.2)
-    (c.in_err-step_on-in-Event.ensures.stands well.turns rest text few known
-    (event_at sys fixed.form well.turns c.args.self.now c.replace.new.dest c.args.ahead.now.text.items c.args.ahead.now.last.items rest text names c.facts.ensures.numbered (names_apart fixed.table.now.system.now c.facts.ensures.accepted)
+    (c.in_err-step_on-in-Event.ensures.stands well.takings rest text few known
+    (event_at sys fixed.form well.takings c.args.self.now c.replace.new.dest c.args.ahead.now.text.items c.args.ahead.now.last.items rest text names c.facts.ensures.numbered (names_apart fixed.table.now.system.now c.facts.ensures.accepted)
     well.on c.in-Event.line c.in-Event.ensures.value) well.watched)
 
 pub returns-in-Taken-clause-stands : goal.returns-in-Taken-clause-stands
@@ -128,15 +128,15 @@ returns-in-Taken-clause-stands g c = λ rest text few names known well.
     let fixed = c.args.fixed.now in
     let sys = system_of fixed.table.now.system.now in
     subst (λ (s : Step). GoesAfter sys fixed.form c.args.terms.steps c.step_on.new.self c.step_on.new.ahead (g.R.Read.remaining c.step_on.new.input) text (Ok s)) c.in-Taken.is
-    (c.in_ok-step_on-in-Event.ensures.stands well.turns rest text few known
-    (event_at sys fixed.form well.turns c.args.self.now c.replace.new.dest c.args.ahead.now.text.items c.args.ahead.now.last.items rest text names c.facts.ensures.numbered (names_apart fixed.table.now.system.now c.facts.ensures.accepted)
+    (c.in_ok-step_on-in-Event.ensures.stands well.takings rest text few known
+    (event_at sys fixed.form well.takings c.args.self.now c.replace.new.dest c.args.ahead.now.text.items c.args.ahead.now.last.items rest text names c.facts.ensures.numbered (names_apart fixed.table.now.system.now c.facts.ensures.accepted)
     well.on c.in-Event.line c.in-Event.ensures.value) well.watched)
 
 pub returns-in-End-2-clause-stands : goal.returns-in-End-2-clause-stands
 returns-in-End-2-clause-stands g c = λ rest text few names known well.
     let fixed = c.args.fixed.now in
     let sys = system_of fixed.table.now.system.now in
-    let seen = last_look (opening_look sys) well.turns in
+    let seen = last_look (opening_look sys) well.takings in
     wrong_end sys fixed.form c.args.terms.steps c.args.self.now c.args.ahead.now rest text names well c.in-End.end c.in-End.ensures.value
     (λ can may. c.may_end.ensures.other sys seen well.on.stands.look can c.if-may_end.false may) c.refusal_of_end.result c.refusal_of_end.ensures.back c.refusal_of_end.ensures.none c.refusal_of_end.ensures.other
 

@@ -52,34 +52,34 @@ returns-clause-goes g c = λ first only known old new covered later.
     ((c.in_ok-is_cut.ensures.whole c.if-is_cut.false).after known) covered c.args.line.now.key.tick later in
     c.take_watched.ensures.goes first only known n old new again.0 again.1
 
-pub returns-then-is_cut-clause-turned : goal.returns-then-is_cut-clause-turned
-returns-then-is_cut-clause-turned g c = λ look is.
+pub returns-then-is_cut-clause-takes : goal.returns-then-is_cut-clause-takes
+returns-then-is_cut-clause-takes g c = λ look is.
     let fixed = c.args.fixed.now in
     let o = g.R.Read.remaining c.args.input.now in
     let off = c.in_ok-is_cut.ensures.cut c.if-is_cut.true in
     subst (λ (p : Option (List ℕ)). AreCutOff (system_of fixed.table.now.system.now) fixed.form c.args.line.now c.look.new.self.rows.items c.look.new.self.text.items p)
     (sym (none_ahead c.args.ahead.now.text.items o off.1)) off.2
 
-pub returns-then-is_near-clause-turned : goal.returns-then-is_near-clause-turned
-returns-then-is_near-clause-turned g c = λ look is.
+pub returns-then-is_near-clause-takes : goal.returns-then-is_near-clause-takes
+returns-then-is_near-clause-takes g c = λ look is.
     let fixed = c.args.fixed.now in
     let types = fixed.table.now.system.now.library.blocks in
     let sys = system_of fixed.table.now.system.now in
     let n = g.R.Read.remaining c.look.new.input in
     let after = unread c.take_last.new.ahead n in
-    ok_both c.take_last.result _ _ _ c.take_last.ensures.whole (c.take_last.ensures.turned look n is)
+    ok_both c.take_last.result _ _ _ c.take_last.ensures.whole (c.take_last.ensures.takes look n is)
     (λ step whole goes.
     line_reread types sys fixed.form c.args.terms.steps look c.args.line.now c.args.self.now c.take_last.new.self (unread c.args.ahead.now (g.R.Read.remaining c.args.input.now))
     (unread c.look.new.self n) after ((c.in_ok-is_cut.ensures.whole c.if-is_cut.false).before after) c.take_last.new.ahead step whole goes)
 
-pub returns-clause-turned : goal.returns-clause-turned
-returns-clause-turned g c = λ look is.
+pub returns-clause-takes : goal.returns-clause-takes
+returns-clause-takes g c = λ look is.
     let fixed = c.args.fixed.now in
     let types = fixed.table.now.system.now.library.blocks in
     let sys = system_of fixed.table.now.system.now in
     let n = g.R.Read.remaining c.look.new.input in
     let after = unread c.take_watched.new.ahead n in
-    ok_both c.take_watched.result _ _ _ c.take_watched.ensures.whole (c.take_watched.ensures.turned look n is)
+    ok_both c.take_watched.result _ _ _ c.take_watched.ensures.whole (c.take_watched.ensures.takes look n is)
     (λ step whole goes.
     line_reread types sys fixed.form c.args.terms.steps look c.args.line.now c.args.self.now c.take_watched.new.self (unread c.args.ahead.now (g.R.Read.remaining c.args.input.now))
     (unread c.look.new.self n) after ((c.in_ok-is_cut.ensures.whole c.if-is_cut.false).before after) c.take_watched.new.ahead step whole goes)
@@ -91,11 +91,11 @@ pub is_near-requires : goal.is_near-requires
 is_near-requires g c = subst (λ (n : ℕ). c.args.line.now.instance < n) (sym c.requires.look.1.are.all) c.requires.is.line.belongs.instance
 
 pub returns-in_err-is_cut-clause-stands : goal.returns-in_err-is_cut-clause-stands
-returns-in_err-is_cut-clause-stands g c = λ turns rest text few known at watches.
+returns-in_err-is_cut-clause-stands g c = λ takings rest text few known at watches.
     let q = err_from_is_err_and c.from_residual.result c.from_residual.ensures.1 in rw (q.1, q.2) (none_refused _ _ c.in_err-is_cut.ensures.fault)
 
 pub returns-then-is_near-clause-stands : goal.returns-then-is_near-clause-stands
-returns-then-is_near-clause-stands g c = λ turns rest text few known at watches.
+returns-then-is_near-clause-stands g c = λ takings rest text few known at watches.
     let fixed = c.args.fixed.now in
     let sys = system_of fixed.table.now.system.now in
     let l = c.args.line.now in
@@ -104,12 +104,12 @@ returns-then-is_near-clause-stands g c = λ turns rest text few known at watches
     let all = look_ahead sys fixed.form l a.text.items a.last.items b.text.items b.last.items rest (g.R.Read.remaining c.args.input.now) (g.R.Read.remaining c.look.new.input) known
     (c.in_ok-is_cut.ensures.ahead at.names c.if-is_cut.false) (at.stands.after l at.is) in
     goes_left sys fixed.form c.args.terms.steps c.take_last.new.self c.take_last.new.ahead all.0 text (g.R.Read.remaining c.look.new.input) c.take_last.result all.1
-    (c.take_last.ensures.stands turns all.0 text all.2.1.0 few (at_look fixed.table.now fixed.form turns c.args.self.now l a.text.items a.last.items rest text at all.2.1.0 b.text.items b.last.items all.0 all.2.0 all.2.1.1)
-    (subst (λ (e : EventLine). Watches sys fixed.form c.args.terms.steps turns e.number e.text.items e.is_excess) (sym c.in_ok-is_cut.ensures.watched) watches) all.2.1.1
-    (c.is_near.ensures.near (last_look (opening_look sys) turns) at.stands.look.are c.if-is_near.true))
+    (c.take_last.ensures.stands takings all.0 text all.2.1.0 few (at_look fixed.table.now fixed.form takings c.args.self.now l a.text.items a.last.items rest text at all.2.1.0 b.text.items b.last.items all.0 all.2.0 all.2.1.1)
+    (subst (λ (e : EventLine). Watches sys fixed.form c.args.terms.steps takings e.number e.text.items e.is_excess) (sym c.in_ok-is_cut.ensures.watched) watches) all.2.1.1
+    (c.is_near.ensures.near (last_look (opening_look sys) takings) at.stands.look.are c.if-is_near.true))
 
 pub returns-clause-stands : goal.returns-clause-stands
-returns-clause-stands g c = λ turns rest text few known at watches.
+returns-clause-stands g c = λ takings rest text few known at watches.
     let fixed = c.args.fixed.now in
     let sys = system_of fixed.table.now.system.now in
     let l = c.args.line.now in
@@ -118,6 +118,6 @@ returns-clause-stands g c = λ turns rest text few known at watches.
     let all = look_ahead sys fixed.form l a.text.items a.last.items b.text.items b.last.items rest (g.R.Read.remaining c.args.input.now) (g.R.Read.remaining c.look.new.input) known
     (c.in_ok-is_cut.ensures.ahead at.names c.if-is_cut.false) (at.stands.after l at.is) in
     goes_left sys fixed.form c.args.terms.steps c.take_watched.new.self c.take_watched.new.ahead all.0 text (g.R.Read.remaining c.look.new.input) c.take_watched.result all.1
-    (c.take_watched.ensures.stands turns all.0 text all.2.1.0 (at_look fixed.table.now fixed.form turns c.args.self.now l a.text.items a.last.items rest text at all.2.1.0 b.text.items b.last.items all.0 all.2.0 all.2.1.1)
-    (subst (λ (e : EventLine). Watches sys fixed.form c.args.terms.steps turns e.number e.text.items e.is_excess) (sym c.in_ok-is_cut.ensures.watched) watches) all.2.1.1
-    (c.is_near.ensures.other (last_look (opening_look sys) turns) at.stands.look.are at.names at.apart at.is.line c.if-is_near.false))
+    (c.take_watched.ensures.stands takings all.0 text all.2.1.0 (at_look fixed.table.now fixed.form takings c.args.self.now l a.text.items a.last.items rest text at all.2.1.0 b.text.items b.last.items all.0 all.2.0 all.2.1.1)
+    (subst (λ (e : EventLine). Watches sys fixed.form c.args.terms.steps takings e.number e.text.items e.is_excess) (sym c.in_ok-is_cut.ensures.watched) watches) all.2.1.1
+    (c.is_near.ensures.other (last_look (opening_look sys) takings) at.stands.look.are at.names at.apart at.is.line c.if-is_near.false))

@@ -3,11 +3,11 @@ use Rattle.fb_types.specs.Headline.{system_of}
 use Rattle.fb_inspect.specs.Walking.{flag_at}
 use Rattle.fb_inspect.specs.declared.walk.Walk.{Walk}
 use Rattle.fb_inspect.proofs.Placed.{ok_on, ok_then}
-use Rattle.fb_inspect.proofs.Walked.{turn_taken}
+use Rattle.fb_inspect.proofs.Walked.{taking_gone}
 use Rattle.std.proofs.Common.{◌≡◌, ℕ, ◌<◌, suc, sym, subst, inl, arith}
 use Rattle.std.specs.Prelude.{slice_get}
 use Rattle.fb_types.specs.Numbers.{path_at}
-use Rattle.fb_inspect.specs.Looks.{Turns, TurnsAt, left_at}
+use Rattle.fb_inspect.specs.Looks.{IsTaking, IsTakingAt, left_at}
 use Rattle.fb_inspect.specs.Refusals.{FailsBy}
 use Rattle.fb_inspect.specs.declared.steps.TickSteps.{TickSteps}
 use Rattle.fb_types.proofs.ByIndex.{element_at}
@@ -24,7 +24,7 @@ returns-clause-goes g c = λ look is.
     let mid : Walk = record old { steps = c.use_step.new.steps; trail = record (old.trail) { is_shown = c.flag_at-self.result } } in
     ok_then c.react.result _ _ (c.react.ensures.goes look is.are)
     (λ stop goes.
-    turn_taken c.args.fixed.now.table.now.system.now.library.blocks (system_of c.args.fixed.now.table.now.system.now) c.args.fixed.now.form c.args.fixed.now.limit look c.facts.ensures.numbered l stop old mid c.react.new.self
+    taking_gone c.args.fixed.now.table.now.system.now.library.blocks (system_of c.args.fixed.now.table.now.system.now) c.args.fixed.now.form c.args.fixed.now.limit look c.facts.ensures.numbered l stop old mid c.react.new.self
     (g.R.Read.remaining c.args.input.now) (g.R.Read.remaining c.react.new.input) c.requires.is.line.belongs.instance is c.if-line-gt-LATEST_TICK.false
     c.if-not-use_step.ensures.used refl refl refl refl (c.flag_at-self.ensures ∙ ap (λ (fs : List Bool). flag_at fs l.instance) c.as_slice.ensures.value) refl refl refl goes)
 
@@ -39,7 +39,7 @@ returns-then-line-gt-LATEST_TICK-clause-refused g c = λ look names plain is.
     let old = c.args.self.now.trail.reading in
     let new = c.refusal.new.self.reading in
     let over = c.if-line-gt-LATEST_TICK.true in
-    of_number (FailsBy (Turns sys c.args.fixed.now.limit look) sys c.args.fixed.now.form l old new (g.R.Read.remaining c.args.input.now) (g.R.Read.remaining c.args.input.now)) c.refusal.result old.number
+    of_number (FailsBy (IsTaking sys c.args.fixed.now.limit look) sys c.args.fixed.now.form l old new (g.R.Read.remaining c.args.input.now) (g.R.Read.remaining c.args.input.now)) c.refusal.result old.number
     c.refusal.ensures.refused
     (inl (too_late sys c.args.fixed.now.limit look l old new old.number (λ early. absurd (omega (arith, early, over))) c.refusal.ensures.reading refl))
 
@@ -52,7 +52,7 @@ returns-then-not-use_step-clause-refused g c = λ look names plain is.
     let new = c.refusal-then-not-use_step.new.self.reading in
     let within = subst (λ (n : ℕ). l.key.resource < n) (sym is.counts) c.requires.is.line.belongs.resource in
     let own = element_at c.args.self.now.steps.items l.key.resource within in
-    of_number (FailsBy (Turns sys limit look) sys c.args.fixed.now.form l old new (g.R.Read.remaining c.args.input.now) (g.R.Read.remaining c.args.input.now)) c.refusal-then-not-use_step.result old.number
+    of_number (FailsBy (IsTaking sys limit look) sys c.args.fixed.now.form l old new (g.R.Read.remaining c.args.input.now) (g.R.Read.remaining c.args.input.now)) c.refusal-then-not-use_step.result old.number
     c.refusal-then-not-use_step.ensures.refused
     (inl (no_step sys limit look l old new old.number (ap (left_at limit l.key.tick) (is.lefts l.key.resource own.0 own.1) ∙ c.if-not-use_step.ensures.none own.0 own.1) c.refusal-then-not-use_step.ensures.reading refl))
 
@@ -69,6 +69,6 @@ returns-clause-refused g c = λ look names plain is.
     let stepped = c.if-not-use_step.ensures.used in
     let stood = ap (λ (s : List TickSteps). slice_get s l.key.resource) stepped.steps_are ∙ get_set_same c.args.self.now.steps.items l.key.resource stepped.before stepped.after stepped.stood in
     let used : left_at limit l.key.tick (look.steps l.key.resource) ≡ suc stepped.after.meter.left = ap (left_at limit l.key.tick) (is.lefts l.key.resource stepped.before stepped.stood) ∙ stepped.used in
-    err_refused c.react.result (FailsBy (TurnsAt stepped.after.meter.left look (sys.kind (path_at sys l.instance))) sys form l old new before after) (FailsBy (Turns sys limit look) sys form l old new before after)
+    err_refused c.react.result (FailsBy (IsTakingAt stepped.after.meter.left look (sys.kind (path_at sys l.instance))) sys form l old new before after) (FailsBy (IsTaking sys limit look) sys form l old new before after)
     (c.react.ensures.refused look stepped.after names plain is.are stood)
     (λ n fails. fails_whole sys limit look l stepped.after.meter.left used c.if-line-gt-LATEST_TICK.false form old new before after n fails)

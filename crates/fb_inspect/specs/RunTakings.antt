@@ -16,7 +16,7 @@ use Rattle.fb_types.specs.declared.run.TimerAsk.TheVariants.{Keep, Clear, At}
 use Rattle.fb_types.specs.declared.value.Reason.{Reason}
 use Rattle.fb_types.specs.declared.value.Reason.TheVariants.{Steps}
 use Rattle.fb_inspect.specs.Inspections.{last_look, limited}
-use Rattle.fb_inspect.specs.Looks.{Look, Seen, Turn, Turns, TurnsAt, due_after, emission_line, most, opening_look, turn_lines, with_left}
+use Rattle.fb_inspect.specs.Looks.{IsTaking, IsTakingAt, Look, Seen, Taking, due_after, emission_line, most, opening_look, taking_lines, with_left}
 
 -- an instance is there
 abbrev pub IsThere : System → Path → Type 0
@@ -56,12 +56,12 @@ pub record IsSeenIn (sys : System) (look : Look) (w : World) : Type 0 where
 
 -- A reaction of an instance in a run is this taking, which has more steps left than the run. Its timer goes off at this tick where
 -- the reaction leaves it as it is.
-pub record IsTurnOf (sys : System) (k : Key) (p : Path) (left more : ℕ) (look : Look) (due : Option ℕ) (o : Outcome) (x : Turn) : Type 0 where
+pub record IsTakingOf (sys : System) (k : Key) (p : Path) (left more : ℕ) (look : Look) (due : Option ℕ) (o : Outcome) (x : Taking) : Type 0 where
   pub key_is : x.first.key ≡ k
   pub at_is : x.first.at ≡ p
-  pub lines_are : turn_lines x ≡ o.lines
+  pub lines_are : taking_lines x ≡ o.lines
   pub stop_is : x.stop ≡ o.stop
-  pub turns : TurnsAt (left + more) look (sys.kind x.first.at) x
+  pub is_taking : IsTakingAt (left + more) look (sys.kind x.first.at) x
   pub seen : IsSeenIn sys x.after o.world
   pub due_is : (x.after.blocks p).due ≡ due_after o.timer due
   pub others : (q : Path) → same_path q p ≡ false → x.after.blocks q ≡ look.blocks q
@@ -97,14 +97,14 @@ due_before look (Raised q) = (look.blocks q.at).due
 -- ---- Lines that go on
 
 -- After the first line of a taking come the lines of its emissions, or a run stops in them for its steps.
-abbrev pub GoesOn : Turn → List Line → Ending → Type 0
+abbrev pub GoesOn : Taking → List Line → Ending → Type 0
 GoesOn x more end =
     ((rest : List Line) × (more ≡ map (emission_line x.first) x.emits ++ rest))
     ⊎ ((rest : List Line) × (map (emission_line x.first) x.emits ≡ more ++ rest) × (end ≡ AtStop x.first.key.tick x.first.key.resource Steps))
 
 -- A line begins a taking after others, with the steps of the greatest limit, or with those that are left of another one where a run stops for its
 -- steps.
-abbrev pub BeginsSo : System → (limit : ℕ) → List Turn → Line → Ending → Type 0
+abbrev pub BeginsSo : System → (limit : ℕ) → List Taking → Line → Ending → Type 0
 BeginsSo sys limit xs l end =
-    ((x : Turn) × (x.first ≡ l) × Turns sys most (last_look (opening_look sys) xs) x)
-    ⊎ ((x : Turn) × (x.first ≡ l) × Turns sys limit (limited limit l.key.tick l.key.resource (last_look (opening_look sys) xs)) x × (end ≡ AtStop l.key.tick l.key.resource Steps))
+    ((x : Taking) × (x.first ≡ l) × IsTaking sys most (last_look (opening_look sys) xs) x)
+    ⊎ ((x : Taking) × (x.first ≡ l) × IsTaking sys limit (limited limit l.key.tick l.key.resource (last_look (opening_look sys) xs)) x × (end ≡ AtStop l.key.tick l.key.resource Steps))

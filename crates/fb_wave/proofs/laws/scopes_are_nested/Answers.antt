@@ -1,0 +1,5 @@
+use Rattle.fb_wave.proofs.Nesting.{scopes_are}
+use Rattle.fb_wave.proofs.laws.scopes_are_nested.Goals as goal
+
+pub returns : goal.returns
+returns c = λ i numbered resource. scopes_are i numbered resource
