@@ -73,7 +73,3 @@ module _ {A E : Type 0} (r : Result A E) (old_mail mail : List Message) (k : Key
 
 pub moved_rest : {A E : Type 0} (P : Message → Type 0) (r : Result A E) (old new : List Message) → OnOk r (MovesLast old new P) → OnOk r ((rest : List Message) (m : Message) → old ≡ rest ++ m ∷ [] → new ≡ rest)
 moved_rest P r old new ok = on_ok r ok (λ h rest m is. (same_from_push new rest h.0 m (sym h.1 ∙ is)).0)
-
-pub no_last : {P : Type 0} (old rest : List Message) (m : Message) → old ≡ [] → old ≡ rest ++ m ∷ [] → P
-no_last old [] m empty is = absurd (let clash : [] ≡ m ∷ [] = sym empty ∙ is in cc)
-no_last old (x ∷ rest) m empty is = absurd (let clash : [] ≡ x ∷ (rest ++ m ∷ []) = sym empty ∙ is in cc)

@@ -304,7 +304,7 @@ impl Agenda {
     }
 
     /// Whether no event waits at this tick (in milliseconds) in this resource, nor before, where the queue is empty. So
-    /// an event of them would be the next one.
+    /// an event at this tick and resource would be the next one.
     #[inline(always)]
     pub fn is_clear(&mut self, tick: u64, resource: u32) -> bool
         ensures clear { OnTrue result (IsClear tick resource self.old) }

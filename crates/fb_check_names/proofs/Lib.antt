@@ -9,7 +9,7 @@ pub mod Once
 pub mod Same
 pub mod AllTwice
 pub mod Applying
-pub mod Places
+pub mod LastIndexes
 pub mod AllBlocks
 pub mod Catalogs
 pub mod Each

@@ -94,13 +94,13 @@ in_basics ts b c =
     let r = flat_map-Contains basics_in ts b c in
     subst (λ (t : BlockType). Contains ts t) (basic_of r.0 b r.2) r.1
 
-abbrev placed : CompositeType → OwnedNetwork
-placed t = (Some t, t.network)
+abbrev owned : CompositeType → OwnedNetwork
+owned t = (Some t, t.network)
 
-network_in : (lib : Library) (t : CompositeType) → Contains lib.blocks (block.Composite t) → Contains (networks lib) (placed t)
+network_in : (lib : Library) (t : CompositeType) → Contains lib.blocks (block.Composite t) → Contains (networks lib) (owned t)
 network_in lib t c =
-    Contains-there (None, lib.application.network) (flat_map networks_in lib.blocks) (placed t)
-    (Contains-flat_map networks_in lib.blocks (block.Composite t) (placed t) c (Contains-here (placed t) []))
+    Contains-there (None, lib.application.network) (flat_map networks_in lib.blocks) (owned t)
+    (Contains-flat_map networks_in lib.blocks (block.Composite t) (owned t) c (Contains-here (owned t) []))
 
 application_in : (lib : Library) → Contains (networks lib) (None, lib.application.network)
 application_in lib = Contains-here (None, lib.application.network) (flat_map networks_in lib.blocks)
@@ -118,8 +118,8 @@ with_twice lib plan t c twice =
     from_with lib plan (TwiceIn-right (to_instances lib) (of_with lib)
     (TwiceIn-flat_map with_lists (interfaces lib) (ports_of (kind_of t)) (Contains-map (λ (t : BlockType). ports_of (kind_of t)) lib.blocks t c) twice))
 
-placed_twice : (lib : Library) (plan : Plan) (n : OwnedNetwork) → Contains (networks lib) n → NetworkTwice n.1 → NameTwice lib plan
-placed_twice lib plan n c twice =
+owned_twice : (lib : Library) (plan : Plan) (n : OwnedNetwork) → Contains (networks lib) n → NetworkTwice n.1 → NameTwice lib plan
+owned_twice lib plan n c twice =
     elim twice [
       | inl t ↦ from_instances lib plan (TwiceIn-right (to_states lib) (of_instances lib) (TwiceIn-map (λ (n : OwnedNetwork). instance_names n.1) (networks lib) n c t))
       | inr rest ↦ elim rest [
@@ -129,7 +129,7 @@ placed_twice lib plan n c twice =
     ]
 
 pub network_twice : (lib : Library) (plan : Plan) → NetworkTwice lib.application.network → NameTwice lib plan
-network_twice lib plan twice = placed_twice lib plan (None, lib.application.network) (application_in lib) twice
+network_twice lib plan twice = owned_twice lib plan (None, lib.application.network) (application_in lib) twice
 
 pub block_twice : (lib : Library) (plan : Plan) (t : BlockType) → Contains lib.blocks t → BlockTwice t → NameTwice lib plan
 block_twice lib plan (block.Basic t) c twice =
@@ -143,7 +143,7 @@ block_twice lib plan (block.Basic t) c twice =
 block_twice lib plan (block.Composite t) c twice =
     elim twice [
       | inl ports ↦ elim ports [ inl p ↦ ports_twice lib plan (block.Composite t) c p | inr w ↦ with_twice lib plan (block.Composite t) c w ]
-      | inr n ↦ placed_twice lib plan (placed t) (network_in lib t c) n
+      | inr n ↦ owned_twice lib plan (owned t) (network_in lib t c) n
     ]
 
 pub plan_twice : (lib : Library) (plan : Plan) → PlanTwice plan → NameTwice lib plan
@@ -177,13 +177,13 @@ with_once lib plan (block.Composite b) once c t = once.blocks (block.Composite b
 inside_once : (lib : Library) (plan : Plan) (t : BlockType) (n : OwnedNetwork) → ArePartsOnce lib plan → Contains lib.blocks t → Contains (networks_in t) n → ¬ (NetworkTwice n.1)
 inside_once lib plan (block.Basic b) n once c h t = Contains-nil n h
 inside_once lib plan (block.Composite b) n once c h t =
-    elim (Contains-cons_cases (placed b) [] n h) [
+    elim (Contains-cons_cases (owned b) [] n h) [
       | inl e ↦ once.blocks (block.Composite b) c (inr (subst (λ (n : OwnedNetwork). NetworkTwice n.1) (sym e) t))
       | inr none ↦ Contains-nil n none
     ]
 
-placed_once : (lib : Library) (plan : Plan) (n : OwnedNetwork) → ArePartsOnce lib plan → Contains (networks lib) n → ¬ (NetworkTwice n.1)
-placed_once lib plan n once c t =
+owned_once : (lib : Library) (plan : Plan) (n : OwnedNetwork) → ArePartsOnce lib plan → Contains (networks lib) n → ¬ (NetworkTwice n.1)
+owned_once lib plan n once c t =
     elim (Contains-cons_cases (None, lib.application.network) (flat_map networks_in lib.blocks) n c) [
       | inl e ↦ once.network (subst (λ (n : OwnedNetwork). NetworkTwice n.1) (sym e) t)
       | inr rest ↦
@@ -213,7 +213,7 @@ to_with_once lib plan once t =
     elim (TwiceIn-cases (to_instances lib) (of_with lib) t) [
       | inl a ↦ elim (TwiceIn-cases (to_states lib) (of_instances lib) a) [
         | inl s ↦ to_states_once lib plan once s
-        | inr i ↦ let r = map-TwiceIn (λ (n : OwnedNetwork). instance_names n.1) (networks lib) i in placed_once lib plan r.0 once r.1 (inl r.2)
+        | inr i ↦ let r = map-TwiceIn (λ (n : OwnedNetwork). instance_names n.1) (networks lib) i in owned_once lib plan r.0 once r.1 (inl r.2)
       ]
       | inr w ↦
           let r = flat_map-TwiceIn with_lists (interfaces lib) w in
@@ -226,7 +226,7 @@ spaces_once lib plan once t =
     elim (TwiceIn-cases (to_parameters lib) (of_resources plan) t) [
       | inl a ↦ elim (TwiceIn-cases (to_with lib) (of_parameters lib) a) [
         | inl w ↦ to_with_once lib plan once w
-        | inr p ↦ let r = flat_map-TwiceIn (λ (n : OwnedNetwork). parameter_lists n.1) (networks lib) p in placed_once lib plan r.0 once r.1 (inr (inl r.2))
+        | inr p ↦ let r = flat_map-TwiceIn (λ (n : OwnedNetwork). parameter_lists n.1) (networks lib) p in owned_once lib plan r.0 once r.1 (inr (inl r.2))
       ]
       | inr r ↦ once.deployment (inl (TwiceIn-only (resource_names_of plan) r))
     ]
@@ -236,7 +236,7 @@ name_once lib plan once t =
     elim t [
       | inl a ↦ spaces_once lib plan once a
       | inr b ↦ elim b [
-        | inl c ↦ placed_once lib plan c.0 once c.1 (inr (inr c.2))
+        | inl c ↦ owned_once lib plan c.0 once c.1 (inr (inr c.2))
         | inr l ↦ once.deployment (inr l)
       ]
     ]

@@ -18,45 +18,45 @@ use Rattle.fb_types.proofs.NameLaws.{same_name-itself}
 use Rattle.fb_types.proofs.PathLaws.{same_path_itself, same_port_is}
 use Rattle.fb_types.proofs.TwiceLaws.{once_push}
 use Rattle.fb_check_names.specs.Listed.{each_at, each_from}
-use Rattle.fb_check_names.specs.Repeats.{IsPair, further, later, last_place, pair_at, repeats}
+use Rattle.fb_check_names.specs.Repeats.{IsPair, further, later, last_index, pair_at, repeats}
 use Rattle.fb_check_names.proofs.Listing.{all_each, none_left, none_right, walk_more}
 
--- ---- The last place
+-- ---- The last index
 
 counted : {A : Type 0} (x : A) (xs : List A) → length xs + 1 ≡ length (x ∷ xs)
 counted x xs = omega arith
 
-pub last_place-push :
-    {A : Type 0} (p : A → Bool) (xs : List A) (x : A) → last_place p (xs ++ x ∷ []) ≡ cond (p x) (Some (length xs)) (last_place p xs)
-last_place-push p [] x = refl
-last_place-push p (y ∷ ys) x =
+pub last_index-push :
+    {A : Type 0} (p : A → Bool) (xs : List A) (x : A) → last_index p (xs ++ x ∷ []) ≡ cond (p x) (Some (length xs)) (last_index p xs)
+last_index-push p [] x = refl
+last_index-push p (y ∷ ys) x =
     let first : Option ℕ = cond (p y) (Some zero) None in
-    ap (λ (o : Option ℕ). later (further o) first) (last_place-push p ys x)
-    ∙ (elim (p x) as (λ b. later (further (cond b (Some (length ys)) (last_place p ys))) first ≡ cond b (Some (length (y ∷ ys))) (later (further (last_place p ys)) first)) [
+    ap (λ (o : Option ℕ). later (further o) first) (last_index-push p ys x)
+    ∙ (elim (p x) as (λ b. later (further (cond b (Some (length ys)) (last_index p ys))) first ≡ cond b (Some (length (y ∷ ys))) (later (further (last_index p ys)) first)) [
       | true ↦ ap (λ (n : ℕ). Some n) (counted y ys)
       | false ↦ refl
     ])
 
 -- where it is, the item passes
-pub place_of :
-    {A : Type 0} (p : A → Bool) (xs : List A) (j : ℕ) → last_place p xs ≡ Some j → (x : A) × (slice_get xs j ≡ Some x) × (p x ≡ true)
-place_of p [] j h = absurd (cc)
-place_of {A} p (x ∷ xs) j h =
-    elim (last_place p xs) as
-    (λ o. last_place p xs ≡ o → later (further o) (cond (p x) (Some 0) None) ≡ Some j → (y : A) × (slice_get (x ∷ xs) j ≡ Some y) × (p y ≡ true)) [
+pub at_last_index :
+    {A : Type 0} (p : A → Bool) (xs : List A) (j : ℕ) → last_index p xs ≡ Some j → (x : A) × (slice_get xs j ≡ Some x) × (p x ≡ true)
+at_last_index p [] j h = absurd (cc)
+at_last_index {A} p (x ∷ xs) j h =
+    elim (last_index p xs) as
+    (λ o. last_index p xs ≡ o → later (further o) (cond (p x) (Some 0) None) ≡ Some j → (y : A) × (slice_get (x ∷ xs) j ≡ Some y) × (p y ≡ true)) [
       | Some k ↦ λ e g.
-          let rest = place_of p xs k e in
+          let rest = at_last_index p xs k e in
           let at : k + 1 ≡ j = same_Some (k + 1) j g in
           let here : suc k ≡ j = omega (arith, at) in
-          (rest.0, subst (λ (n : ℕ). slice_get (x ∷ xs) n ≡ Some rest.0) here (next_place x xs k ∙ rest.1), rest.2)
-      | None ↦ λ e g. first_place p x xs j g
+          (rest.0, subst (λ (n : ℕ). slice_get (x ∷ xs) n ≡ Some rest.0) here (next_at x xs k ∙ rest.1), rest.2)
+      | None ↦ λ e g. first_at p x xs j g
     ] refl h
   where
-    next_place : {A : Type 0} (x : A) (xs : List A) (k : ℕ) → slice_get (x ∷ xs) (suc k) ≡ slice_get xs k
-    next_place x xs k = refl
+    next_at : {A : Type 0} (x : A) (xs : List A) (k : ℕ) → slice_get (x ∷ xs) (suc k) ≡ slice_get xs k
+    next_at x xs k = refl
 
-    first_place : {A : Type 0} (p : A → Bool) (x : A) (xs : List A) (j : ℕ) → cond (p x) (Some 0) None ≡ Some j → (y : A) × (slice_get (x ∷ xs) j ≡ Some y) × (p y ≡ true)
-    first_place {A} p x xs j g =
+    first_at : {A : Type 0} (p : A → Bool) (x : A) (xs : List A) (j : ℕ) → cond (p x) (Some 0) None ≡ Some j → (y : A) × (slice_get (x ∷ xs) j ≡ Some y) × (p y ≡ true)
+    first_at {A} p x xs j g =
         elim (p x) as (λ b. p x ≡ b → cond b (Some 0) None ≡ Some j → (y : A) × (slice_get (x ∷ xs) j ≡ Some y) × (p y ≡ true)) [
           | true ↦ λ e h. (x, subst (λ (n : ℕ). slice_get (x ∷ xs) n ≡ Some x) (same_Some 0 j h) refl, e)
           | false ↦ λ e h. absurd (cc)
@@ -67,10 +67,10 @@ not_first true passes h = absurd (cc)
 not_first false passes h = true≢false (sym passes)
 
 -- if it is nowhere, no item passes
-pub nowhere_last : {A : Type 0} (p : A → Bool) (xs : List A) (x : A) → last_place p xs ≡ None → Contains xs x → p x ≡ true → ⊥
+pub nowhere_last : {A : Type 0} (p : A → Bool) (xs : List A) (x : A) → last_index p xs ≡ None → Contains xs x → p x ≡ true → ⊥
 nowhere_last p [] x h c e = Contains-nil x c
 nowhere_last {A} p (y ∷ ys) x h c e =
-    elim (last_place p ys) as (λ o. last_place p ys ≡ o → later (further o) (cond (p y) (Some 0) None) ≡ None → ⊥) [
+    elim (last_index p ys) as (λ o. last_index p ys ≡ o → later (further o) (cond (p y) (Some 0) None) ≡ None → ⊥) [
       | Some k ↦ λ f g. absurd (cc)
       | None ↦ λ f g. elim (Contains-cons_cases y ys x c) [
         | inl same ↦ not_first (p y) (ap p same ∙ e) g
@@ -91,9 +91,9 @@ so_many f xs i h = length-map (take i xs) f ∙ length-take i xs ∙ (grind arit
 
 -- ---- A table of what was seen
 
--- the table has the last place of each key
+-- the table has the last index of each key
 abbrev pub AreLast : {K Y : Type 0} → (K → K → Ordering) → (K → Y) → (Y → Y → Bool) → List Y → tree.BTreeMap K ℕ → Type 0
-AreLast {K} cmp view same ys m = (q : K) → tree.get cmp m q ≡ last_place (same (view q)) ys
+AreLast {K} cmp view same ys m = (q : K) → tree.get cmp m q ≡ last_index (same (view q)) ys
 
 -- keys are equal exactly if what they represent is the same
 abbrev pub IsSame : {K Y : Type 0} → (K → K → Ordering) → (K → Y) → (Y → Y → Bool) → Type 0
@@ -107,7 +107,7 @@ last_push :
     → AreLast cmp view same ys m → length ys ≡ n → ((q : K) → tree.get cmp t q ≡ cond (is_eq (cmp k q)) (Some n) (tree.get cmp m q))
     → AreLast cmp view same (ys ++ view k ∷ []) t
 last_push cmp view same ys m t k n agree are counted updates q =
-    updates q ∙ (λ i. cond (agree k q i) (Some (sym counted i)) (are q i)) ∙ sym (last_place-push (same (view q)) ys (view k))
+    updates q ∙ (λ i. cond (agree k q i) (Some (sym counted i)) (are q i)) ∙ sym (last_index-push (same (view q)) ys (view k))
 
 -- one item more
 pub last_more :
@@ -122,7 +122,7 @@ last_more {Y = Y} cmp view same f xs i x m t k agree h e g are updates =
 
 -- what belongs to an item of a mapped list
 abbrev pub pair_in : {A Y : Type 0} → (Y → Y → Bool) → (A → Y) → List A → ℕ → A → List (ℕ × ℕ)
-pair_in same f xs k x = pair_at k (last_place (same (f x)) (map f (take k xs)))
+pair_in same f xs k x = pair_at k (last_index (same (f x)) (map f (take k xs)))
 
 take-map : {A Y : Type 0} (f : A → Y) (k : ℕ) (xs : List A) → take k (map f xs) ≡ map f (take k xs)
 take-map f zero xs = refl
@@ -131,20 +131,20 @@ take-map {Y = Y} f (suc k) (x ∷ xs) = ap (λ (ys : List Y). f x ∷ ys) (take-
 
 pairs_from :
     {A Y : Type 0} (same : Y → Y → Bool) (f : A → Y) (all rest : List A) (k : ℕ)
-    → each_from (pair_in same f all) k rest ≡ each_from (λ j y. pair_at j (last_place (same y) (take j (map f all)))) k (map f rest)
+    → each_from (pair_in same f all) k rest ≡ each_from (λ j y. pair_at j (last_index (same y) (take j (map f all)))) k (map f rest)
 pairs_from same f all [] k = refl
 pairs_from same f all (x ∷ rest) k =
-    λ i. pair_at k (last_place (same (f x)) (sym (take-map f k all) i)) ++ pairs_from same f all rest (k + 1) i
+    λ i. pair_at k (last_index (same (f x)) (sym (take-map f k all) i)) ++ pairs_from same f all rest (k + 1) i
 
 pub pairs_are : {A Y : Type 0} (same : Y → Y → Bool) (f : A → Y) (xs : List A) → each_at (pair_in same f xs) xs ≡ repeats same (map f xs)
 pairs_are same f xs = pairs_from same f xs xs 0
 
--- the place that a table has for an item
-pub place_in_table :
+-- the index that a table has for an item
+pub index_in_table :
     {A K Y : Type 0} (cmp : K → K → Ordering) (view : K → Y) (same : Y → Y → Bool) (f : A → Y) (xs : List A) (i : ℕ) (x : A) (m : tree.BTreeMap K ℕ) (k : K) (o : Option ℕ)
     → view k ≡ f x → AreLast cmp view same (map f (take i xs)) m → o ≡ tree.get cmp m k → pair_at i o ≡ pair_in same f xs i x
-place_in_table {Y = Y} cmp view same f xs i x m k o g are old =
-    ap (pair_at i) (old ∙ are k ∙ ap (λ (y : Y). last_place (same y) (map f (take i xs))) g)
+index_in_table {Y = Y} cmp view same f xs i x m k o g are old =
+    ap (pair_at i) (old ∙ are k ∙ ap (λ (y : Y). last_index (same y) (map f (take i xs))) g)
 
 -- ---- Copies
 
@@ -195,10 +195,10 @@ before (x ∷ xs) (suc k) (suc j) y h = let rest = before xs k j y h in (omega (
 
 pub each_pair : {A : Type 0} (same : A → A → Bool) → ((x y : A) → Decides (same x y) (x ≡ y)) → (xs : List A) → All (IsPair xs) (repeats same xs)
 each_pair {A} same decides xs =
-    all_each (IsPair xs) (λ k x. pair_at k (last_place (same x) (take k xs))) xs
-    (λ k x found. all_of_pair (IsPair xs) k (last_place (same x) (take k xs))
+    all_each (IsPair xs) (λ k x. pair_at k (last_index (same x) (take k xs))) xs
+    (λ k x found. all_of_pair (IsPair xs) k (last_index (same x) (take k xs))
     (λ j e.
-    let y = place_of (same x) (take k xs) j e in
+    let y = at_last_index (same x) (take k xs) j e in
     let there = before xs k j y.0 y.1 in
     record {
       in_order = there.0;
@@ -220,14 +220,14 @@ counted_push xs x = omega (arith, length_push xs x)
 
 once_from :
     {A : Type 0} (same : A → A → Bool) → ((x y : A) → Decides (same x y) (x ≡ y)) → (all front rest : List A) → all ≡ front ++ rest
-    → each_from (λ k x. pair_at k (last_place (same x) (take k all))) (length front) rest ≡ [] → ¬ (Twice front) → ¬ (Twice all)
+    → each_from (λ k x. pair_at k (last_index (same x) (take k all))) (length front) rest ≡ [] → ¬ (Twice front) → ¬ (Twice all)
 once_from {A} same decides all front [] whole none once = subst (λ (zs : List A). ¬ (Twice zs)) (sym (whole ∙ append-nil front)) once
 once_from {A} same decides all front (x ∷ rest) whole none once =
-    let f : ℕ → A → List (ℕ × ℕ) = λ k x. pair_at k (last_place (same x) (take k all)) in
+    let f : ℕ → A → List (ℕ × ℕ) = λ k x. pair_at k (last_index (same x) (take k all)) in
     let k = length front in
-    let here : last_place (same x) (take k all) ≡ None = none_at k (last_place (same x) (take k all)) (none_left (f k x) (each_from f (k + 1) rest) none) in
-    let apart : last_place (same x) front ≡ None =
-    ap (last_place (same x)) (sym (ap (take k) whole ∙ take_front front (x ∷ rest))) ∙ here in
+    let here : last_index (same x) (take k all) ≡ None = none_at k (last_index (same x) (take k all)) (none_left (f k x) (each_from f (k + 1) rest) none) in
+    let apart : last_index (same x) front ≡ None =
+    ap (last_index (same x)) (sym (ap (take k) whole ∙ take_front front (x ∷ rest))) ∙ here in
     once_from same decides all (front ++ x ∷ []) rest (whole ∙ sym (append_assoc front (x ∷ []) rest))
     (ap (λ (n : ℕ). each_from f n rest) (sym (counted_push front x)) ∙ none_right (f k x) (each_from f (k + 1) rest) none)
     (once_push front x once (λ c. nowhere_last (same x) front x apart c ((decides x x).1 refl)))
@@ -239,7 +239,7 @@ pub none_mapped : {A B : Type 0} (f : A → B) (xs : List A) → map f xs ≡ []
 none_mapped f [] h = refl
 none_mapped f (x ∷ xs) h = absurd (cc)
 
--- ---- What is at two places
+-- ---- What is at two indexes
 
 at_both : {A : Type 0} (xs : List A) (i j : ℕ) (x : A) → i < j → slice_get xs i ≡ Some x → slice_get xs j ≡ Some x → Twice xs
 at_both [] i j x less h g = absurd (cc)

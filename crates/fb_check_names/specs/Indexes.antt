@@ -5,7 +5,7 @@ use Rattle.std.specs.Borrow.{Bor}
 use Rattle.fb_types.specs.Names.{Name, same_name}
 use Rattle.fb_types.specs.NameOrder.{name_cmp}
 use Rattle.fb_types.specs.Repeated.{Twice}
-use Rattle.fb_check_names.specs.Repeats.{last_place}
+use Rattle.fb_check_names.specs.Repeats.{last_index}
 
 -- names that are borrowed
 abbrev pub names_in : List (Bor Name) → List Name
@@ -20,6 +20,6 @@ pub record IsIndex (names : List Name) (indexes : BTreeMap (Bor Name) ℕ) : Typ
   pub once : ¬ (Twice names)
   pub index : (n : Name) → index_in indexes n ≡ position (same_name n) names
 
--- the map has the last place of each name
-abbrev pub ArePlaces : List Name → BTreeMap (Bor Name) ℕ → Type 0
-ArePlaces ns m = (n : Name) → index_in m n ≡ last_place (same_name n) ns
+-- the map has the last index of each name
+abbrev pub AreLastIndexes : List Name → BTreeMap (Bor Name) ℕ → Type 0
+AreLastIndexes ns m = (n : Name) → index_in m n ≡ last_index (same_name n) ns

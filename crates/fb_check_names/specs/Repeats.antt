@@ -9,20 +9,20 @@ pub record IsPair {A : Type 0} (xs : List A) (locations : ℕ × ℕ) : Type 0 w
   pub first : slice_get xs locations.0 ≡ Some what
   pub again : slice_get xs locations.1 ≡ Some what
 
--- one place further
+-- one index further
 abbrev pub further : Option ℕ → Option ℕ
 further None = None
 further (Some k) = Some (k + 1)
 
--- the later place, if there is one
+-- the later index, if there is one
 abbrev pub later : Option ℕ → Option ℕ → Option ℕ
 later None first = first
 later (Some k) first = Some k
 
 -- the index of the last item that passes
-abbrev pub last_place : {A : Type 0} → (A → Bool) → List A → Option ℕ
-last_place p [] = None
-last_place p (x ∷ xs) = later (further (last_place p xs)) (cond (p x) (Some 0) None)
+abbrev pub last_index : {A : Type 0} → (A → Bool) → List A → Option ℕ
+last_index p [] = None
+last_index p (x ∷ xs) = later (further (last_index p xs)) (cond (p x) (Some 0) None)
 
 -- this index, with that of an item before it
 abbrev pub pair_at : ℕ → Option ℕ → List (ℕ × ℕ)
@@ -31,4 +31,4 @@ pair_at k (Some j) = (j, k) ∷ []
 
 -- each item that is the same as one before it, with the nearest of them
 abbrev pub repeats : {A : Type 0} → (A → A → Bool) → List A → List (ℕ × ℕ)
-repeats same xs = each_at (λ k x. pair_at k (last_place (same x) (take k xs))) xs
+repeats same xs = each_at (λ k x. pair_at k (last_index (same x) (take k xs))) xs

@@ -85,9 +85,9 @@ pub fn catalog_of<'a>(
     let network = &library.application.network;
     let instances = network_indexes(alloc, found, Site::Application, network);
     let located = together(instances, resource_indexes(alloc, found, plan));
-    let (named, placed) = together(declared, located)?;
+    let (named, mapped) = together(declared, located)?;
     let (types, blocks) = named;
-    let (instances, resources) = placed;
+    let (instances, resources) = mapped;
     Ok(Catalog {
         types,
         blocks,

@@ -45,7 +45,7 @@ pub use numbers::{
     ConnectionEnd, LinkEnds, NetworkNumbers, NumberedConnection, Resolved, TypeNumber,
 };
 pub use pairs::{Repeat, push_pair};
-pub use placing::{Indexes, index_of, index_of_name, indexes_of, last_places};
+pub use placing::{Indexes, index_of, index_of_name, indexes_of, last_indexes};
 pub use ports::PortKind;
 pub use repeats::{EndNames, NameSpace, end_names};
 pub use twice::{GivenTwice, InBlock, InNetwork};

@@ -4,7 +4,7 @@ ghost use Rattle.std.specs.Prelude.{◌≡◌, ◌++◌, IfOk, MatchOption};
 ghost use Rattle.fb_types.specs.Names.{same_name};
 ghost use Rattle.fb_types.specs.Repeated.{Twice};
 ghost use Rattle.fb_check_names.specs.Repeats.{repeats};
-ghost use Rattle.fb_check_names.specs.Indexes.{ArePlaces, IsIndex, names_in, index_in};
+ghost use Rattle.fb_check_names.specs.Indexes.{AreLastIndexes, IsIndex, names_in, index_in};
 
 use crate::pairs::{Repeat, push_pair};
 use fb_types::Name;
@@ -14,22 +14,22 @@ use std::collections::BTreeMap;
 /// The index of each name of a list, from 0.
 pub type Indexes<'a> = BTreeMap<&'a Name, usize, Global>;
 
-/// The last place of each name in a list. Each name that is in the list before is added, with the index of the nearest
+/// The last index of each name in a list. Each name that is in the list before is added, with the index of the nearest
 /// such name.
-pub fn last_places<'a>(
+pub fn last_indexes<'a>(
     alloc: Global,
     again: &mut Vec<Repeat>,
     names: &[&'a Name],
 ) -> Result<Indexes<'a>, AllocError>
     ensures again { IfOk result (λ _. again.new.items ≡ again.old.items ++ repeats same_name (names_in names.now)) }
-    ensures places { IfOk result (ArePlaces (names_in names.now)) }
+    ensures indexes { IfOk result (AreLastIndexes (names_in names.now)) }
 {
-    let mut places = BTreeMap::new(alloc);
+    let mut indexes = BTreeMap::new(alloc);
     for (second, name) in names.iter().enumerate() {
-        let first = places.insert(*name, second)?;
+        let first = indexes.insert(*name, second)?;
         push_pair(again, first, second)?;
     }
-    Ok(places)
+    Ok(indexes)
 }
 
 /// The indexes of names, or `None` if a name is given twice.
@@ -37,11 +37,11 @@ pub fn indexes_of<'a>(alloc: Global, names: &[&'a Name]) -> Result<Option<Indexe
     ensures { IfOk result (λ o. MatchOption o (Twice (names_in names.now)) (IsIndex (names_in names.now))) }
 {
     let mut again = Vec::new(alloc);
-    let places = last_places(alloc, &mut again, names)?;
+    let indexes = last_indexes(alloc, &mut again, names)?;
     if !again.is_empty() {
         return Ok(None);
     }
-    Ok(Some(places))
+    Ok(Some(indexes))
 }
 
 /// The index of a name, if the list has it.

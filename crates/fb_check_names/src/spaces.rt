@@ -15,7 +15,7 @@ use crate::catalog::BlockIndexes;
 use crate::listed::push_unless;
 use crate::location::{Direction, Site};
 use crate::named::{Named, push_names};
-use crate::placing::{Indexes, last_places};
+use crate::placing::{Indexes, last_indexes};
 use crate::repeats::{NameSpace, push_connections, push_links, push_pairs};
 use crate::twice::GivenTwice;
 use fb_types::{
@@ -36,9 +36,9 @@ fn name_indexes<'a>(
     ensures indexes { IfOk result (λ m. ¬ (Twice (names_in names.now)) → IsIndex (names_in names.now) m) }
 {
     let mut pairs = Vec::new(alloc);
-    let places = last_places(alloc, &mut pairs, names)?;
+    let indexes = last_indexes(alloc, &mut pairs, names)?;
     push_pairs(found, name_space, pairs.as_slice())?;
-    Ok(places)
+    Ok(indexes)
 }
 
 /// The same for the names of the items of a list.

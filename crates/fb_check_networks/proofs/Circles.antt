@@ -20,7 +20,7 @@ use Rattle.fb_check_names.proofs.Each.{each_from}
 use Rattle.fb_check_names.specs.declared.location.Descent.{Descent}
 use Rattle.fb_check_names.specs.declared.location.Descent.TheVariants.{Circle, Height}
 use Rattle.fb_check_networks.specs.Applies.{HeightApplies}
-use Rattle.fb_check_networks.specs.Heights.{HoldsNone, IsDescent, IsHeld, IsPart, IsTooHighAt, LeadsBack, LeadsTo, Steps, below, declared_index, is_marked, marked_in, marks_after, type_inside}
+use Rattle.fb_check_networks.specs.Heights.{HoldsNone, IsDescent, IsHeld, IsPart, IsTooHighAt, LeadsBack, LeadsTo, Steps, below, declared_index, is_marked, first_marked_component, marks_after, type_inside}
 use Rattle.fb_check_networks.proofs.Lists.{past_both}
 use Rattle.fb_check_networks.proofs.Looking.{position_at}
 use Rattle.fb_check_networks.proofs.Marked.{AreMarks, leads_from_marked, marks_right, none_high}
@@ -71,14 +71,14 @@ onward xs (suc n) j k m s p = (s.0, s.1, onward xs n s.0 k m s.2 p)
 part_below : (xs : List (Option NetworkNumbers)) (marks : List Bool) (k j : ℕ) → below xs marks k ≡ Some j → IsPart xs k j
 part_below xs marks k j h =
     elim (slice_get xs k) as
-    (λ o. slice_get xs k ≡ o → option_and_then (λ (o : Option NetworkNumbers). option_and_then (type_inside o) (marked_in marks o)) o ≡ Some j → IsPart xs k j) [
+    (λ o. slice_get xs k ≡ o → option_and_then (λ (o : Option NetworkNumbers). option_and_then (type_inside o) (first_marked_component marks o)) o ≡ Some j → IsPart xs k j) [
       | None ↦ λ e g. absurd (cc)
       | Some o ↦ λ e g. part_of xs marks k j o e g
     ] refl h
   where
     part_of :
         (xs : List (Option NetworkNumbers)) (marks : List Bool) (k j : ℕ) (o : Option NetworkNumbers) → slice_get xs k ≡ Some o
-        → option_and_then (type_inside o) (marked_in marks o) ≡ Some j → IsPart xs k j
+        → option_and_then (type_inside o) (first_marked_component marks o) ≡ Some j → IsPart xs k j
     part_of xs marks k j None e h = absurd (cc)
     part_of xs marks k j (Some x) e h =
         elim (position (is_marked marks) x.types) as (λ o. option_and_then (type_inside (Some x)) o ≡ Some j → IsPart xs k j) [
@@ -130,7 +130,7 @@ descends lib plan r is (suc n) j k t u s at to =
 
 height_at :
     (lib : Library) (plan : Plan) (r : Resolved) (marks : List Bool) (k i : ℕ) (o : Option NetworkNumbers) → IsResolved lib plan r → AreMarks lib 15 marks → slice_get r.blocks k ≡ Some o
-    → marked_in marks o ≡ Some i → IsTooHighAt lib (Height k i)
+    → first_marked_component marks o ≡ Some i → IsTooHighAt lib (Height k i)
 height_at lib plan r marks k i None is are at found = absurd (cc)
 height_at lib plan r marks k i (Some x) is are at found =
     let c = composite_there lib plan r is k x at in
@@ -140,7 +140,7 @@ height_at lib plan r marks k i (Some x) is are at found =
 
 circle_at :
     (lib : Library) (plan : Plan) (r : Resolved) (marks : List Bool) (k i : ℕ) (o : Option NetworkNumbers) → IsResolved lib plan r → AreMarks lib 15 marks → slice_get r.blocks k ≡ Some o
-    → marked_in marks o ≡ Some i → LeadsBack r.blocks k o i → IsTooHighAt lib (Circle k i)
+    → first_marked_component marks o ≡ Some i → LeadsBack r.blocks k o i → IsTooHighAt lib (Circle k i)
 circle_at lib plan r marks k i None is are at found back = absurd (cc)
 circle_at lib plan r marks k i (Some x) is are at found back =
     let c = composite_there lib plan r is k x at in

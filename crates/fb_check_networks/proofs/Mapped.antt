@@ -25,7 +25,7 @@ use Rattle.fb_check_names.specs.declared.location.Unmapped.TheVariants.{Again, U
 use Rattle.fb_check_names.proofs.Listing.{all_each, all_unless, none_each, none_left, none_right, none_said, none_unless}
 use Rattle.fb_check_names.proofs.Repeating.{each_pair, none_mapped, once_of, pair_twice}
 use Rattle.fb_check_networks.specs.Applies.{UnmappedApplies}
-use Rattle.fb_check_names.specs.Indexes.{ArePlaces}
+use Rattle.fb_check_names.specs.Indexes.{AreLastIndexes}
 use Rattle.fb_check_networks.specs.Mapping.{IsMapping, owned, owners_in}
 use Rattle.fb_check_networks.specs.Unmapped.{IsUnmappedAmong, IsUnmappedAt, unlisted_at, unmapped_all, unmapped_among}
 use Rattle.fb_check_networks.specs.declared.mapping.Listed.{Listed}
@@ -108,9 +108,9 @@ listed_all : (lib : Library) (plan : Plan) → plan.holds_all ≡ false → mapp
 listed_all lib plan h = ap (λ b. cond b (instance_names lib.application.network) (flat_map (λ r. r.instances) plan.resources)) h
 
 pub all_listed :
-    (lib : Library) (plan : Plan) (l : Listed) (rs : List ResourceEntry) → rs ≡ plan.resources → plan.holds_all ≡ false → ArePlaces (flat_map (λ r. r.instances) rs) l.places
+    (lib : Library) (plan : Plan) (l : Listed) (rs : List ResourceEntry) → rs ≡ plan.resources → plan.holds_all ≡ false → AreLastIndexes (flat_map (λ r. r.instances) rs) l.indexes
     → l.owners.items ≡ each_at owners_in rs → unmapped_all lib plan ≡ [] → IsMapping lib plan (mapping.Listed l)
-all_listed lib plan l rs same h places owners none =
+all_listed lib plan l rs same h indexes owners none =
     let each : ¬ (NotMapped lib plan) = none_unmapped lib plan none in
     let names : flat_map (λ (r : ResourceEntry). r.instances) rs ≡ mapped lib plan = ap (flat_map (λ (r : ResourceEntry). r.instances)) same ∙ sym (listed_all lib plan h) in
     let once : ¬ (Twice (flat_map (λ (r : ResourceEntry). r.instances) rs)) = λ t. each (inr (subst (λ (ns : List Name). Twice ns) names t)) in
@@ -118,7 +118,7 @@ all_listed lib plan l rs same h places owners none =
       each = each;
       holds = record {
         holder = λ n.
-            (λ i. unwrap_or (owned (owners i) (places n i)) 0)
+            (λ i. unwrap_or (owned (owners i) (indexes n i)) 0)
             ∙ ap (λ o. unwrap_or o 0) (first_owner rs n once)
             ∙ ap (λ (rs : List ResourceEntry). unwrap_or (position (λ r. among r.instances n) rs) 0) same
             ∙ sym (ap (λ b. cond b 0 (unwrap_or (position (λ r. among r.instances n) plan.resources) 0)) h);

@@ -22,13 +22,13 @@ is_marked marks (number.Event k) = false
 is_marked marks (number.Declared t) = unwrap_or (slice_get marks t) false
 
 -- the first component that is of a marked type
-abbrev pub marked_in : List Bool → Option NetworkNumbers → Option ℕ
-marked_in marks None = None
-marked_in marks (Some x) = position (is_marked marks) x.types
+abbrev pub first_marked_component : List Bool → Option NetworkNumbers → Option ℕ
+first_marked_component marks None = None
+first_marked_component marks (Some x) = position (is_marked marks) x.types
 
 -- whether a composite type contains a marked one
 abbrev pub holds_marked : List Bool → Option NetworkNumbers → Bool
-holds_marked marks o = is_some (marked_in marks o)
+holds_marked marks o = is_some (first_marked_component marks o)
 
 -- the marks after these rounds; at first all composite types are marked
 abbrev pub marks_after : ℕ → List (Option NetworkNumbers) → List Bool
@@ -49,7 +49,7 @@ type_inside (Some x) i = declared_index (slice_get x.types i)
 
 -- the index of the type of the first component that is of a marked type
 abbrev pub below : List (Option NetworkNumbers) → List Bool → ℕ → Option ℕ
-below xs marks k = option_and_then (λ o. option_and_then (type_inside o) (marked_in marks o)) (slice_get xs k)
+below xs marks k = option_and_then (λ o. option_and_then (type_inside o) (first_marked_component marks o)) (slice_get xs k)
 
 -- The composite type at the one index has a component of the type at the other.
 pub record IsPart (xs : List (Option NetworkNumbers)) (j k : ℕ) : Type 0 where
@@ -73,15 +73,15 @@ pub record LeadsBack (xs : List (Option NetworkNumbers)) (k : ℕ) (o : Option N
   pub leads : LeadsTo xs through k
 
 abbrev pub HoldsNone : List Bool → Option NetworkNumbers → Type 0
-HoldsNone marks o = marked_in marks o ≡ None
+HoldsNone marks o = first_marked_component marks o ≡ None
 
 -- the type at the index has a component of a marked type
 abbrev pub IsHolder : List (Option NetworkNumbers) → List Bool → ℕ × ℕ → Type 0
-IsHolder xs marks r = (o : Option NetworkNumbers) × (slice_get xs r.0 ≡ Some o) × (marked_in marks o ≡ Some r.1)
+IsHolder xs marks r = (o : Option NetworkNumbers) × (slice_get xs r.0 ≡ Some o) × (first_marked_component marks o ≡ Some r.1)
 
 -- the type at the index leads to itself through the first component of a marked type
 abbrev pub IsRound : List (Option NetworkNumbers) → List Bool → ℕ × ℕ → Type 0
-IsRound xs marks r = (o : Option NetworkNumbers) × (slice_get xs r.0 ≡ Some o) × (marked_in marks o ≡ Some r.1) × LeadsBack xs r.0 o r.1
+IsRound xs marks r = (o : Option NetworkNumbers) × (slice_get xs r.0 ≡ Some o) × (first_marked_component marks o ≡ Some r.1) × LeadsBack xs r.0 o r.1
 
 abbrev pub IsDescent : List (Option NetworkNumbers) → List Bool → Descent → Type 0
 IsDescent xs marks (Circle k i) = IsRound xs marks (k, i)

@@ -24,20 +24,20 @@ use Rattle.fb_check_networks.specs.declared.mapping.Mapping.TheVariants as mappi
 abbrev pub owners_in : ℕ → ResourceEntry → List ℕ
 owners_in k r = map (λ n. k) r.instances
 
--- an instance that has no place
+-- an instance that no resource lists
 abbrev pub unlisted_by : BTreeMap (Bor Name) ℕ → ℕ → Instance → List Unmapped
 unlisted_by m k i = unless (is_some (index_in m i.name)) (Unlisted k)
 
 -- ---- The mapping
 
--- what is at a place
+-- what is at an index
 abbrev pub owned : List ℕ → Option ℕ → Option ℕ
 owned owners None = None
-owned owners (Some place) = slice_get owners place
+owned owners (Some index) = slice_get owners index
 
 -- the resource that lists a name
 abbrev pub owner_of : Listed → Name → ℕ
-owner_of l n = unwrap_or (owned l.owners.items (index_in l.places n)) 0
+owner_of l n = unwrap_or (owned l.owners.items (index_in l.indexes n)) 0
 
 -- the resource that a mapping gives
 abbrev pub holder_in : Mapping → Name → ℕ

@@ -25,7 +25,7 @@ fn is_marked(marks: &[bool], number: TypeNumber) -> bool
 }
 
 /// The first of these types that is marked.
-fn marked_among(marks: &[bool], types: &[TypeNumber]) -> Option<usize>
+fn first_marked(marks: &[bool], types: &[TypeNumber]) -> Option<usize>
     ensures { result ≡ position (spec.is_marked marks.now) types.now }
 {
     for (component, number) in types.iter().enumerate() {
@@ -37,11 +37,11 @@ fn marked_among(marks: &[bool], types: &[TypeNumber]) -> Option<usize>
 }
 
 /// The first component of a composite type that is of a marked type.
-fn marked_in(marks: &[bool], numbers: &Option<NetworkNumbers>) -> Option<usize>
-    ensures { result ≡ spec.marked_in marks.now numbers.now }
+fn first_marked_component(marks: &[bool], numbers: &Option<NetworkNumbers>) -> Option<usize>
+    ensures { result ≡ spec.first_marked_component marks.now numbers.now }
 {
     match numbers {
-        Some(network) => marked_among(marks, network.types.as_slice()),
+        Some(network) => first_marked(marks, network.types.as_slice()),
         None => None,
     }
 }
@@ -67,7 +67,7 @@ fn mark_again(
 {
     let mut again = Vec::new(alloc);
     for numbers in blocks {
-        again.push(marked_in(marks, numbers).is_some())?;
+        again.push(first_marked_component(marks, numbers).is_some())?;
     }
     Ok(again)
 }
@@ -93,7 +93,7 @@ fn first_holder(blocks: &[Option<NetworkNumbers>], marks: &[bool]) -> Option<(us
     ensures { MatchOption result (All (spec.HoldsNone marks.now) blocks.now) (spec.IsHolder blocks.now marks.now) }
 {
     for (block, numbers) in blocks.iter().enumerate() {
-        if let Some(component) = marked_in(marks, numbers) {
+        if let Some(component) = first_marked_component(marks, numbers) {
             return Some((block, component));
         }
     }
@@ -118,7 +118,7 @@ fn below(blocks: &[Option<NetworkNumbers>], marks: &[bool], block: usize) -> Opt
     ensures { result ≡ spec.below blocks.now marks.now block }
 {
     let numbers = blocks.get(block)?;
-    let component = marked_in(marks, numbers)?;
+    let component = first_marked_component(marks, numbers)?;
     type_inside(numbers, component)
 }
 
@@ -162,7 +162,7 @@ fn first_circle(blocks: &[Option<NetworkNumbers>], marks: &[bool]) -> Option<(us
     ensures { MatchOption result ⊤ (spec.IsRound blocks.now marks.now) }
 {
     for (block, numbers) in blocks.iter().enumerate() {
-        if let Some(component) = marked_in(marks, numbers) {
+        if let Some(component) = first_marked_component(marks, numbers) {
             if leads_back(blocks, marks, block, numbers, component) {
                 return Some((block, component));
             }

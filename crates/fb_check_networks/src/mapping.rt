@@ -2,14 +2,14 @@
 
 ghost use Rattle.std.specs.Prelude.{◌≡◌, ◌++◌, [], IfOk, flat_map, map, true};
 ghost use Rattle.fb_types.specs.Repeated.{NameTwice};
-ghost use Rattle.fb_check_names.specs.Indexes.{ArePlaces, names_in};
+ghost use Rattle.fb_check_names.specs.Indexes.{AreLastIndexes, names_in};
 ghost use Rattle.fb_check_names.specs.Listed.{each_at};
 ghost use Rattle.fb_check_names.specs.declared.location.Unmapped.TheVariants.{Again};
 ghost use Rattle.fb_check_networks.specs.Mapping.{IsMapping, holder_in, owner_of, owners_in, resource_in, unlisted_by};
 ghost use Rattle.fb_check_networks.specs.Unmapped.{unmapped_all, unmapped_among};
 
 use fb_check_names::{
-    Indexes, Repeat, Unmapped, index_of_name, last_places, push_names, push_unless,
+    Indexes, Repeat, Unmapped, index_of_name, last_indexes, push_names, push_unless,
 };
 use fb_types::{Instance, Items, Library, Name, Plan, PortName, ResourceEntry};
 use std::alloc::{AllocError, Global};
@@ -17,9 +17,9 @@ use std::alloc::{AllocError, Global};
 /// The resource that lists each name.
 #[derive(Drop)]
 pub struct Listed<'a> {
-    /// The last place of each listed name, in the lists of all resources, one after another.
-    places: Indexes<'a>,
-    /// The resource that lists the name at each place, by its index from 0.
+    /// The last index of each listed name, in the lists of all resources, one after another.
+    indexes: Indexes<'a>,
+    /// The number of the resource that lists the name at each index, from 0.
     owners: Vec<usize>,
 }
 
@@ -67,16 +67,16 @@ fn owners_of(alloc: Global, resources: &[ResourceEntry]) -> Result<Vec<usize>, A
     Ok(owners)
 }
 
-/// Adds the instances that have no place.
+/// Adds the instances that no resource lists.
 fn push_unlisted(
     found: &mut Vec<Unmapped>,
-    places: &Indexes,
+    indexes: &Indexes,
     instances: &[Instance],
 ) -> Result<(), AllocError>
-    ensures { IfOk result (λ _. found.new.items ≡ found.old.items ++ each_at (unlisted_by places.now) instances.now) }
+    ensures { IfOk result (λ _. found.new.items ≡ found.old.items ++ each_at (unlisted_by indexes.now) instances.now) }
 {
     for (instance, declared) in instances.iter().enumerate() {
-        let is_listed = places.contains_key(&declared.name);
+        let is_listed = indexes.contains_key(&declared.name);
         push_unless(found, is_listed, Unmapped::Unlisted(instance))?;
     }
     Ok(())
@@ -100,16 +100,16 @@ fn list_all<'a>(
     resources: &'a [ResourceEntry],
 ) -> Result<Listed<'a>, AllocError>
     ensures found { IfOk result (λ _. found.new.items ≡ found.old.items ++ unmapped_among (flat_map (λ r. r.instances) resources.now) instances.now) }
-    ensures places { IfOk result (λ l. ArePlaces (flat_map (λ r. r.instances) resources.now) l.places) }
+    ensures indexes { IfOk result (λ l. AreLastIndexes (flat_map (λ r. r.instances) resources.now) l.indexes) }
     ensures owners { IfOk result (λ l. l.owners.items ≡ each_at owners_in resources.now) }
 {
     let names = listed_names(alloc, resources)?;
     let mut again = Vec::new(alloc);
-    let places = last_places(alloc, &mut again, names.as_slice())?;
-    push_unlisted(found, &places, instances)?;
+    let indexes = last_indexes(alloc, &mut again, names.as_slice())?;
+    push_unlisted(found, &indexes, instances)?;
     push_again(found, again.as_slice())?;
     let owners = owners_of(alloc, resources)?;
-    Ok(Listed { places, owners })
+    Ok(Listed { indexes, owners })
 }
 
 /// Which resource holds each instance of the application, if each is mapped to one. Adds all that are not (E26): the
@@ -140,8 +140,8 @@ pub fn mapping_of<'a>(
 fn owner(listed: &Listed, name: &Name) -> usize
     ensures { result ≡ owner_of listed.now name.now }
 {
-    match index_of_name(&listed.places, name) {
-        Some(place) => listed.owners.as_slice().get(place).copied().unwrap_or(0),
+    match index_of_name(&listed.indexes, name) {
+        Some(index) => listed.owners.as_slice().get(index).copied().unwrap_or(0),
         None => 0,
     }
 }

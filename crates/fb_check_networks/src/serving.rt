@@ -73,7 +73,7 @@ fn serve_all<'a>(
 }
 
 /// The variables that output events carry from their components to resources.
-pub fn served_by<'a>(
+pub fn served_variables<'a>(
     alloc: Global,
     library: &'a Library,
     interfaces: &'a [Ports],

@@ -10,7 +10,7 @@ ghost use Rattle.fb_check_networks.specs.Serving.{AreServed};
 ghost use Rattle.fb_check_networks.specs.Unserved.{IsUnservedAt, is_served, unserved_all, unserved_at};
 
 use crate::mapping::{Mapping, resource_of};
-use crate::serving::{Leads, component_of, served_by};
+use crate::serving::{Leads, component_of, served_variables};
 use fb_check_names::{NetworkNumbers, Resolved, push_unless};
 use fb_types::{Connection, Library, Plan, all_ports};
 use std::alloc::{AllocError, Global};
@@ -41,7 +41,7 @@ fn is_served<'a>(
 }
 
 /// The list of all data connections that no event serves, from what is served.
-fn unserved_by<'a>(
+fn unserved_connections<'a>(
     alloc: Global,
     library: &'a Library,
     plan: &Plan,
@@ -79,7 +79,7 @@ fn all_unserved(
 {
     let interfaces = all_ports(alloc)?;
     let numbers = &resolved.application;
-    let served = served_by(
+    let served = served_variables(
         alloc,
         library,
         interfaces.as_slice(),
@@ -87,7 +87,7 @@ fn all_unserved(
         mapping,
         numbers,
     )?;
-    unserved_by(alloc, library, plan, mapping, numbers, &served)
+    unserved_connections(alloc, library, plan, mapping, numbers, &served)
 }
 
 /// The indexes of all data connections of the application that go from one resource to another, and no output event WITH

@@ -159,6 +159,7 @@ pub(crate) fn reaction(
         }
     }
 }
+
 /// The reaction to the timer. The memory is changed where the block remembers something else then.
 pub(crate) fn expiry(kind: EventKind, memory: &mut EventMemory, tick: u64) -> Step
     requires early { tick ≤ 10 ^ 12 }

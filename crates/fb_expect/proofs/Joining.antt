@@ -2,7 +2,7 @@
 use Rattle.std.proofs.Common.{◌≡◌, ℕ, ◌+◌, ◌<◌, ◌≤◌, Bool, Bor, List, [], ◌∷◌, ◌++◌, length, get_or, map, take, drop, inl, inr, refl, sym, ap, ◌∙◌, append_assoc, append-nil, arith, min}
 use Rattle.std.proofs.lemmas.Bool.{cases_lt}
 use Rattle.std.proofs.lemmas.List.{length-take-le, map-append, take-append-drop, take_all, take_more}
-use Rattle.fb_expect.specs.Reports.{escaped, escaped_byte, joined, point, points}
+use Rattle.fb_expect.specs.Reports.{escape, escape_byte, joined, point, points}
 use Rattle.fb_expect.specs.Words.{Text}
 use Rattle.fb_expect.specs.declared.judging.Judged.{Judged}
 use Rattle.fb_expect.specs.declared.rule.Rule.{Rule}
@@ -26,13 +26,13 @@ one-more ps i lt =
     ap (λ (qs : List (Bor Text)). joined (texts qs)) (take_more ps i none lt) ∙ ap joined (map-append (λ (q : Bor Text). q.now) (take i ps) (get_or ps i none ∷ []))
     ∙ joined-push (texts (take i ps)) (part_at ps i)
 
-escaped-push : (mark : ℕ) (z : Text) (b : ℕ) → escaped mark (z ++ b ∷ []) ≡ escaped mark z ++ escaped_byte mark b
-escaped-push mark [] b = append-nil (escaped_byte mark b)
-escaped-push mark (x ∷ z) b = ap (λ (t : Text). escaped_byte mark x ++ t) (escaped-push mark z b) ∙ sym (append_assoc (escaped_byte mark x) (escaped mark z) (escaped_byte mark b))
+escape-push : (mark : ℕ) (z : Text) (b : ℕ) → escape mark (z ++ b ∷ []) ≡ escape mark z ++ escape_byte mark b
+escape-push mark [] b = append-nil (escape_byte mark b)
+escape-push mark (x ∷ z) b = ap (λ (t : Text). escape_byte mark x ++ t) (escape-push mark z b) ∙ sym (append_assoc (escape_byte mark x) (escape mark z) (escape_byte mark b))
 
 -- one more byte
-pub byte-more : (mark : ℕ) (z : Text) (i d : ℕ) → i < length z → escaped mark (take (i + 1) z) ≡ escaped mark (take i z) ++ escaped_byte mark (get_or z i d)
-byte-more mark z i d lt = ap (escaped mark) (take_more z i d lt) ∙ escaped-push mark (take i z) (get_or z i d)
+pub byte-more : (mark : ℕ) (z : Text) (i d : ℕ) → i < length z → escape mark (take (i + 1) z) ≡ escape mark (take i z) ++ escape_byte mark (get_or z i d)
+byte-more mark z i d lt = ap (escape mark) (take_more z i d lt) ∙ escape-push mark (take i z) (get_or z i d)
 
 -- ---- Points
 

@@ -24,15 +24,15 @@ IsKind line kind.Other = Unit {0}
 abbrev pub same_truth : Bool → Bool → Bool
 same_truth a b = (a && b) || (not a && not b)
 
-abbrev pub unless : Bool → Text → Text
-unless same word = if same then [] else word
+abbrev pub word_unless : Bool → Text → Text
+word_unless same word = if same then [] else word
 
 -- the parts of two events that differ, each after a comma and a blank
 unfoldable pub parts : Entry → Entry → Text
 parts l r =
-    joined (unless (l.tick == r.tick) (codes ", tick") ∷ unless (bytes_eq l.resource.now r.resource.now) (codes ", resource")
-    ∷ unless (bytes_eq l.port.now r.port.now && same_truth l.taken r.taken) (codes ", port")
-    ∷ unless (bytes_eq l.values.now r.values.now) (codes ", value") ∷ [])
+    joined (word_unless (l.tick == r.tick) (codes ", tick") ∷ word_unless (bytes_eq l.resource.now r.resource.now) (codes ", resource")
+    ∷ word_unless (bytes_eq l.port.now r.port.now && same_truth l.taken r.taken) (codes ", port")
+    ∷ word_unless (bytes_eq l.values.now r.values.now) (codes ", value") ∷ [])
 
 -- the same without the first comma; the key, if no other part differs
 abbrev pub listed : Text → Text
@@ -41,12 +41,12 @@ listed z = if nat_lt (length z) 2 then codes "key" else drop 2 z
 abbrev pub last_part : ℕ → ℕ → Text
 last_part l r = if l == r then codes "end" else codes "tick"
 
-abbrev pub what : LineKind → LineKind → Text
-what (kind.Event l) (kind.Event r) = listed (parts l r)
-what (kind.Last l) (kind.Last r) = last_part l r
-what kind.Missing r = codes "length"
-what l kind.Missing = codes "length"
-what l r = codes "kind"
+abbrev pub difference_of : LineKind → LineKind → Text
+difference_of (kind.Event l) (kind.Event r) = listed (parts l r)
+difference_of (kind.Last l) (kind.Last r) = last_part l r
+difference_of kind.Missing r = codes "length"
+difference_of l kind.Missing = codes "length"
+difference_of l r = codes "kind"
 
 -- ---- Lines
 
@@ -67,7 +67,7 @@ shown_line name line kind.Other = joined (name ∷ codes ": " ∷ bare line ∷ 
 -- The number of the lines and what differs, and then both lines.
 unfoldable pub difference_text : (first second : Text) → Difference → (left right : LineKind) → Text
 difference_text first second d left right =
-    joined (codes "line " ∷ decimal d.number ∷ codes " differs in: " ∷ what left right ∷ codes "\n" ∷ shown_line first d.left.items left
+    joined (codes "line " ∷ decimal d.number ∷ codes " differs in: " ∷ difference_of left right ∷ codes "\n" ∷ shown_line first d.left.items left
     ∷ shown_line second d.right.items right ∷ [])
 
 -- The text shows how two files differ.

@@ -16,16 +16,16 @@ within least (pos n) = if nat_le least n && nat_le n (10 ^ 12) then Some n else 
 within least (negsuc n) = None
 
 -- the least is not over the most
-abbrev pub bounded : (least : ℕ) → (most every : Option ℕ) → Option Need
-bounded least None every = Some (need.Count least None every)
-bounded least (Some most) every = if nat_lt most least then None else Some (need.Count least (Some most) every)
+abbrev pub count_need : (least : ℕ) → (most every : Option ℕ) → Option Need
+count_need least None every = Some (need.Count least None every)
+count_need least (Some most) every = if nat_lt most least then None else Some (need.Count least (Some most) every)
 
 unfoldable pub count_of : (least most every : Option ℤ) → Option Need
 count_of least most every = do
   l ← may (within 0) least
   m ← may (within 0) most
   e ← may (within 1) every
-  bounded (unwrap_or l 0) m e
+  count_need (unwrap_or l 0) m e
 
 -- what a rule asks for, if its numbers are in range
 unfoldable pub need_of : NeedDraft → Option Need

@@ -22,15 +22,15 @@ abbrev pub limited : List Rule → Outcome (List Rule)
 limited rules = if nat_le (length rules) most_rules then Ok rules else Err over_limit
 
 -- All patterns are judged first, then all numbers, and then how many rules there are.
-unfoldable pub judged : List RuleText → Outcome (List Rule)
-judged ts = if list_all has_patterns ts then (or_refuse bad_number (each rule_of ts) >>= limited) else Err bad_pattern
+unfoldable pub rules_of_drafts : List RuleText → Outcome (List Rule)
+rules_of_drafts ts = if list_all has_patterns ts then (or_refuse bad_number (each rule_of ts) >>= limited) else Err bad_pattern
 
 -- the document that bytes are
 unfoldable pub document : Text → Option Members
 document bytes = if is_utf8 bytes then parse_document bytes else None
 
 abbrev pub of_document : Members → Outcome (List Rule)
-of_document keys = or_refuse bad_shape (texts_of keys) >>= judged
+of_document keys = or_refuse bad_shape (texts_of keys) >>= rules_of_drafts
 
 -- The rules that bytes of TOML give, or the number of the refusal.
 unfoldable pub rules_of : Text → Outcome (List Rule)

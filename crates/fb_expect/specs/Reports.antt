@@ -22,22 +22,22 @@ joined [] = []
 joined (t ∷ ts) = t ++ joined ts
 
 -- a byte as it is shown: a control character as a question mark
-abbrev pub shown : ℕ → ℕ
-shown b = if nat_le 32 b && not (b == 127) then b else 63
+abbrev pub printable : ℕ → ℕ
+printable b = if nat_le 32 b && not (b == 127) then b else 63
 
 -- a byte, with a backslash before a backslash and before a mark
-abbrev pub escaped_byte : (mark : ℕ) → ℕ → Text
-escaped_byte mark b = if b == 92 || b == mark then 92 ∷ shown b ∷ [] else shown b ∷ []
+abbrev pub escape_byte : (mark : ℕ) → ℕ → Text
+escape_byte mark b = if b == 92 || b == mark then 92 ∷ printable b ∷ [] else printable b ∷ []
 
-abbrev pub escaped : (mark : ℕ) → Text → Text
-escaped mark [] = []
-escaped mark (b ∷ z) = escaped_byte mark b ++ escaped mark z
+abbrev pub escape : (mark : ℕ) → Text → Text
+escape mark [] = []
+escape mark (b ∷ z) = escape_byte mark b ++ escape mark z
 
 -- ---- Blocks
 
 -- a line of a block: its key, and a text in quotes or a number
-unfoldable pub quoted : (key value : Text) → Text
-quoted key value = joined (codes "  " ∷ key ∷ codes ": \"" ∷ escaped 34 value ∷ codes "\"\n" ∷ [])
+unfoldable pub quoted_line : (key value : Text) → Text
+quoted_line key value = joined (codes "  " ∷ key ∷ codes ": \"" ∷ escape 34 value ∷ codes "\"\n" ∷ [])
 
 unfoldable pub numbered : (key : Text) → ℕ → Text
 numbered key n = joined (codes "  " ∷ key ∷ codes ": " ∷ decimal n ∷ codes "\n" ∷ [])
@@ -54,13 +54,13 @@ message_of More = codes "too many with this"
 -- what broke a rule, in which trace, and at which line and tick
 unfoldable pub breach_block : (trace : Text) → Breach → Text
 breach_block trace b =
-    joined (codes "  ---\n" ∷ quoted (codes "message") (message_of b.fault) ∷ quoted (codes "trace") trace ∷ numbered (codes "line") b.line
+    joined (codes "  ---\n" ∷ quoted_line (codes "message") (message_of b.fault) ∷ quoted_line (codes "trace") trace ∷ numbered (codes "line") b.line
     ∷ numbered (codes "tick") b.tick ∷ codes "  ...\n" ∷ [])
 
 -- a rule that has to be decided, and is not
 unfoldable pub undecided_block : (trace : Text) → Text
 undecided_block trace =
-    joined (codes "  ---\n" ∷ quoted (codes "message") (codes "undecided: the trace ends before that") ∷ quoted (codes "trace") trace ∷ codes "  ...\n" ∷ [])
+    joined (codes "  ---\n" ∷ quoted_line (codes "message") (codes "undecided: the trace ends before that") ∷ quoted_line (codes "trace") trace ∷ codes "  ...\n" ∷ [])
 
 -- ---- Points
 
@@ -75,7 +75,7 @@ are_well strict js = list_all (λ j. is_well strict j.verdict) js
 
 -- the name of the trace, where points have it
 unfoldable pub trace_mark : Of → Text
-trace_mark of = if of.is_named then joined (codes " (" ∷ escaped 35 of.trace.now ∷ codes ")" ∷ []) else []
+trace_mark of = if of.is_named then joined (codes " (" ∷ escape 35 of.trace.now ∷ codes ")" ∷ []) else []
 
 -- what a point begins with
 abbrev pub first_word : (well : Bool) → Text
@@ -84,7 +84,7 @@ first_word well = if well then codes "ok " else codes "not ok "
 -- whether it is well, the number, the rule and the trace
 unfoldable pub head : (well : Bool) → (number : ℕ) → Rule → Of → Text
 head well number r of =
-    joined (first_word well ∷ decimal number ∷ codes " - " ∷ escaped 35 r.name ∷ trace_mark of ∷ [])
+    joined (first_word well ∷ decimal number ∷ codes " - " ∷ escape 35 r.name ∷ trace_mark of ∷ [])
 
 -- the end of the line, and the block after it
 abbrev pub tail : (strict : Bool) → (trace : Text) → Verdict → Text

@@ -41,8 +41,8 @@ fn kind_of(line: &[u8]) -> LineKind<'_>
 }
 
 /// The word, unless two parts are the same.
-fn unless(same: bool, word: &'static [u8]) -> &'static [u8]
-    ensures { result.now ≡ spec.unless same word.entry.now }
+fn word_unless(same: bool, word: &'static [u8]) -> &'static [u8]
+    ensures { result.now ≡ spec.word_unless same word.entry.now }
 {
     if same { b"" } else { word }
 }
@@ -56,10 +56,10 @@ fn parts(alloc: Global, left: &Entry<'_>, right: &Entry<'_>) -> Result<Vec<u8>, 
     join(
         alloc,
         &[
-            unless(left.tick == right.tick, b", tick"),
-            unless(left.resource == right.resource, b", resource"),
-            unless(is_same_port, b", port"),
-            unless(left.values == right.values, b", value"),
+            word_unless(left.tick == right.tick, b", tick"),
+            word_unless(left.resource == right.resource, b", resource"),
+            word_unless(is_same_port, b", port"),
+            word_unless(left.values == right.values, b", value"),
         ],
     )
 }
@@ -82,8 +82,12 @@ fn last_part(left: u64, right: u64) -> &'static [u8]
 }
 
 /// What differs in two lines.
-fn what(alloc: Global, left: &LineKind<'_>, right: &LineKind<'_>) -> Result<Vec<u8>, AllocError>
-    ensures { IfOk result (λ t. t.items ≡ spec.what left.now right.now) }
+fn difference_of(
+    alloc: Global,
+    left: &LineKind<'_>,
+    right: &LineKind<'_>,
+) -> Result<Vec<u8>, AllocError>
+    ensures { IfOk result (λ t. t.items ≡ spec.difference_of left.now right.now) }
 {
     match (left, right) {
         (LineKind::Event(left), LineKind::Event(right)) => {
@@ -155,7 +159,7 @@ fn text_of(
     ensures { IfOk result (λ t. t.items ≡ spec.difference_text first.now second.now difference.now left.now right.now) }
 {
     let digits = digits_of(alloc, u128::from(difference.number))?;
-    let what = what(alloc, left, right)?;
+    let what = difference_of(alloc, left, right)?;
     let first = shown_line(alloc, first, difference.left.as_slice(), left)?;
     let second = shown_line(alloc, second, difference.right.as_slice(), right)?;
     join(

@@ -66,8 +66,8 @@ pub(crate) fn may_within(least: u64, number: Option<i64>) -> Option<Option<u64>>
 }
 
 /// What a rule that counts asks for, where the least is not over the most.
-fn bounded(least: u64, most: Option<u64>, every: Option<u64>) -> Option<Need>
-    ensures { result ≡ needs.bounded least most every }
+fn count_need(least: u64, most: Option<u64>, every: Option<u64>) -> Option<Need>
+    ensures { result ≡ needs.count_need least most every }
 {
     if let Some(most) = most {
         if most < least {
@@ -85,7 +85,7 @@ fn count_of(least: Option<i64>, most: Option<i64>, every: Option<i64>) -> Option
     let least = may_within(0, least)?.unwrap_or(0);
     let most = may_within(0, most)?;
     let every = may_within(1, every)?;
-    bounded(least, most, every)
+    count_need(least, most, every)
 }
 
 /// What a rule asks for, where its numbers are in range.
@@ -209,9 +209,9 @@ fn each_rule(alloc: Global, drafts: &[Draft<'_>]) -> Result<Option<Items<Rule>>,
 }
 
 /// The rules of drafts. All patterns are judged before any number is.
-#[tactic(auto, unfolding(crate::specs::Reading::judged))]
-fn judged(alloc: Global, drafts: &[Draft<'_>]) -> Result<Items<Rule>, RulesError>
-    ensures { Answers (λ rs. rs) (spec.judged (map text_of drafts.now)) result }
+#[tactic(auto, unfolding(crate::specs::Reading::rules_of_drafts))]
+fn rules_of_drafts(alloc: Global, drafts: &[Draft<'_>]) -> Result<Items<Rule>, RulesError>
+    ensures { Answers (λ rs. rs) (spec.rules_of_drafts (map text_of drafts.now)) result }
 {
     if !all_have_patterns(alloc, drafts)? {
         return Err(RulesError::Pattern);
@@ -230,7 +230,7 @@ fn of_document(alloc: Global, keys: &Table) -> Result<Items<Rule>, RulesError>
     ensures { Answers (λ rs. rs) (spec.of_document (table_view keys.now)) result }
 {
     match drafts_of(alloc, keys)? {
-        Some(drafts) => judged(alloc, drafts.as_slice()),
+        Some(drafts) => rules_of_drafts(alloc, drafts.as_slice()),
         None => Err(RulesError::Shape),
     }
 }

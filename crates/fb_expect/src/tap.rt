@@ -29,8 +29,8 @@ pub(crate) fn digits_of(alloc: Global, number: u128) -> Result<String, AllocErro
 }
 
 /// A byte as it is shown: a control character as a question mark.
-fn shown(byte: u8) -> u8
-    ensures { result ≡ spec.shown byte }
+fn printable(byte: u8) -> u8
+    ensures { result ≡ spec.printable byte }
 {
     if 32 <= byte && byte != 127 {
         byte
@@ -41,18 +41,18 @@ fn shown(byte: u8) -> u8
 
 /// Puts a byte after a text, with a backslash before a backslash and before a mark.
 fn put_escaped(text: &mut Vec<u8>, byte: u8, mark: u8) -> Result<(), AllocError>
-    ensures { OnOk result (text.new.items ≡ text.old.items ++ spec.escaped_byte mark byte) }
+    ensures { OnOk result (text.new.items ≡ text.old.items ++ spec.escape_byte mark byte) }
 {
     if byte == b'\\' || byte == mark {
         text.push(b'\\')?;
     }
-    text.push(shown(byte))?;
+    text.push(printable(byte))?;
     Ok(())
 }
 
 /// A text with a backslash before each backslash and each mark, and a question mark for each control character.
-fn escaped(alloc: Global, part: &[u8], mark: u8) -> Result<Vec<u8>, AllocError>
-    ensures { IfOk result (λ t. t.items ≡ spec.escaped mark part.now) }
+fn escape(alloc: Global, part: &[u8], mark: u8) -> Result<Vec<u8>, AllocError>
+    ensures { IfOk result (λ t. t.items ≡ spec.escape mark part.now) }
 {
     let mut text = Vec::with_capacity(alloc, part.len())?;
     for byte in part {
@@ -62,11 +62,11 @@ fn escaped(alloc: Global, part: &[u8], mark: u8) -> Result<Vec<u8>, AllocError>
 }
 
 /// A line of a block: its key, and a text in quotes.
-#[tactic(auto, unfolding(crate::specs::Reports::quoted))]
-fn quoted(alloc: Global, key: &[u8], value: &[u8]) -> Result<Vec<u8>, AllocError>
-    ensures { IfOk result (λ t. t.items ≡ spec.quoted key.now value.now) }
+#[tactic(auto, unfolding(crate::specs::Reports::quoted_line))]
+fn quoted_line(alloc: Global, key: &[u8], value: &[u8]) -> Result<Vec<u8>, AllocError>
+    ensures { IfOk result (λ t. t.items ≡ spec.quoted_line key.now value.now) }
 {
-    let value = escaped(alloc, value, b'"')?;
+    let value = escape(alloc, value, b'"')?;
     join(alloc, &[b"  ", key, b": \"", value.as_slice(), b"\"\n"])
 }
 
@@ -110,7 +110,7 @@ fn trace_mark(alloc: Global, of: Of<'_>) -> Result<Vec<u8>, AllocError>
     if !of.is_named {
         return Ok(Vec::new(alloc));
     }
-    let trace = escaped(alloc, of.trace.as_bytes(), b'#')?;
+    let trace = escape(alloc, of.trace.as_bytes(), b'#')?;
     join(alloc, &[b" (", trace.as_slice(), b")"])
 }
 
@@ -133,7 +133,7 @@ fn head(
     ensures { IfOk result (λ t. t.items ≡ spec.head is_well number rule.now of.entry) }
 {
     let digits = digits_of(alloc, number)?;
-    let name = escaped(alloc, rule.name.as_slice(), b'#')?;
+    let name = escape(alloc, rule.name.as_slice(), b'#')?;
     let mark = trace_mark(alloc, of)?;
     join(
         alloc,
@@ -152,8 +152,8 @@ fn head(
 fn breach_block(alloc: Global, trace: &str, breach: Breach) -> Result<Vec<u8>, AllocError>
     ensures { IfOk result (λ t. t.items ≡ spec.breach_block trace.now breach) }
 {
-    let message = quoted(alloc, b"message", message_of(breach.fault))?;
-    let trace = quoted(alloc, b"trace", trace.as_bytes())?;
+    let message = quoted_line(alloc, b"message", message_of(breach.fault))?;
+    let trace = quoted_line(alloc, b"trace", trace.as_bytes())?;
     let line = numbered(alloc, b"line", breach.line)?;
     let tick = numbered(alloc, b"tick", breach.tick)?;
     join(
@@ -174,8 +174,8 @@ fn breach_block(alloc: Global, trace: &str, breach: Breach) -> Result<Vec<u8>, A
 fn undecided_block(alloc: Global, trace: &str) -> Result<Vec<u8>, AllocError>
     ensures { IfOk result (λ t. t.items ≡ spec.undecided_block trace.now) }
 {
-    let message = quoted(alloc, b"message", b"undecided: the trace ends before that")?;
-    let trace = quoted(alloc, b"trace", trace.as_bytes())?;
+    let message = quoted_line(alloc, b"message", b"undecided: the trace ends before that")?;
+    let trace = quoted_line(alloc, b"trace", trace.as_bytes())?;
     join(
         alloc,
         &[b"  ---\n", message.as_slice(), trace.as_slice(), b"  ...\n"],

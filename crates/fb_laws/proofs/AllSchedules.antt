@@ -108,4 +108,4 @@ module _ (sys : System) (sound : IsSound sys) (stimuli : List Stimulus) (horizon
       }
 
   pub phases_law : HasPhases sys stimuli horizon limit c runs
-  phases_law turns fs may phase = order_free M horizon law w c runs (inv_after M law w horizon es opens sc) turns fs may phase
+  phases_law loans fs may phase = order_free M horizon law w c runs (inv_after M law w horizon es opens sc) loans fs may phase

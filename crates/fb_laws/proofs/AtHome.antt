@@ -13,7 +13,7 @@ use Rattle.fb_laws.proofs.Chains.{agree_waiting}
 use Rattle.fb_laws.proofs.Families.{start}
 use Rattle.fb_laws.proofs.Late.{Late, takes_fair, takes_late, late_after, end_late}
 use Rattle.fb_laws.proofs.Stops.{HasStop}
-use Rattle.fb_laws.specs.Phases.{Turn, MayTurn, turned}
+use Rattle.fb_laws.specs.Phases.{Loan, IsLegalLoan, after_loan}
 use Rattle.fb_laws.proofs.Steps.{Stopped, run_ends}
 use Rattle.fb_laws.proofs.Keeps.{done_of, limit_of, passed, limit, mail, seat_floor, Inv, Moved, moved, floor_live}
 
@@ -140,16 +140,16 @@ module _ (M : Machine) where
             let g = arrives_at_clock (M.sender k) k x (home k.resource) h in
             omega arith)
 
-    -- ---- Turns
+    -- ---- Loans
 
-    -- What a turn to a bound does to the clock, where no event comes before m.
-    pub record HasTurned (m bound : ℕ) (s : Member M) : Type 0 where
+    -- What a loan to a bound does to the clock, where no event comes before m.
+    pub record HasReturned (m bound : ℕ) (s : Member M) : Type 0 where
       pub home : s.out ≡ None
       pub live : s.state.stop ≡ None → s.clock ≡ bound
       pub stopped : (reason : M.Reason) → s.state.stop ≡ Some reason → (m ≤ s.clock) × (s.clock < bound)
 
-    pub has_turned : (m r : ℕ) (t : Turn M) → IsFloor M c m → MayTurn M horizon c r t → HasTurned m t.bound (turned M (c r) (Some t))
-    has_turned m r t floor may = record {
+    pub has_returned : (m r : ℕ) (t : Loan M) → IsFloor M c m → IsLegalLoan M horizon c r t → HasReturned m t.bound (after_loan M (c r) (Some t))
+    has_returned m r t floor may = record {
       home = refl;
       live = λ n. ⊎_elim (λ h. h.1) (λ h. absurd (none_some _ _ n h.stop)) ends;
       stopped = λ q e.
@@ -163,7 +163,7 @@ module _ (M : Machine) where
         out = record (c r) { out = Some (t.worker, t.bound) }
 
         s : Member M
-        s = turned M (c r) (Some t)
+        s = after_loan M (c r) (Some t)
 
         ends : ((end M (c r).state t.run).stop ≡ None × (clock_after M t.bound t.run ≡ t.bound)) ⊎ Stopped M (c r).state t.run
         ends = run_ends M law r t.bound t.run (c r).state may.run.chain may.lend.live

@@ -90,7 +90,7 @@ module _ (test : Values → Result Bool Reason) (turn : Running) (d : Strict tur
   went_stopped : (r : Reason) → Went ≡ Stopped r → ⊥
   went_stopped r h = cc
 
-  -- after a turn, if what follows a turn that went on has a run
+  -- after an iteration, if what follows an iteration that went on has a run
   turned : (p : Point) → test p.vars ≡ Ok true → (g : End) (m : Point) → turn p g m → Spent p.left g m → ((m : Point) → m.left < p.left → TotalAt (Loop test turn) m) → TotalAt (Loop test turn) p
   turned p t Went m x s rec =
       ⊎_elim

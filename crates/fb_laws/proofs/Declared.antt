@@ -18,7 +18,7 @@ use Rattle.fb_types.proofs.NameLaws.{same_from_same_name, named-Contains}
 
 -- ---- Elements of lists and of options
 
--- .. and it has the name
+-- an element that is found by a name has the name
 pub named-name : {A : Type 0} (f : A → Name) (n : Name) (xs : List A) (x : A) → named f n xs ≡ Some x → f x ≡ n
 named-name f n [] x h = absurd cc
 named-name {A} f n (y ∷ ys) x h =

@@ -115,7 +115,7 @@ module _ (lib : Library) (plan : Plan) (known : NameUnknown lib plan → ⊥) (r
       (true_from_ne_false (among names x.name) (λ no.
       known (inl ((x.name, names), parameter-required n cn i ci k is x c, λ there. both_ways (among names x.name) no (any_from_contains x.name names there)))))
 
-  -- .. to a value of its type
+  -- a parameter has a value of the type of its input
   parameter-fits : (n : OwnedNetwork) → Contains (networks lib) n → (i : Instance) → Contains n.1.instances i → (k : Kind) → kind_of_instance lib i ≡ Some k
       → (x : Parameter) → Contains i.parameters x → (y : Variable) → variable_named x.name (variables_in k) ≡ Some y → fits y.ty x.value ≡ true
   parameter-fits n cn i ci k is x c y h =

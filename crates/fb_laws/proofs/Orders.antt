@@ -9,7 +9,7 @@ use Rattle.fb_laws.specs.Facts.{IsLawful}
 use Rattle.fb_laws.specs.Worlds.{World}
 use Rattle.fb_laws.proofs.Global.{with_at_same, with_at_other}
 use Rattle.fb_laws.proofs.Lines.{filter_in, filter_out}
-use Rattle.fb_laws.specs.Phases.{Turn, is_step_of, steps_of, turn_steps, IsPhase, MayTurn, turned, IsOrderFree}
+use Rattle.fb_laws.specs.Phases.{Loan, is_step_of, steps_of, loan_steps, IsPhase, IsLegalLoan, after_loan, IsOrderFree}
 use Rattle.fb_laws.proofs.Keeps.{Inv, inv_step}
 use Rattle.fb_laws.proofs.Phase.{legal_lend, legal_give}
 
@@ -126,19 +126,19 @@ module _ (M : Machine) (horizon : ℕ) where
         }
     ordered (Exchange ∷ es) d runs v waits = absurd (waits 0)
 
-    turns_wait : (d : Core M) (r : ℕ) (o : Option (Turn M)) → ((t : Turn M) → o ≡ Some t → MayTurn M horizon d r t) → Waits d r (turn_steps M r o)
-    turns_wait d r None may = tt
-    turns_wait d r (Some t) may = let x = may t refl in (refl, x.lend, (t.run, refl, x.run))
+    loans_wait : (d : Core M) (r : ℕ) (o : Option (Loan M)) → ((t : Loan M) → o ≡ Some t → IsLegalLoan M horizon d r t) → Waits d r (loan_steps M r o)
+    loans_wait d r None may = tt
+    loans_wait d r (Some t) may = let x = may t refl in (refl, x.lend, (t.run, refl, x.run))
 
-    turned_is : (s : Member M) (r : ℕ) (o : Option (Turn M)) → after_steps s (turn_steps M r o) ≡ turned M s o
-    turned_is s r None = refl
-    turned_is s r (Some t) = refl
+    after_loan_is : (s : Member M) (r : ℕ) (o : Option (Loan M)) → after_steps s (loan_steps M r o) ≡ after_loan M s o
+    after_loan_is s r None = refl
+    after_loan_is s r (Some t) = refl
 
-    pub order_free : (d : Core M) (runs : ℕ → List (Item M)) → Inv M horizon w d runs → (turns : ℕ → Option (Turn M)) (es : List (CoreStep M))
-        → ((r : ℕ) (t : Turn M) → turns r ≡ Some t → MayTurn M horizon d r t) → IsPhase M turns es → IsOrderFree M horizon d turns es
-    order_free d runs v turns es may phase =
-        let y = ordered es d runs v (λ r. subst (λ (ss : List (CoreStep M)). Waits d r ss) (sym (phase r)) (turns_wait d r (turns r) (may r))) in
+    pub order_free : (d : Core M) (runs : ℕ → List (Item M)) → Inv M horizon w d runs → (loans : ℕ → Option (Loan M)) (es : List (CoreStep M))
+        → ((r : ℕ) (t : Loan M) → loans r ≡ Some t → IsLegalLoan M horizon d r t) → IsPhase M loans es → IsOrderFree M horizon d loans es
+    order_free d runs v loans es may phase =
+        let y = ordered es d runs v (λ r. subst (λ (ss : List (CoreStep M)). Waits d r ss) (sym (phase r)) (loans_wait d r (loans r) (may r))) in
         record {
           schedule = y.schedule;
-          comes_to = λ r. y.comes_to r ∙ ap (λ z. after_steps (d r) z) (phase r) ∙ turned_is (d r) r (turns r);
+          comes_to = λ r. y.comes_to r ∙ ap (λ z. after_steps (d r) z) (phase r) ∙ after_loan_is (d r) r (loans r);
         }

@@ -7,7 +7,7 @@ use Rattle.fb_types.specs.Schedules.{IsSchedule, core_after}
 use Rattle.fb_laws.specs.Facts.{IsLawful}
 use Rattle.fb_laws.specs.Worlds.{World}
 use Rattle.fb_laws.proofs.Lines.{filter_joined, filter_in, filter_out}
-use Rattle.fb_laws.specs.Phases.{Turn, is_step_of, steps_of, turn_steps, IsPhase, MayTurn, turned, IsOrderFree}
+use Rattle.fb_laws.specs.Phases.{Loan, is_step_of, steps_of, loan_steps, IsPhase, IsLegalLoan, after_loan, IsOrderFree}
 use Rattle.fb_laws.proofs.Keeps.{Inv}
 use Rattle.fb_laws.proofs.Orders.{order_free}
 
@@ -24,19 +24,19 @@ module _ (M : Machine) where
 
   -- ---- There is a phase
 
-  -- the turns of the numbers below this one, one after another
-  abbrev pub phase_of : (ℕ → Option (Turn M)) → (count : ℕ) → List (CoreStep M)
-  phase_of turns zero = []
-  phase_of turns (suc n) = phase_of turns n ++ turn_steps M n (turns n)
+  -- the loans of the numbers below this one, one after another
+  abbrev pub phase_of : (ℕ → Option (Loan M)) → (count : ℕ) → List (CoreStep M)
+  phase_of loans zero = []
+  phase_of loans (suc n) = phase_of loans n ++ loan_steps M n (loans n)
 
-  pub own_steps : (r : ℕ) (o : Option (Turn M)) → steps_of M r (turn_steps M r o) ≡ turn_steps M r o
+  pub own_steps : (r : ℕ) (o : Option (Loan M)) → steps_of M r (loan_steps M r o) ≡ loan_steps M r o
   own_steps r None = refl
   own_steps r (Some t) =
       let e = eq-eqb r r refl in
       filter_in (is_step_of M r) (Lend t.worker r t.bound) (Give t.worker r t.run ∷ []) e
       ∙ ap (λ z. Lend t.worker r t.bound ∷ z) (filter_in (is_step_of M r) (Give t.worker r t.run) [] e)
 
-  pub other_steps : (q r : ℕ) (o : Option (Turn M)) → (q ≡ r → ⊥) → steps_of M r (turn_steps M q o) ≡ []
+  pub other_steps : (q r : ℕ) (o : Option (Loan M)) → (q ≡ r → ⊥) → steps_of M r (loan_steps M q o) ≡ []
   other_steps q r None n = refl
   other_steps q r (Some t) n =
       let e = ne_eqb q r n in
@@ -46,57 +46,57 @@ module _ (M : Machine) where
   append_nil [] = refl
   append_nil (x ∷ xs) = ap (λ z. x ∷ z) (append_nil xs)
 
-  steps_past : (turns : ℕ → Option (Turn M)) (n r : ℕ) → n ≤ r → steps_of M r (phase_of turns n) ≡ []
-  steps_past turns zero r b = refl
-  steps_past turns (suc n) r b =
-      filter_joined (is_step_of M r) (phase_of turns n) (turn_steps M n (turns n))
-      ∙ ap (λ z. z ++ steps_of M r (turn_steps M n (turns n))) (steps_past turns n r (omega arith))
-      ∙ other_steps n r (turns n) (λ e. absurd (omega arith))
+  steps_past : (loans : ℕ → Option (Loan M)) (n r : ℕ) → n ≤ r → steps_of M r (phase_of loans n) ≡ []
+  steps_past loans zero r b = refl
+  steps_past loans (suc n) r b =
+      filter_joined (is_step_of M r) (phase_of loans n) (loan_steps M n (loans n))
+      ∙ ap (λ z. z ++ steps_of M r (loan_steps M n (loans n))) (steps_past loans n r (omega arith))
+      ∙ other_steps n r (loans n) (λ e. absurd (omega arith))
 
-  steps_below : (turns : ℕ → Option (Turn M)) (n r : ℕ) → r < n → steps_of M r (phase_of turns n) ≡ turn_steps M r (turns r)
-  steps_below turns zero r b = absurd (omega arith)
-  steps_below turns (suc n) r b =
-      filter_joined (is_step_of M r) (phase_of turns n) (turn_steps M n (turns n))
+  steps_below : (loans : ℕ → Option (Loan M)) (n r : ℕ) → r < n → steps_of M r (phase_of loans n) ≡ loan_steps M r (loans r)
+  steps_below loans zero r b = absurd (omega arith)
+  steps_below loans (suc n) r b =
+      filter_joined (is_step_of M r) (phase_of loans n) (loan_steps M n (loans n))
       ∙ ⊎_elim
-      (λ l. ap (λ z. z ++ steps_of M r (turn_steps M n (turns n))) (steps_below turns n r l)
-      ∙ ap (λ z. turn_steps M r (turns r) ++ z) (other_steps n r (turns n) (λ e. absurd (omega arith))) ∙ append_nil (turn_steps M r (turns r)))
+      (λ l. ap (λ z. z ++ steps_of M r (loan_steps M n (loans n))) (steps_below loans n r l)
+      ∙ ap (λ z. loan_steps M r (loans r) ++ z) (other_steps n r (loans n) (λ e. absurd (omega arith))) ∙ append_nil (loan_steps M r (loans r)))
       (λ l. let e : n ≡ r = omega arith in
-      ap (λ z. z ++ steps_of M r (turn_steps M n (turns n))) (steps_past turns n r l)
-      ∙ subst (λ (z : ℕ). steps_of M z (turn_steps M n (turns n)) ≡ turn_steps M z (turns z)) e (own_steps n (turns n)))
+      ap (λ z. z ++ steps_of M r (loan_steps M n (loans n))) (steps_past loans n r l)
+      ∙ subst (λ (z : ℕ). steps_of M z (loan_steps M n (loans n)) ≡ loan_steps M z (loans z)) e (own_steps n (loans n)))
       (cases_lt r n)
 
-  -- The turns one after another are a phase, if there are none past these numbers.
-  pub is_phase : (turns : ℕ → Option (Turn M)) (count : ℕ) → ((r : ℕ) → count ≤ r → turns r ≡ None) → IsPhase M turns (phase_of turns count)
-  is_phase turns count none r =
+  -- The loans one after another are a phase, if there are none past these numbers.
+  pub is_phase : (loans : ℕ → Option (Loan M)) (count : ℕ) → ((r : ℕ) → count ≤ r → loans r ≡ None) → IsPhase M loans (phase_of loans count)
+  is_phase loans count none r =
       ⊎_elim
-      (λ b. steps_below turns count r b)
-      (λ b. steps_past turns count r b ∙ sym (ap (λ z. turn_steps M r z) (none r b)))
+      (λ b. steps_below loans count r b)
+      (λ b. steps_past loans count r b ∙ sym (ap (λ z. loan_steps M r z) (none r b)))
       (cases_lt r count)
 
   -- ---- The core after it
 
-  turned_home : (s : Member M) (o : Option (Turn M)) → s.out ≡ None → (turned M s o).out ≡ None
-  turned_home s None e = e
-  turned_home s (Some t) e = refl
+  home_after_loan : (s : Member M) (o : Option (Loan M)) → s.out ≡ None → (after_loan M s o).out ≡ None
+  home_after_loan s None e = e
+  home_after_loan s (Some t) e = refl
 
-  -- each resource after its turn
-  abbrev pub all_turned : Core M → (ℕ → Option (Turn M)) → Core M
-  all_turned c turns = λ r. turned M (c r) (turns r)
+  -- each resource after its loan
+  abbrev pub after_loans : Core M → (ℕ → Option (Loan M)) → Core M
+  after_loans c loans = λ r. after_loan M (c r) (loans r)
 
   -- After the steps `es` come those of the phase, and then the exchange.
-  pub record IsRound (horizon : ℕ) (first : Core M) (es fs : List (CoreStep M)) (turns : ℕ → Option (Turn M)) : Type 0 where
-    -- the resources back from their turns
+  pub record IsRound (horizon : ℕ) (first : Core M) (es fs : List (CoreStep M)) (loans : ℕ → Option (Loan M)) : Type 0 where
+    -- the resources back from their loans
     pub back : IsSchedule M horizon first (es ++ fs)
-    pub back_is : core_after M first (es ++ fs) ≡ all_turned (core_after M first es) turns
-    pub home : (r : ℕ) → (all_turned (core_after M first es) turns r).out ≡ None
+    pub back_is : core_after M first (es ++ fs) ≡ after_loans (core_after M first es) loans
+    pub home : (r : ℕ) → (after_loans (core_after M first es) loans r).out ≡ None
     -- and their messages exchanged
     pub schedule : IsSchedule M horizon first (es ++ fs ++ Exchange ∷ [])
-    pub comes_to : core_after M first (es ++ fs ++ Exchange ∷ []) ≡ exchanged M (all_turned (core_after M first es) turns)
+    pub comes_to : core_after M first (es ++ fs ++ Exchange ∷ []) ≡ exchanged M (after_loans (core_after M first es) loans)
 
-  pub is_round : IsLawful M → (horizon : ℕ) (w : World M) (first : Core M) (es fs : List (CoreStep M)) (runs : ℕ → List (Item M)) (turns : ℕ → Option (Turn M))
+  pub is_round : IsLawful M → (horizon : ℕ) (w : World M) (first : Core M) (es fs : List (CoreStep M)) (runs : ℕ → List (Item M)) (loans : ℕ → Option (Loan M))
       → IsSchedule M horizon first es → Inv M horizon w (core_after M first es) runs → ((r : ℕ) → (core_after M first es r).out ≡ None)
-      → ((r : ℕ) (t : Turn M) → turns r ≡ Some t → MayTurn M horizon (core_after M first es) r t) → IsPhase M turns fs → IsRound horizon first es fs turns
-  is_round law horizon w first es fs runs turns sc v home may phase = record {
+      → ((r : ℕ) (t : Loan M) → loans r ≡ Some t → IsLegalLoan M horizon (core_after M first es) r t) → IsPhase M loans fs → IsRound horizon first es fs loans
+  is_round law horizon w first es fs runs loans sc v home may phase = record {
     back = back;
     back_is = back_is;
     home = all_home;
@@ -107,14 +107,14 @@ module _ (M : Machine) where
       c : Core M
       c = core_after M first es
 
-      free : IsOrderFree M horizon (core_after M first es) turns fs
-      free = order_free M horizon law w (core_after M first es) runs v turns fs may phase
+      free : IsOrderFree M horizon (core_after M first es) loans fs
+      free = order_free M horizon law w (core_after M first es) runs v loans fs may phase
 
       back : IsSchedule M horizon first (es ++ fs)
       back = schedule_append horizon es fs first sc free.schedule
 
-      back_is : core_after M first (es ++ fs) ≡ all_turned (core_after M first es) turns
+      back_is : core_after M first (es ++ fs) ≡ after_loans (core_after M first es) loans
       back_is = after_append es fs first ∙ (λ i r. free.comes_to r i)
 
-      all_home : (r : ℕ) → (all_turned (core_after M first es) turns r).out ≡ None
-      all_home r = turned_home (core_after M first es r) (turns r) (home r)
+      all_home : (r : ℕ) → (after_loans (core_after M first es) loans r).out ≡ None
+      all_home r = home_after_loan (core_after M first es r) (loans r) (home r)

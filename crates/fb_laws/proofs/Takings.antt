@@ -47,7 +47,7 @@ module _ (M : Machine) where
           go o a None false p = or_else_none (changed_to o a) ∙ ap (changed_to o) (sym (or_else_none a))
           go o a (Some v) b p = absurd cc
 
-  -- .. separated in the same way
+  -- arrivals are still apart after a taking
   pub parted_after : (l : Local M) (i : Item M) → IsParted l → ChangesOwn i → IsParted (after M l i)
   parted_after l i parted own = record {
     own = λ j h. ap (λ o. changed_to o (without i.key l.own j)) (no_change i own j h) ∙ without_none i.key l.own j (parted.own j h);

@@ -29,7 +29,7 @@ climb_operated : (below : ℕ) (inner : ℕ → Parser Nested) (level : ℕ) (op
 unfolding climb
 climb_operated below inner level operand n left ts = refl
 
--- a turn of the loop at an operator
+-- an iteration of the loop at an operator
 pub joined_more : {x : Outcome Nested} (below : ℕ) (inner : ℕ → Parser Nested) (level : ℕ) (operand : Parser Nested) (left : Nested) (op : BinaryOperator) (ts : Tokens) (n at : ℕ)
     → at < n → x ≡ climb below inner level operand (n - at) left ts → next_operator level ts ≡ Some op
     → x ≡ and_then (joined below operand left op ts) (climb below inner level operand (n - (at + 1)))

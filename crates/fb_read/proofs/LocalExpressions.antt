@@ -118,7 +118,7 @@ module _ (below : ℕ) (inner : ℕ → Parser Nested) (l : (n : ℕ) → Nests 
       (λ x. nests-of (local-comma n (found ++ x.expr ∷ []) (max depth x.nesting) (nests-arguments_from n (found ++ x.expr ∷ []) (max depth x.nesting))))
       (λ x ts rest h. (local-comma n (found ++ x.expr ∷ []) (max depth x.nesting) (nests-arguments_from n (found ++ x.expr ∷ []) (max depth x.nesting))).flat)
 
-  -- the turns after a comma
+  -- the iterations after a comma
   turn-same : (n m : ℕ) (found : List Expr) (depth : ℕ) (x : Nested) (r : Tokens)
       → (sees mark.Comma r ≡ true → arguments_from below inner n (found ++ x.expr ∷ []) (max depth x.nesting) (after mark.Comma r) ≡ arguments_from below inner m (found ++ x.expr ∷ []) (max depth x.nesting) (after mark.Comma r))
       → (c : Bool) → sees mark.Comma r ≡ c
@@ -141,7 +141,7 @@ module _ (below : ℕ) (inner : ℕ → Parser Nested) (l : (n : ℕ) → Nests 
           turn-same n m found depth x r
           (λ s. let following = after-shorter mark.Comma r s in more (found ++ x.expr ∷ []) (max depth x.nesting) (after mark.Comma r) (omega arith) (omega arith)) (sees mark.Comma r) refl)
 
-  -- the first turn, for which there are as many turns as tokens
+  -- the first iteration, for which there are as many as tokens
   arguments-first : (n m : ℕ) (ts : Tokens) → length ts ≤ suc n → length ts ≤ suc m → arguments_from below inner (suc n) [] 0 ts ≡ arguments_from below inner (suc m) [] 0 ts
   unfolding arguments_from
   arguments-first n m ts a b = bind-same (inner loosest ts) _ _ (λ x r e.

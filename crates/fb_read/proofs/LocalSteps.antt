@@ -217,13 +217,13 @@ literal-is (token.Name text ∷ ts) = refl
 pub local-literal : Local literal
 local-literal = local-as literal (stepped denied literal_step) literal-is (local-step denied literal_step)
 
--- ---- turns of a loop
+-- ---- iterations of a loop
 
 -- what is read takes a token
 abbrev pub Advances : {A : Type 0} → Parser A → Type 0
 Advances {A = A} p = (ts rest : Tokens) (x : A) → p ts ≡ Ok (x, rest) → length rest < length ts
 
--- a rule by a number of turns, which does not matter once there are as many as tokens
+-- a rule by a number of iterations, which does not matter once there are as many as tokens
 pub local-turns : {A : Type 0} (p : ℕ → Parser A) → ((n : ℕ) → Local (p n)) → ((n m : ℕ) (ts : Tokens) → length ts ≤ n → length ts ≤ m → p n ts ≡ p m ts)
     → Local (λ ts. p (length ts) ts)
 local-turns {A = A} p l fuel = record {

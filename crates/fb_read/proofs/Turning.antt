@@ -1,4 +1,4 @@
--- One turn of a loop that reads items, and adds what was read to what was found.
+-- One iteration of a loop that reads items, and adds what was read to what was found.
 use Rattle.std.proofs.Common.{◌≡◌, ℕ, suc, Bool, true, false, List, Result, Ok, refl, subst}
 use Rattle.fb_read.specs.declared.token.Mark.{Mark}
 use Rattle.fb_read.specs.declared.fault.ParseFault.{ParseFault}

@@ -39,7 +39,7 @@ module _ (below : ℕ) (inner : ℕ → Parser Nested) where
     x ← inner 0
     around below x.nesting (e.Unary op x.expr)
 
-  -- by the number of turns that are left, the arguments so far and their nesting
+  -- by the number of iterations that are left, the arguments so far and their nesting
   unfoldable pub arguments_from : ℕ → List Expr → ℕ → Parser (List Expr × ℕ)
   arguments_from zero found depth = refuse
   arguments_from (suc n) found depth = do
@@ -91,7 +91,7 @@ module _ (below : ℕ) (inner : ℕ → Parser Nested) where
     longer ← around below (max left.nesting right.nesting) (e.Binary op left.expr right.expr)
     go longer) (rest_of ts) else Err too_deep
 
-  -- goes on with operators of this level; by the number of turns that are left
+  -- goes on with operators of this level; by the number of iterations that are left
   unfoldable pub climb : ℕ → Parser Nested → ℕ → Nested → Parser Nested
   climb level operand zero left = pure left
   climb level operand (suc n) left = λ ts. operated (climb level operand n) operand left (next_operator level ts) ts

@@ -157,7 +157,7 @@ pair first between second = do
   x ← first
   then_read x between second
 
--- the items up to a mark, and the mark; by the number of turns that are left and the items so far
+-- the items up to a mark, and the mark; by the number of iterations that are left and the items so far
 unfoldable pub many_from : {A : Type 0} → Parser A → Mark → ℕ → List A → Parser (List A)
 many_from item end zero found = refuse
 many_from item end (suc n) found = do

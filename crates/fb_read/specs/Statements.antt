@@ -43,7 +43,7 @@ sees_whole _ = false
 abbrev pub begins_label : Tokens → Bool
 begins_label ts = sees mark.Minus ts || sees_whole ts
 
--- the items while one begins; by the number of turns that are left and the items so far
+-- the items while one begins; by the number of iterations that are left and the items so far
 unfoldable pub several_from : {A : Type 0} → (Tokens → Bool) → Parser A → ℕ → List A → Parser (List A)
 several_from begins item zero found = pure found
 several_from begins item (suc n) found = λ ts. if begins ts then (do

@@ -104,7 +104,7 @@ impl<F: Fn(&mut Cursor<'_>, u32, u8) -> Result<Nested, ParseFault>> ExpressionRu
         )
     }
 
-    /// The arguments of a call, and how deep the deepest nests. Each turn takes a token.
+    /// The arguments of a call, and how deep the deepest nests. Each iteration takes a token.
     fn arguments(&self, cursor: &mut Cursor<'_>) -> Result<(Items<Expr>, u32), ParseFault>
         requires { Nests self.now.below (F.pre self.now.inner) (F.post self.now.inner) }
         ensures { Reads (spec.arguments self.now.below (spec.nested_expression self.now.below) cursor.old) result cursor.new }
@@ -216,7 +216,7 @@ impl<F: Fn(&mut Cursor<'_>, u32, u8) -> Result<Nested, ParseFault>> ExpressionRu
         around(self.below, depth, Expr::Binary(operator, x, y), cursor)
     }
 
-    /// An expression of this level: operands of the level below, with its operators between them. Each turn takes a
+    /// An expression of this level: operands of the level below, with its operators between them. Each iteration takes a
     /// token.
     fn level(&self, cursor: &mut Cursor<'_>, level: u8) -> Result<Nested, ParseFault>
         requires { Nests self.now.below (F.pre self.now.inner) (F.post self.now.inner) }

@@ -155,7 +155,7 @@ fn refused_len(alloc: Global, tokens: &[Located], left: usize) -> Result<usize, 
 }
 
 /// How many of these tokens there are up to the first that nests too deep, where a rule that refuses them leaves this
-/// number. It is searched from where it probably is, so that the first turn ends the search.
+/// number. It is searched from where it probably is, so that the first iteration ends the search.
 fn deep_len(alloc: Global, tokens: &[Located], left: usize) -> Result<usize, AllocError>
     requires few { length tokens.now ≤ most_bytes }
     requires deep { IsTooDeep tokens.now }

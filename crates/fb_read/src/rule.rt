@@ -68,8 +68,8 @@ pub fn finished<T: Drop>(cursor: &mut Cursor<'_>, end: Mark, found: T) -> Result
     ended(cursor, Mark::Semicolon, found)
 }
 
-/// Appends what the rule reads up to a mark, including that mark. Each turn takes a token, so the number of tokens is
-/// enough turns.
+/// Appends what the rule reads up to a mark, including that mark. Each iteration takes a token, so the number of tokens
+/// is enough iterations.
 pub fn many_after<T: Rule>(
     cursor: &mut Cursor<'_>,
     end: Mark,
@@ -130,7 +130,7 @@ pub fn run_after<T: Rule>(
     Ok(found)
 }
 
-/// What the rule reads, once or more, separated by commas. Each turn takes a token.
+/// What the rule reads, once or more, separated by commas. Each iteration takes a token.
 pub fn separated<T: Rule>(cursor: &mut Cursor<'_>) -> Result<Items<T>, ParseFault>
     ensures { Reads (spec.separated T.parser cursor.old) result cursor.new }
 {

@@ -90,7 +90,7 @@ impl<F: Fn(&mut Cursor<'_>, u32) -> Result<Stmt, ParseFault>> StatementRules<F> 
         (self.inner)(cursor, self.below)
     }
 
-    /// The statements up to the first token that begins none. Each turn takes a token.
+    /// The statements up to the first token that begins none. Each iteration takes a token.
     fn block(&self, cursor: &mut Cursor<'_>) -> Result<Items<Stmt>, ParseFault>
         requires { StatementNests self.now.below (F.pre self.now.inner) (F.post self.now.inner) }
         ensures { Reads (spec.block (spec.nested_statement self.now.below) cursor.old) result cursor.new }
@@ -117,7 +117,7 @@ impl<F: Fn(&mut Cursor<'_>, u32) -> Result<Stmt, ParseFault>> StatementRules<F> 
         Ok(Choice { condition, body })
     }
 
-    /// What follows IF, including each ELSIF. Each turn takes a token.
+    /// What follows IF, including each ELSIF. Each iteration takes a token.
     fn choices(&self, cursor: &mut Cursor<'_>) -> Result<Items<Choice>, ParseFault>
         requires { StatementNests self.now.below (F.pre self.now.inner) (F.post self.now.inner) }
         ensures { Reads (spec.choices (spec.nested_statement self.now.below) cursor.old) result cursor.new }
@@ -144,7 +144,7 @@ impl<F: Fn(&mut Cursor<'_>, u32) -> Result<Stmt, ParseFault>> StatementRules<F> 
         Ok(Branch { labels, body })
     }
 
-    /// The branches of a CASE. Each turn takes a token.
+    /// The branches of a CASE. Each iteration takes a token.
     fn branches(&self, cursor: &mut Cursor<'_>) -> Result<Items<Branch>, ParseFault>
         requires { StatementNests self.now.below (F.pre self.now.inner) (F.post self.now.inner) }
         ensures { Reads (spec.branches (spec.nested_statement self.now.below) cursor.old) result cursor.new }

@@ -68,7 +68,7 @@ no_more-one : (vars : Values) (a : Result Bool Reason) (p : Point) → OneEnd (n
 no_more-one vars a p =
     with-one a _ p (λ more. either-one more (λ _ _ _. ⊥) (λ p e q. Ends p Went e q) p (λ e f q s h i. absurd h) (ends-one Went p))
 
--- if there is another turn, the loop does not end before it
+-- if there is another iteration, the loop does not end before it
 more-goes-on : (vars : Values) (a : Result Bool Reason) (p : Point) (e : End) (q : Point) → a ≡ Ok true → no_more vars a p e q → ⊥
 more-goes-on vars a p e q t h = subst (λ b. no_more vars b p e q) t h
 

@@ -15,7 +15,7 @@ use Rattle.fb_types.proofs.ChartLaws.{chart-one}
 abbrev first : Values → Values
 first vars = with_value (codes "X") (value.Whole (pos 32766)) vars
 
--- from five steps on: FOR, and twice a turn and the empty statement
+-- from five steps on: FOR, and twice an iteration and the empty statement
 pub five : (vars : Values) (n : ℕ) → RunsBody calc_types counting_loop (point vars (suc (suc (suc (suc (suc n)))))) Went (point (counted vars) n)
 five vars n = (
   Went,

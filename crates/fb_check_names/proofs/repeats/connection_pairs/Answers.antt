@@ -3,7 +3,7 @@ use Rattle.fb_check_names.specs.Pairs.{ends_of, key_ports, same_ends}
 use Rattle.fb_check_names.proofs.ConnectionKeys.{key_cmp, key_cmp-exact}
 use Rattle.fb_check_names.specs.Listed.{each_at}
 use Rattle.fb_check_names.proofs.Listing.{each_done, each_more}
-use Rattle.fb_check_names.proofs.Repeating.{last_more, last_none, pair_in, pairs_are, place_in_table}
+use Rattle.fb_check_names.proofs.Repeating.{last_more, last_none, pair_in, pairs_are, index_in_table}
 use Rattle.fb_check_names.proofs.Same.{key_agrees}
 use Rattle.fb_check_names.proofs.repeats.connection_pairs.Goals as goal
 
@@ -20,7 +20,7 @@ loop-second-preserved c =
       each_more (pair_in same_ends ends_of xs) xs i x c.loop-second.pairs.items c.push_pair.new.pairs.items _ c.loop-second-test.true c.index-connections-second.is
           (c.in_ok-push_pair.ensures
           ∙ ap (λ (ps : List (ℕ × ℕ)). c.loop-second.pairs.items ++ ps)
-          (place_in_table key_cmp key_ports same_ends ends_of xs i x c.loop-second.seen c.names_of.result _ c.names_of.ensures c.loop-second.invariant.0 c.in_ok-first.ensures.old))
+          (index_in_table key_cmp key_ports same_ends ends_of xs i x c.loop-second.seen c.names_of.result _ c.names_of.ensures c.loop-second.invariant.0 c.in_ok-first.ensures.old))
           c.loop-second.invariant.1,
     )
 

@@ -4,7 +4,7 @@ use Rattle.fb_check_names.specs.Pairs.{link_names, same_sides}
 use Rattle.fb_check_names.proofs.Seen.{link_cmp}
 use Rattle.fb_check_names.specs.Listed.{each_at}
 use Rattle.fb_check_names.proofs.Listing.{each_done, each_more}
-use Rattle.fb_check_names.proofs.Repeating.{last_more, last_none, pair_in, pairs_are, place_in_table}
+use Rattle.fb_check_names.proofs.Repeating.{last_more, last_none, pair_in, pairs_are, index_in_table}
 use Rattle.fb_check_names.proofs.Same.{sides_agree}
 use Rattle.fb_check_names.proofs.repeats.link_pairs.Goals as goal
 
@@ -21,7 +21,7 @@ loop-second-preserved c =
       each_more (pair_in same_sides link_ends xs) xs i x c.loop-second.pairs.items c.push_pair.new.pairs.items _ c.loop-second-test.true c.index-links-second.is
           (c.in_ok-push_pair.ensures
           ∙ ap (λ (ps : List (ℕ × ℕ)). c.loop-second.pairs.items ++ ps)
-          (place_in_table link_cmp link_names same_sides link_ends xs i x c.loop-second.seen c.link_names.result _ c.link_names.ensures c.loop-second.invariant.0 c.in_ok-first.ensures.old))
+          (index_in_table link_cmp link_names same_sides link_ends xs i x c.loop-second.seen c.link_names.result _ c.link_names.ensures c.loop-second.invariant.0 c.in_ok-first.ensures.old))
           c.loop-second.invariant.1,
     )
 

@@ -7,6 +7,6 @@ returns-then-leads_back c =
     let o = c.index-blocks-block.result in (
       o,
       at_element c.args.blocks.now c.loop-block.block o c.loop-block-test.true c.index-blocks-block.is,
-      sym c.marked_in.ensures ∙ c.in-Some.is,
+      sym c.first_marked_component.ensures ∙ c.in-Some.is,
       c.leads_back.ensures c.if-leads_back.true,
     )

@@ -7,7 +7,7 @@ use Rattle.fb_check_networks.proofs.heights.mark_again.Goals as goal
 
 pub loop-numbers-preserved : goal.loop-numbers-preserved
 loop-numbers-preserved c =
-    c.in_ok-push.ensures.items ∙ (λ i. c.loop-numbers.invariant i ++ ((c.is_some.ensures ∙ ap is_some c.marked_in.ensures) i ∷ []))
+    c.in_ok-push.ensures.items ∙ (λ i. c.loop-numbers.invariant i ++ ((c.is_some.ensures ∙ ap is_some c.first_marked_component.ensures) i ∷ []))
     ∙ sym (map_take_more (holds_marked c.args.marks.now) c.args.blocks.now c.loop-numbers.numbers-index c.numbers-item.result c.loop-numbers-test.true c.numbers-item.is)
 
 pub returns : goal.returns

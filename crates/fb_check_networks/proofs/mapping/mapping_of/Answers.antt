@@ -20,4 +20,4 @@ returns-clause-found c =
 
 pub returns-clause-mapping : goal.returns-clause-mapping
 returns-clause-mapping c =
-    all_listed c.args.library.now c.args.plan.now c.in_ok-listed.listed c.as_slice.result.now c.as_slice.ensures c.if-plan.false c.in_ok-listed.ensures.places c.in_ok-listed.ensures.owners
+    all_listed c.args.library.now c.args.plan.now c.in_ok-listed.listed c.as_slice.result.now c.as_slice.ensures c.if-plan.false c.in_ok-listed.ensures.indexes c.in_ok-listed.ensures.owners

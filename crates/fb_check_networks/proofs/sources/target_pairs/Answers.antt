@@ -3,7 +3,7 @@ use Rattle.fb_types.specs.Names.{same_port}
 use Rattle.fb_check_names.specs.Ends.{end_port}
 use Rattle.fb_check_names.specs.Listed.{each_at}
 use Rattle.fb_check_names.proofs.Listing.{each_done, each_more}
-use Rattle.fb_check_names.proofs.Repeating.{last_more, last_none, pair_in, pairs_are, place_in_table}
+use Rattle.fb_check_names.proofs.Repeating.{last_more, last_none, pair_in, pairs_are, index_in_table}
 use Rattle.fb_check_networks.specs.Sources.{target}
 use Rattle.fb_check_networks.proofs.Targets.{end_agrees, end_cmp}
 use Rattle.fb_check_networks.proofs.sources.target_pairs.Goals as goal
@@ -24,7 +24,7 @@ loop-second-preserved c =
       each_more (pair_in same_port target xs) xs i x c.loop-second.pairs.items c.push_pair.new.pairs.items _ c.loop-second-test.true c.index-connections-second.is
           (c.in_ok-push_pair.ensures
           ∙ ap (λ (ps : List (ℕ × ℕ)). c.loop-second.pairs.items ++ ps)
-          (place_in_table end_cmp end_port same_port target xs i x c.loop-second.seen c.end_names.result _ c.end_names.ensures c.loop-second.invariant.0 c.in_ok-first.ensures.old))
+          (index_in_table end_cmp end_port same_port target xs i x c.loop-second.seen c.end_names.result _ c.end_names.ensures c.loop-second.invariant.0 c.in_ok-first.ensures.old))
           c.loop-second.invariant.1,
     )
 

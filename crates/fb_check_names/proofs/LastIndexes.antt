@@ -1,4 +1,4 @@
--- Of names that differ, the last place of each is its index.
+-- Of names that differ, the last index of each is its index.
 use Rattle.std.proofs.Common.{◌≡◌, ℕ, ◌+◌, Bool, true, false, nat_eq, cond, List, [], ◌∷◌, length, Option, Some, None, Contains, Bor, refl, sym, ◌∙◌, ap, subst, inl, inr}
 use Rattle.std.specs.Prelude.{position, option_map}
 use Rattle.std.specs.BTreeMap.{BTreeMap}
@@ -12,17 +12,17 @@ use Rattle.fb_types.specs.Repeated.{Twice}
 use Rattle.fb_types.proofs.ByIndex.{element_of_index}
 use Rattle.fb_types.proofs.NameLaws.{same_from_same_name, same_name-Decides}
 use Rattle.fb_types.proofs.Positions.{position-first, position-later}
-use Rattle.fb_check_names.specs.Repeats.{IsPair, further, later, last_place, repeats}
+use Rattle.fb_check_names.specs.Repeats.{IsPair, further, later, last_index, repeats}
 use Rattle.fb_check_names.proofs.Listing.{some_says}
-use Rattle.fb_check_names.proofs.Repeating.{each_pair, once_of, pair_twice, place_of}
-use Rattle.fb_check_names.specs.Indexes.{ArePlaces, IsIndex}
+use Rattle.fb_check_names.proofs.Repeating.{each_pair, once_of, pair_twice, at_last_index}
+use Rattle.fb_check_names.specs.Indexes.{AreLastIndexes, IsIndex}
 
-last_nowhere : (n : Name) (ns : List Name) → ¬ (Contains ns n) → last_place (same_name n) ns ≡ None
+last_nowhere : (n : Name) (ns : List Name) → ¬ (Contains ns n) → last_index (same_name n) ns ≡ None
 last_nowhere n ns absent =
-    elim (last_place (same_name n) ns) as (λ o. last_place (same_name n) ns ≡ o → o ≡ None) [
+    elim (last_index (same_name n) ns) as (λ o. last_index (same_name n) ns ≡ o → o ≡ None) [
       | None ↦ λ e. refl
       | Some k ↦ λ e.
-          let at = place_of (same_name n) ns k e in
+          let at = at_last_index (same_name n) ns k e in
           absurd (absent (subst (λ (m : Name). Contains ns m) (sym (same_from_same_name n at.0 at.2)) (element_of_index ns k at.0 at.1)))
     ] refl
 
@@ -30,10 +30,10 @@ further_only : (o : Option ℕ) → later (further o) None ≡ option_map (λ i.
 further_only None = refl
 further_only (Some k) = refl
 
-last_is_first : (n : Name) (ns : List Name) → ¬ (Twice ns) → last_place (same_name n) ns ≡ position (same_name n) ns
+last_is_first : (n : Name) (ns : List Name) → ¬ (Twice ns) → last_index (same_name n) ns ≡ position (same_name n) ns
 last_is_first n [] once = refl
 last_is_first n (m ∷ ns) once =
-    elim (same_name n m) as (λ b. same_name n m ≡ b → later (further (last_place (same_name n) ns)) (cond b (Some 0) None) ≡ position (same_name n) (m ∷ ns)) [
+    elim (same_name n m) as (λ b. same_name n m ≡ b → later (further (last_index (same_name n) ns)) (cond b (Some 0) None) ≡ position (same_name n) (m ∷ ns)) [
       | true ↦ λ e.
           let absent : ¬ (Contains ns n) = λ c. once (inl (subst (λ (k : Name). Contains ns k) (same_from_same_name n m e) c)) in
           ap (λ (o : Option ℕ). later (further o) (Some 0)) (last_nowhere n ns absent) ∙ sym (position-first (same_name n) m ns e)
@@ -42,8 +42,8 @@ last_is_first n (m ∷ ns) once =
           ∙ sym (position-later (same_name n) m ns e)
     ] refl
 
-pub index_of_places : (ns : List Name) (m : BTreeMap (Bor Name) ℕ) → ArePlaces ns m → ¬ (Twice ns) → IsIndex ns m
-index_of_places ns m are once = record {
+pub index_of_last : (ns : List Name) (m : BTreeMap (Bor Name) ℕ) → AreLastIndexes ns m → ¬ (Twice ns) → IsIndex ns m
+index_of_last ns m are once = record {
   once = once;
   index = λ n. are n ∙ last_is_first n ns once;
 }

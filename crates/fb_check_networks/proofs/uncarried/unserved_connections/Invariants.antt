@@ -1,7 +1,7 @@
 use Rattle.std.proofs.Common.{◌≡◌, ◌++◌, drop}
 use Rattle.fb_check_names.specs.Listed.{each_at, each_from}
 use Rattle.fb_check_networks.specs.Unserved.{unserved_at}
-use Rattle.fb_check_networks.proofs.uncarried.unserved_by.Given as goal
+use Rattle.fb_check_networks.proofs.uncarried.unserved_connections.Given as goal
 
 abbrev pub invariant-loop-connection : goal.invariant-loop-connection
 invariant-loop-connection l =

@@ -1,4 +1,4 @@
-use Rattle.fb_check_networks.proofs.serving.served_by.Goals as goal
+use Rattle.fb_check_networks.proofs.serving.served_variables.Goals as goal
 
 pub serve_all-requires : goal.serve_all-requires
 serve_all-requires c = record {

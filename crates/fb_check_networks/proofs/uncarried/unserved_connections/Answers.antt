@@ -4,7 +4,7 @@ use Rattle.fb_types.specs.declared.library.Connection.{Connection}
 use Rattle.fb_check_names.specs.Listed.{each_at}
 use Rattle.fb_check_names.proofs.Listing.{added_unless, each_done, each_more}
 use Rattle.fb_check_networks.specs.Unserved.{is_served, unserved_at}
-use Rattle.fb_check_networks.proofs.uncarried.unserved_by.Goals as goal
+use Rattle.fb_check_networks.proofs.uncarried.unserved_connections.Goals as goal
 
 pub loop-connection-init : goal.loop-connection-init
 loop-connection-init c =

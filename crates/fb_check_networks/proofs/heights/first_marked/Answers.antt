@@ -3,7 +3,7 @@ use Rattle.std.specs.Prelude.{position}
 use Rattle.fb_check_networks.specs.Heights.{is_marked}
 use Rattle.fb_check_names.proofs.Repeating.{same_within}
 use Rattle.fb_check_networks.proofs.Looking.{at_first, found_first, found_none, not_first}
-use Rattle.fb_check_networks.proofs.heights.marked_among.Goals as goal
+use Rattle.fb_check_networks.proofs.heights.first_marked.Goals as goal
 
 pub loop-component-init : goal.loop-component-init
 loop-component-init c = at_first (position (is_marked c.args.marks.now) c.args.types.now)

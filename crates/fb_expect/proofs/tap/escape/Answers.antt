@@ -1,0 +1,13 @@
+use Rattle.std.proofs.Common.{ℕ, List, ◌++◌, get_or, sym, ap, ◌∙◌, arith}
+use Rattle.std.proofs.lemmas.List.{take_all}
+use Rattle.fb_expect.specs.Reports.{escape, escape_byte}
+use Rattle.fb_expect.proofs.Joining.{byte-more}
+use Rattle.fb_expect.proofs.tap.escape.Goals as goal
+
+pub loop-byte-preserved : goal.loop-byte-preserved
+loop-byte-preserved c =
+    c.in_ok-put_escaped.ensures ∙ ap (λ (t : List ℕ). t ++ escape_byte c.args.mark (get_or c.args.part.now c.loop-byte.byte-index 0)) c.loop-byte.invariant
+    ∙ sym (byte-more c.args.mark c.args.part.now c.loop-byte.byte-index 0 c.loop-byte-test.true)
+
+pub returns : goal.returns
+returns c = c.loop-byte.invariant ∙ ap (escape c.args.mark) (take_all c.loop-byte.byte-index c.args.part.now (omega (arith, c.loop-byte-test.false)))
