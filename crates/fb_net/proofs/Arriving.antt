@@ -104,7 +104,7 @@ module _ (i : Inputs) (k : Key) (kind : EventKind) (at : Target) (is : (system_o
       → (w : World) (left : ℕ) → IsForest i old w → RepresentsOutcome i (gathered i x) mid y (begun w left)
   begun-represents old mid x y taken w left h = subst (λ (o : Outcome). RepresentsOutcome i (gathered i x) mid y o) (begun-is w left) (taken w left h)
 
-  -- .. and hold values of their types
+  -- the blocks hold values of their types once the event is taken
   pub event-typed : (old mid : Forest) (x y : Outbox) → ComesTo i (sampling i k at) old x mid y → IsTypedSystem sys → AreTypedAt i old → InForest i mid at.instance
       → (w : World) × IsForest i mid w × InForest i mid at.instance × HasTypedInputs i kind at.instance w
   event-typed old mid x y taken sound typed lies =

@@ -1,6 +1,6 @@
 -- Taking an event is what the model makes of it, by what the event is.
 use Rattle.std.proofs.Common.{◌≡◌, ℕ, List, map, refl, sym, ap, subst, ◌∙◌}
-use Rattle.std.specs.Prelude.{None, Option, Some, Result, Ok, Err, IfErr, OnOk}
+use Rattle.std.specs.Prelude.{None, Option, Some, Result, Ok, Err}
 use Rattle.std.specs.Option.{option_map}
 use Rattle.std.proofs.lemmas.List.{append-nil}
 use Rattle.fb_types.specs.Blocks.{Bound, Emission, Event, ports_of}
@@ -93,6 +93,16 @@ module _ (i : Inputs) (k : Key) (m : Message) (old mid : Forest) (holds : HoldsA
 
 -- ---- Stimuli
 
+module _ (i : Inputs) (row : ℕ) (s : StimulusAt) (is : IsStimulusAt i row s) where
+  -- what the row represents
+  stimulus-is : event_of i (waits.Stimulus row) ≡ Stimulated (port_of (system_of i) s.target) (map (set_of (system_of i) s.target.instance) s.sets.now)
+  stimulus-is =
+      ap stimulated is.is ∙ ap (λ (z : Port). Stimulated z is.stimulus.sets) (sym is.port)
+      ∙ ap (λ (bs : List Bound). Stimulated (port_of (system_of i) s.target) bs) (sym is.sets)
+
+  pub stimulus-lies : (old : Forest) → (system_of i).resource (path_of (event_of i (waits.Stimulus row))) ≡ old.resource → InForest i old s.target.instance
+  stimulus-lies old here = ap (system_of i).resource (sym (ap path_of stimulus-is ∙ path-of_port (system_of i) s.target)) ∙ here
+
 module _ (i : Inputs) (k : Key) (row : ℕ) (s : StimulusAt) (is : IsStimulusAt i row s) (old mid : Forest)
     (changes : Changes i old s.target.instance (slots_set (system_of i) s.target.instance s.sets.now) mid)
     (here : (system_of i).resource (path_of (event_of i (waits.Stimulus row))) ≡ old.resource) where
@@ -108,13 +118,11 @@ module _ (i : Inputs) (k : Key) (row : ℕ) (s : StimulusAt) (is : IsStimulusAt 
   abbrev sets : List Bound
   sets = map (set_of sys s.target.instance) s.sets.now
 
-  -- what the row represents
   event : event_of i (waits.Stimulus row) ≡ Stimulated q sets
-  event =
-      ap stimulated is.is ∙ ap (λ (z : Port). Stimulated z is.stimulus.sets) (sym is.port) ∙ ap (λ (bs : List Bound). Stimulated q bs) (sym is.sets)
+  event = stimulus-is i row s is
 
   lies : InForest i old s.target.instance
-  lies = ap sys.resource (sym (ap path_of event ∙ path-of_port sys s.target)) ∙ here
+  lies = stimulus-lies i row s is old here
 
   brought : (w : World) → IsForest i old w → IsForest i mid (with_slots p sets w)
   brought w h = changes.represents w h lies
@@ -190,14 +198,7 @@ timer-taken i k kind at old new x y is represents left w h =
       represents = represents w left h;
     }
 
--- However it has ended, the timer was taken.
-pub timer-ended : (i : Inputs) (k : Key) (at : ℕ) (old new : Forest) (x y : Outbox) (left : ℕ) (r : Result (Unit {0}) Halt)
-    → IfErr r (λ h. h ≡ halt.Memory) → OnOk r ((left : ℕ) → Came i k (waits.Timer at) old x left None new left y) → HasTaken i k (waits.Timer at) old x left r new left y
-timer-ended i k at old new x y left (Ok u) memory came = came left
-timer-ended i k at old new x y left (Err (halt.Stop s)) memory came = absurd cc
-timer-ended i k at old new x y left (Err halt.Memory) memory came = tt
-
--- .. and so was that of any other instance: nothing happens.
+-- at the timer of an instance that is no event block nothing happens
 rests : (i : Inputs) (k : Key) (p : Path) (w : World) (left : ℕ) (declared : Option BlockType) → expires (system_of i) k w p left (option_map kind_of declared) ≡ silent w left
 rests i k p w left None = refl
 rests i k p w left (Some (block.Basic t)) = refl

@@ -117,7 +117,7 @@ bounds-zip vs [] values = refl
 bounds-zip vs (k ∷ ks) [] = refl
 bounds-zip vs (k ∷ ks) (x ∷ xs) = ap (λ (bs : List Bound). bound_at vs (k, x) ∷ bs) (bounds-zip vs ks xs)
 
--- .. where both are lent
+-- an index and a value that are lent
 abbrev pub lent : Bor ℕ × Bor Value → ℕ × Value
 lent y = (y.0.now, y.1.now)
 

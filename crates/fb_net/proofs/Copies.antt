@@ -172,7 +172,7 @@ side_keeps i old new x vs start added y is was =
       | inr other ↦ added.elsewhere y other ((system_of i).initial (variable_of (system_of i) y)) was
     ]
 
--- .. and a copy that begins again
+-- a copy that begins again has what its variable begins with
 pub set_starts : (i : Inputs) (old new : HeldCopies) (x : InstanceVariable) (v u : Value) → v ≡ (system_of i).initial (variable_of (system_of i) x) → Some u ≡ held_at old x → IsSet old x v new
     → held_at new x ≡ Some ((system_of i).initial (variable_of (system_of i) x))
 set_starts i old new x v u start was set = set.here u (sym was) ∙ ap (λ (w : Value). Some w) start

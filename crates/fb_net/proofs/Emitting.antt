@@ -69,7 +69,7 @@ middle_fits P done x rest all parts each = go done (subst (λ (xs : List _). All
     go [] h = h 0 x (omega arith)
     go (y ∷ ys) h = go ys (λ k d lt. h (suc k) d (omega arith))
 
--- .. and of those after the first
+-- what holds of each element holds of those after the first
 pub others_fit : {A : Type 0} (P : A → Type 0) (x : A) (rest all : List A) → all ≡ x ∷ rest → All P all → All P rest
 others_fit P x rest all parts each = λ k d lt. subst (λ (xs : List _). All P xs) parts each (suc k) d (omega arith)
 

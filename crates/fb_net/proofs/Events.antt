@@ -63,7 +63,7 @@ taken_agrees sys p k s shell b event tick is h represents =
     ∙ reads_inputs k s.memory e tick b.variables
     ∙ ap (λ (m : Memory). reaction k m e tick b.variables) remembered
 
--- .. and so is its reaction to the timer
+-- the reaction of an event block to its timer is the model's
 expired_agrees : (k : EventKind) (s : State) (b : model.Block) (tick : ℕ) → EventRepresents k s b.memory → expiry_of s tick ≡ expiry k (memory_of b.memory) tick
 expired_agrees k s b tick h =
     ap (λ (j : EventKind). expiry j s.memory tick) h.is_kind ∙ ap (λ (m : Memory). expiry k m tick) (sym (ap memory_of h.memory))
@@ -97,7 +97,7 @@ module _ (i : Inputs) (old : Forest) (k : ℕ) (kind : EventKind) (of_kind : (sy
       let here = forest.shells k number lies in
       subst (λ (s : Shell). ShellRepresents (system_of i) (path_at (system_of i) k) s (block_in i w k)) (same_shell here.shell shell (sym here.stood ∙ found)) here.represents
 
-  -- .. and its data inputs hold values of their types
+  -- the data inputs of the event block hold values of their types
   pub typed_there : (w : World) → IsForest i old w → InForest i old k → HasTypedInputs i kind k w → (shell : Shell) → slice_get old.shells (seat_in old.seats k) ≡ Some shell
       → IsTypedAt shell.inputs old.blocks (way_in i old.roots k)
   typed_there w forest lies fit shell found =
@@ -194,7 +194,7 @@ taken_is i old at kind tick shell of_kind number found s w forest lies stood =
     taken_agrees (system_of i) (path_at (system_of i) at.instance) kind s shell (block_in i w at.instance) at.event tick of_kind stood
     (shell_there i old at.instance kind of_kind number w forest lies shell found)
 
--- .. and so is that to the timer
+-- the reaction to the timer is the model's
 pub expired_is : (i : Inputs) (old : Forest) (k : ℕ) (kind : EventKind) (tick : ℕ) (s : State)
     → (w : World) → IsForest i old w → InForest i old k → EventRepresents kind s (block_in i w k).memory → expiry_of s tick ≡ expiry_reaction i kind k tick w
 expired_is i old k kind tick s w forest lies stood = expired_agrees kind s (block_in i w k) tick stood
@@ -216,7 +216,7 @@ pub typed_here :
 typed_here slot s t inputs is stood fit =
     let same : s ≡ t = cc in subst (λ (r : State). FitInputs r.kind inputs) same fit
 
--- .. and they are the reaction's
+-- the emissions, the memory and the timer are the reaction's
 pub has_answered : (r : Result (Unit {0}) Halt) (k : EventKind) (x : Reaction) (s : State) (ask : TimerAsk) (old new : List run.Emission) → old ≡ []
     → OnOk r (s.memory ≡ x.memory) → OnOk r (ask ≡ x.timer) → OnOk r (meanings k new ≡ meanings k old ++ emissions_of k x) → OnOk r (HasAnswered k x s ask new)
 has_answered (Ok u) k x s ask old new fresh memory timer emitted = record {

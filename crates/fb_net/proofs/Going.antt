@@ -129,7 +129,7 @@ none_after false n m says off =
       | inr le ↦ le
     ]
 
--- .. where no other target is after those to which it has
+-- what goes out has gone to all targets, where no other one is after those to which it has gone
 pub last_gone :
     (sys : System) (r : ℕ) (carried : List (Port × Value)) (targets : List Port) (before : List Out) (index : ℕ) (outs : List Out)
     → HaveGone sys r carried targets before index outs → length targets ≤ index → map (out_of sys) outs ≡ map (out_of sys) before ++ spread sys r carried targets

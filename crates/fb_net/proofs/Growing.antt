@@ -57,7 +57,7 @@ number_is i p instances numbers index k are h =
     of None e at = absurd (none-some (path_of i.library k) at)
     of (Some x) e at = (x, e, sym (same_Some (x.name ∷ p) (path_of i.library k) at), all_at (λ k. k < length (system_of i).paths) numbers index k are.within h)
 
--- .. and each instance has a number
+-- each instance has a number
 pub instance_is :
     (i : Inputs) (p : Path) (instances : List Instance) (numbers : List ℕ) (index : ℕ) (x : Instance) → AreNumbers i.library p instances numbers
     → slice_get instances index ≡ Some x → (k : ℕ) × (slice_get numbers index ≡ Some k) × (path_at (system_of i) k ≡ x.name ∷ p)

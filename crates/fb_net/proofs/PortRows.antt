@@ -81,7 +81,7 @@ pub source_in :
     → IsSourceOf sys (record { instance = at.instance; variable = v; is_output = false }) s
 source_in sys at v s input h = subst (λ (b : Bool). IsSourceOf sys (record { instance = at.instance; variable = v; is_output = b }) s) input h.comes
 
--- ---- .. and an event output
+-- ---- The variables WITH an event output
 
 pub one_out :
     (sys : System) (at : Target) (v : ℕ) (s : Option Source) → at.is_output ≡ true → IsOneWith sys at v s

@@ -27,7 +27,7 @@ lines-put i f g x y resource outs lines were = record {
 pub blocks-changed : (i : Inputs) (f g : Forest) (x : Outbox) → g.resource ≡ f.resource → StillAreOuts i f x g x
 blocks-changed i f g x resource were = subst (λ (r : ℕ). AreOuts (system_of i) r x) (sym resource) were
 
--- .. and a timer was asked
+-- only the blocks and what is asked of the timer have changed
 pub timer-asked : (i : Inputs) (f g : Forest) (x y : Outbox) (ask : TimerAsk) → g.resource ≡ f.resource → y ≡ record x { timer = ask } → StillAreOuts i f x g y
 timer-asked i f g x y ask resource is were =
     let moved = blocks-changed i f g x resource were in

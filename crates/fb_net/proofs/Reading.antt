@@ -19,7 +19,7 @@ pub record AreReadUpTo (i : Inputs) (f : Forest) (k : ℕ) (at_index : World →
   pub counted : length values ≡ n
   pub read : (w : World) → IsForest i f w → InForest i f k → values ≡ map (at_index w) (take n indexes)
 
--- .. and what is read at one index more
+-- what is read at one index more is among the values too
 pub read_more : (i : Inputs) (f : Forest) (k : ℕ) (at_index : World → ℕ → Value) (n : ℕ) (indexes : List ℕ) (values new : List Value) (value : Value) → AreReadUpTo i f k at_index n indexes values
     → n < length indexes → new ≡ values ++ value ∷ [] → ((w : World) → IsForest i f w → InForest i f k → value ≡ at_index w (get_or indexes n 0)) → AreReadUpTo i f k at_index (n + 1) indexes new
 read_more i f k at_index n indexes values new value before within is reads = record {

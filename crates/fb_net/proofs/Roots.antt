@@ -85,7 +85,7 @@ module _ (i : Inputs) (r n k : ℕ) (top roots numbers : List ℕ) (at : slice_g
         ];
       })
 
-  -- .. and another one is left out
+  -- an instance of another resource is left out
   pub root_away : (x : ℕ) → ¬ ((system_of i).resource (path_at (system_of i) k) ≡ r) → AreRoots i r (take (n + 1) top) (roots ++ x ∷ []) numbers
   root_away x away =
       let next : n + 1 ≡ suc n = omega arith in

@@ -10,8 +10,8 @@ use Rattle.fb_net.specs.declared.outbox.Outbox.{Outbox}
 use Rattle.fb_net.specs.declared.resource.Forest.{Forest}
 use Rattle.fb_net.specs.declared.taking.Taking.{Taking}
 use Rattle.fb_net.proofs.Emitting.{more_emitted}
-use Rattle.fb_net.proofs.Wholes.{kept-then}
-use Rattle.fb_net.specs.Worlds.{InForest}
+use Rattle.fb_net.proofs.Wholes.{kept-then, stands-kept}
+use Rattle.fb_net.specs.Worlds.{Stands}
 
 -- what is said of system and key before holds after
 pub still : (P : Inputs → Key → Type 0) (a b : Taking) → IsSame a b → P a.system.now a.key.now → P b.system.now b.key.now
@@ -32,11 +32,11 @@ emitted-after a b c n es ds same first next =
     more_emitted a.system.now a.key.now n a.forest.now b.forest.now c.forest.now a.outbox.now b.outbox.now c.outbox.now es ds first
     (already (λ (i : Inputs) (k : Key). HasEmitted i k n b.forest.now b.outbox.now ds c.forest.now c.outbox.now) a b same next)
 
-pub may-emit-again : (a b : Taking) (n : ℕ) (es : List Emission) → IsSame a b → MayEmit a n → EmitsWell a n es b → MayEmit b n
-may-emit-again a b n es same may emitted = record {
+pub may-emit-again : (a b : Taking) (n : ℕ) → IsSame a b → IsKept a b → MayEmit a n → MayEmit b n
+may-emit-again a b n same kept may = record {
   number = still (λ (i : Inputs) (k : Key). n < length (system_of i).paths) a b same may.number;
-  here = still (λ (i : Inputs) (k : Key). InForest i b.forest.now n) a b same (may.here ∙ sym emitted.resource);
-  resource = ap (λ (k : Key). k.resource) same.key ∙ may.resource ∙ sym emitted.resource;
+  stands = still (λ (i : Inputs) (k : Key). Stands i b.forest.now n) a b same (stands-kept a.system.now a.forest.now b.forest.now n kept may.stands);
+  resource = ap (λ (k : Key). k.resource) same.key ∙ may.resource ∙ sym kept.resource;
 }
 
 pub put-out-after : (a b : Taking) (f : Forest) (x : Outbox) → IsSame a b → ArePutOut a b → StillAreOuts b.system.now b.forest.now b.outbox.now f x → StillAreOuts a.system.now a.forest.now a.outbox.now f x

@@ -105,7 +105,7 @@ slot_sampled i t x v comes reads w tree within =
     reads w tree within
     ∙ ap (λ o. elim o [ None ↦ (w.blocks (variable_of (system_of i) x).at).slots (variable_of (system_of i) x).name | Some q ↦ shown (system_of i) t.resource w q ]) comes
 
--- .. and a data output of a composite what it showed before
+-- without a source a data output of a composite shows what it showed before
 pub published_inside :
     (i : Inputs) (t : Forest) (x : InstanceVariable) (v : Value) → None ≡ (system_of i).source (variable_of (system_of i) x) → Reads i t x (λ b. b.published) v → ShowsInside i t x v
 published_inside i t x v comes reads w tree within =

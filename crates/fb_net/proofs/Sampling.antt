@@ -68,7 +68,7 @@ pub sampled-paired : (sys : System) (r : ℕ) (w : World) (p : Path) (ns : List 
     → with_values (pair_up ns (map (sample_at sys r w p) ns)) (w.blocks p).variables ≡ sampled sys r w p ns
 sampled-paired sys r w p ns = fun_ext (λ n. with_values-paired (sample_at sys r w p) ns (w.blocks p).variables n)
 
--- .. and the line of the event shows them
+-- the line of the event shows the sampled values
 pub sampled-wrote : (sys : System) (r : ℕ) (w : World) (p : Path) (ns : List Name)
     → pair_up ns (map (sample_at sys r w p) ns) ≡ bound ns (sampled sys r w p ns)
 sampled-wrote sys r w p ns =
@@ -98,7 +98,7 @@ output_port sys at e = ap (λ (b : Bool). cond b (event_output sys at.instance a
 abbrev pub taken_line : Key → Target → List Value → run_line.Line
 taken_line k at values = record { key = k; taken = true; instance = at.instance; event = at.event; values = values }
 
--- .. as it reads at an instance with these ports
+-- the line of an event that is taken, as it reads at an instance with these ports
 abbrev pub line_at : Key → Path → Ports → (event : ℕ) → List Value → Line
 line_at k p its e values =
     let n = event_at its.event_inputs e in record { key = k; taken = true; at = p; event = n; values = pair_up (inputs_with its n) values }

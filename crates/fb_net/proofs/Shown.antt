@@ -1,14 +1,13 @@
 -- What is read at an index of a shell is what the model's block holds for the name there.
-use Rattle.std.proofs.Common.{◌≡◌, ◌≢◌, ℕ, ◌<◌, suc, List, [], ◌∷◌, length, true, false, refl, ap, sym, ◌∙◌, subst}
-use Rattle.std.specs.Prelude.{Option, Some, None, unwrap_or, slice_get, if◌then◌else◌}
-use Rattle.std.proofs.lemmas.Option.{none-some}
+use Rattle.std.proofs.Common.{◌≡◌, ◌≢◌, ℕ, ◌<◌, suc, List, [], ◌∷◌, length, true, false, get_or, refl, ap, sym, ◌∙◌, subst}
+use Rattle.std.specs.Prelude.{Option, Some, unwrap_or, slice_get, if◌then◌else◌}
+use Rattle.std.proofs.lemmas.Option.{slice_get_read}
 use Rattle.fb_types.specs.Names.{Path}
 use Rattle.fb_types.specs.Values.{Values}
 use Rattle.fb_types.specs.Blocks.{Basic, Composite, variable_names}
 use Rattle.fb_types.specs.Flat.{zero_value}
 use Rattle.fb_types.specs.Headline.{Inputs, system_of}
 use Rattle.fb_types.specs.Numbers.{path_at, ports_at}
-use Rattle.fb_types.specs.Reactions.{World}
 use Rattle.fb_types.specs.States as model
 use Rattle.fb_types.specs.Systems.{System}
 use Rattle.fb_types.specs.declared.library.BasicType.{BasicType}
@@ -16,7 +15,7 @@ use Rattle.fb_types.specs.declared.library.Variable.{Variable}
 use Rattle.fb_types.specs.declared.value.Value.{Value}
 use Rattle.fb_types.specs.declared.run.InstanceVariable.{InstanceVariable}
 use Rattle.fb_system.specs.Ports.{IsVariable, data_input, data_output, variable_of, variables_at}
-use Rattle.fb_net.specs.Worlds.{Found, InForest, IsComposite, IsForest, Reads, ShellRepresents, ValuesRepresent, seat_in, value_in}
+use Rattle.fb_net.specs.Worlds.{IsComposite, Reads, ShellRepresents, ValuesRepresent, seat_in, value_in}
 use Rattle.fb_net.specs.declared.resource.Forest.{Forest}
 use Rattle.fb_net.specs.declared.shell.Shell.{Shell}
 use Rattle.fb_types.proofs.ByIndex.{element_at}
@@ -93,25 +92,22 @@ module _ (sys : System) (x : InstanceVariable) (s : Shell) (m : model.Block) (va
 same_found : {A : Type 0} (o : Option A) (a b : A) → o ≡ Some a → o ≡ Some b → a ≡ b
 same_found o a b e f = cc
 
-pub found_reads :
-    (i : Inputs) (t : Forest) (x : InstanceVariable) (part : model.Block → Values) (s : Shell) (v : Value) (o : Option Shell) → o ≡ Some s →
-    ((w : World) → IsForest i t w → InForest i t x.instance → Found i x.instance (w.blocks (path_at (system_of i) x.instance)) o) →
+-- what is read at the index that is the seat of an instance is its shell
+pub shell_read :
+    (t : Forest) (k index : ℕ) (shells : List Shell) (s : Shell) → seat_in t.seats k < length t.shells → index ≡ seat_in t.seats k → shells ≡ t.shells → s ≡ get_or shells index s →
+    slice_get t.shells (seat_in t.seats k) ≡ Some s
+shell_read t k index shells s within at same read =
+    slice_get_read t.shells (length t.shells) (seat_in t.seats k) s refl within
+    (read ∙ ap (λ (xs : List Shell). get_or xs index s) same ∙ ap (λ (n : ℕ). get_or t.shells n s) at)
+
+-- what the shell at the seat of an instance holds is what the block of the model holds
+pub seated_reads :
+    (i : Inputs) (t : Forest) (x : InstanceVariable) (part : model.Block → Values) (s : Shell) (v : Value) → x.instance < length (system_of i).paths →
+    slice_get t.shells (seat_in t.seats x.instance) ≡ Some s →
     ((m : model.Block) → ShellRepresents (system_of i) (path_at (system_of i) x.instance) s m → v ≡ part m (variable_of (system_of i) x).name) →
     Reads i t x part v
-found_reads i t x part s v o is found reads w forest within =
-    let f = found w forest within in
+seated_reads i t x part s v number found reads w forest within =
+    let there = forest.shells x.instance number within in
     let p = path_at (system_of i) x.instance in
-    reads (w.blocks p) (subst (λ (y : Shell). ShellRepresents (system_of i) p y (w.blocks p)) (same_found o f.shell s f.is is) f.represents)
+    reads (w.blocks p) (subst (λ (y : Shell). ShellRepresents (system_of i) p y (w.blocks p)) (same_found _ there.shell s there.stood found) there.represents)
     ∙ ap (λ q. part (w.blocks q) (variable_of (system_of i) x).name) (sym (at_is (system_of i) x))
-
--- the shell at the seat of an instance represents it
-pub found_at :
-    (i : Inputs) (t : Forest) (k : ℕ) → k < length (system_of i).paths → (o : Option Shell) → o ≡ slice_get t.shells (seat_in t.seats k) →
-    (w : World) → IsForest i t w → InForest i t k → Found i k (w.blocks (path_at (system_of i) k)) o
-found_at i t k number o at w forest lies =
-    let s = forest.shells k number lies in record { shell = s.shell; is = at ∙ s.stood; represents = s.represents }
-
--- each instance of the resource has a shell
-pub never_absent : (i : Inputs) (t : Forest) (x : InstanceVariable) (part : model.Block → Values) (v : Value) →
-    ((w : World) → IsForest i t w → InForest i t x.instance → Found i x.instance (w.blocks (path_at (system_of i) x.instance)) None) → Reads i t x part v
-never_absent i t x part v found w forest lies = (let f = found w forest lies in absurd (none-some f.shell f.is))

@@ -144,6 +144,7 @@ forest_is i t r numbers accepted numbered is rooted_so grown seated held = recor
       ∙ ap (system_of i).number (paths_by_ways i r t.roots accepted (roots_distinguish i r t.roots numbers rooted_so) j k h g (lies_j ∙ is) (lies_k ∙ is) same)
       ∙ numbered k g);
   shells = seated.stand;
+  seated = let each = seated.each in omega (arith, each);
   apart = seated.apart;
   held = λ x variable read outside.
       held read.to read.variable (read.within ∙ is) x variable read.source (λ e. outside (e ∙ sym is));

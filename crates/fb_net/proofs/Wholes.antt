@@ -1,5 +1,6 @@
 -- That a step leaves each instance of the resource its block, also where memory ran out.
-use Rattle.std.proofs.Common.{◌≡◌, ℕ, List, map, refl, ◌∙◌}
+use Rattle.std.proofs.Common.{◌≡◌, ℕ, ◌<◌, List, length, map, refl, sym, ◌∙◌, arith}
+use Rattle.std.proofs.lemmas.Option.{slice_get_within}
 use Rattle.fb_types.specs.Headline.{Inputs, system_of}
 use Rattle.fb_types.specs.Numbers.{carried_of}
 use Rattle.fb_types.specs.Reactions.{World, hold_all}
@@ -8,7 +9,7 @@ use Rattle.fb_types.specs.declared.run.Carried.{Carried}
 use Rattle.fb_net.specs.Samples.{HoldsAll}
 use Rattle.fb_net.specs.Steps.{AreKept}
 use Rattle.fb_net.specs.Changes.{Changes, block_in, with_instance}
-use Rattle.fb_net.specs.Worlds.{InForest, IsForest}
+use Rattle.fb_net.specs.Worlds.{InForest, IsForest, Stands, seat_in}
 use Rattle.fb_net.specs.declared.resource.Forest.{Forest}
 
 -- nothing has changed
@@ -40,3 +41,21 @@ kept-held i old new carried holds = record {
 -- the blocks represent some world
 pub kept-world : (i : Inputs) (old new : Forest) → new.resource ≡ old.resource → ((w : World) × IsForest i new w) → AreKept i old new
 kept-world i old new resource world = record { resource = resource; whole = λ w stood. world }
+
+-- an instance stands after a step that keeps the blocks those of the system
+pub stands-kept : (i : Inputs) (old new : Forest) (k : ℕ) → AreKept i old new → Stands i old k → Stands i new k
+stands-kept i old new k kept stands = record { here = stands.here ∙ sym kept.resource; whole = kept.whole stands.whole.0 stands.whole.1 }
+
+-- an instance stands after a change of its block
+pub stands-changed :
+    (i : Inputs) (old new : Forest) (k : ℕ) (change : model.Block → model.Block) → Stands i old k → Changes i old k change new → Stands i new k
+stands-changed i old new k change stands changes = stands-kept i old new k (kept-changed i old new k change changes stands.here) stands
+
+-- an instance that stands has its seat
+pub seat-there : (i : Inputs) (t : Forest) (k : ℕ) → k < length (system_of i).paths → Stands i t k → k < length t.seats
+seat-there i t k number stands = let seated = stands.whole.1.seated in omega (arith, number, seated)
+
+-- an instance that stands has its shell
+pub shell-there : (i : Inputs) (t : Forest) (k : ℕ) → k < length (system_of i).paths → Stands i t k → seat_in t.seats k < length t.shells
+shell-there i t k number stands =
+    let there = stands.whole.1.shells k number stands.here in slice_get_within t.shells (seat_in t.seats k) there.shell there.stood

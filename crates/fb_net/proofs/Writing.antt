@@ -2,7 +2,6 @@
 use Rattle.std.proofs.Common.{◌≡◌, ◌≢◌, ℕ, ◌<◌, zero, suc, List, [], ◌∷◌, length, Bool, true, false, Contains, refl, ap, sym, ◌∙◌, subst, inl, inr, ⊎_elim}
 use Rattle.std.proofs.lemmas.Bool.{cases_eq, true≢false}
 use Rattle.std.specs.Prelude.{Option, Some, None, slice_get, slice_set, if◌then◌else◌}
-use Rattle.std.proofs.lemmas.Option.{none-some}
 use Rattle.fb_types.specs.Names.{Name, Path, same_name, same_path, with_value}
 use Rattle.fb_types.specs.Values.{Values}
 use Rattle.fb_types.specs.Blocks.{Kind, Basic, Event, Composite, ports, ports_of, variable_names}
@@ -169,6 +168,7 @@ module _ (i : Inputs) (numbered : AreNumbered i) (t : Forest) (w : World) (fores
                   ∙ there.stood;
               represents = there.represents;
             }));
+        seated = forest.seated;
         apart = forest.apart;
         held = forest.held;
       }
@@ -195,15 +195,10 @@ module _ (i : Inputs) (numbered : AreNumbered i) (t : Forest) (w : World) (fores
         ways = forest.ways;
         shells = λ j h lies_j. each_instance i numbered w k number after (λ n y. SeatedAt i t.seats t.shells n y)
             (record { shell = shell.shell; stood = shell.stood; represents = kept shell.shell shell.represents }) j h (λ other. forest.shells j h lies_j);
+        seated = forest.seated;
         apart = forest.apart;
         held = forest.held;
       }
-
--- no instance of the resource is without a shell
-pub never_none : (i : Inputs) (old new : Forest) (k : ℕ) (change : model.Block → model.Block) → k < length (system_of i).paths → slice_get old.shells (seat_in old.seats k) ≡ None
-    → new.resource ≡ old.resource → Changes i old k change new
-never_none i old new k change number none same =
-    record { resource = same; represents = λ w forest lies. (let here = forest.shells k number lies in absurd (none-some here.shell (sym none ∙ here.stood))) }
 
 same_shell : (a b : Shell) → Some a ≡ Some b → a ≡ b
 same_shell a b e = cc

@@ -128,7 +128,7 @@ CoversAll i r held =
 abbrev pub KeepsCovers : Inputs → (resource : ℕ) → (old new : HeldCopies) → Type 0
 KeepsCovers i r old new = (to : InstanceVariable) → Covers i r old to → Covers i r new to
 
--- .. and no copy of a variable with what it begins with
+-- No held copy of a variable with what it begins with is lost.
 abbrev pub KeepsInitial : Inputs → (old new : HeldCopies) → Type 0
 KeepsInitial i old new =
     let sys = system_of i in

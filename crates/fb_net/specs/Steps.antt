@@ -24,7 +24,7 @@ use Rattle.fb_net.specs.declared.end.End.TheVariants as end
 use Rattle.fb_net.specs.declared.taking.Taking.{Taking}
 use Rattle.fb_system.specs.IndexLists.{AreIndexes}
 use Rattle.fb_system.specs.Ports.{IsPort}
-use Rattle.fb_net.specs.Worlds.{InForest, IsForest}
+use Rattle.fb_net.specs.Worlds.{IsForest, Stands}
 use Rattle.fb_net.specs.declared.resource.Forest.{Forest}
 
 abbrev pub system_in : Taking → System
@@ -57,13 +57,13 @@ MayBegin t = IsReady t.key.now t.forest.now
 -- An instance of the resource may put out under a key of the resource.
 pub record MayEmit (t : Taking) (instance : ℕ) : Type 0 where
   pub number : instance < length (system_in t).paths
-  pub here : InForest t.system.now t.forest.now instance
+  pub stands : Stands t.system.now t.forest.now instance
   pub resource : t.key.now.resource ≡ t.forest.now.resource
 
 -- An event may be taken at a port of an instance of the resource.
 pub record MayArrive (t : Taking) (at : Target) : Type 0 where
   pub port : IsPort (system_in t) at
-  pub here : InForest t.system.now t.forest.now at.instance
+  pub stands : Stands t.system.now t.forest.now at.instance
   pub ready : MayBegin t
 
 -- An event of the resource may be taken.

@@ -1,5 +1,5 @@
 -- What the blocks of one resource represent in the model (IEC 61499-1, 5.2 and 5.3; that a resource has trees of its own instances, and held copies, is this project's profile).
-use Rattle.std.specs.Prelude.{◌≡◌, ◌<◌, ◌≢◌, ℕ, false, List, [], ◌∷◌, length, Option, Some, unwrap_or, slice_get, slice_set}
+use Rattle.std.specs.Prelude.{◌≡◌, ◌<◌, ◌≤◌, ◌≢◌, ℕ, false, List, [], ◌∷◌, length, Option, Some, unwrap_or, slice_get, slice_set}
 use Rattle.fb_types.specs.Names.{Name, Path}
 use Rattle.fb_types.specs.Values.{Values}
 use Rattle.fb_types.specs.Blocks.{Kind, Basic, Event, Composite, among, variable_names}
@@ -96,12 +96,6 @@ pub record SeatedAt (i : Inputs) (seats : List ℕ) (shells : List Shell) (k : �
   pub stood : slice_get shells (seat_in seats k) ≡ Some shell
   pub represents : ShellRepresents (system_of i) (path_at (system_of i) k) shell b
 
--- A shell was found that represents an instance.
-pub record Found (i : Inputs) (k : ℕ) (b : model.Block) (found : Option Shell) : Type 0 where
-  pub shell : Shell
-  pub is : found ≡ Some shell
-  pub represents : ShellRepresents (system_of i) (path_at (system_of i) k) shell b
-
 -- No two of the first instances of a resource, of which there are this many, have one seat.
 unfoldable pub AreApart : Inputs → (resource count : ℕ) → List ℕ → Type 0
 AreApart i r n seats =
@@ -149,6 +143,7 @@ pub record IsForest (i : Inputs) (t : Forest) (w : World) : Type 0 where
   pub ways : WaysDiffer i t.resource t.roots
   pub shells : (k : ℕ) → k < length (system_of i).paths → (system_of i).resource (path_at (system_of i) k) ≡ t.resource →
       SeatedAt i t.seats t.shells k (w.blocks (path_at (system_of i) k))
+  pub seated : length (system_of i).paths ≤ length t.seats
   pub apart : AreApart i t.resource (length (system_of i).paths) t.seats
   pub held : (x : InstanceVariable) → IsVariable (system_of i) x → IsRead (system_of i) t.resource x → (system_of i).resource (path_at (system_of i) x.instance) ≢ t.resource →
       held_at t.held x ≡ Some (w.held (variable_of (system_of i) x))
@@ -157,6 +152,11 @@ pub record IsForest (i : Inputs) (t : Forest) (w : World) : Type 0 where
 
 abbrev pub InForest : Inputs → Forest → (instance : ℕ) → Type 0
 InForest i t k = (system_of i).resource (path_at (system_of i) k) ≡ t.resource
+
+-- The instance is in the resource, and the blocks represent a world. So it has its block, its seat and its shell.
+pub record Stands (i : Inputs) (t : Forest) (instance : ℕ) : Type 0 where
+  pub here : InForest i t instance
+  pub whole : (w : World) × IsForest i t w
 
 abbrev pub IsComposite : System → InstanceVariable → Type 0
 IsComposite sys x = IsCompositeAt sys x.instance

@@ -9,6 +9,7 @@ ghost use Rattle.fb_system.specs.OfSystem.{IsCarried, IsPort};
 ghost use Rattle.fb_net.specs.Changes.{Changes};
 ghost use Rattle.fb_net.specs.Samples.{HoldsAll, all_sampled};
 ghost use Rattle.fb_net.specs.OfSystem.{names_in, slots_set};
+ghost use Rattle.fb_net.specs.Worlds.{Stands};
 
 use crate::resource::Forest;
 use fb_system::{SlotValue, System};
@@ -16,7 +17,7 @@ use fb_types::{Carried, InstanceVariable, MessageValues, Target, Value};
 
 /// Gives the variables WITH an event input, which are at `indexes`, the values that they sampled. The instance is an
 /// event block or a composite, and is in the resource.
-pub fn keep_samples(
+pub(crate) fn keep_samples(
     forest: &mut Forest,
     system: &System,
     at: Target,
@@ -25,6 +26,7 @@ pub fn keep_samples(
 )
     requires port { IsPort system.now at }
     requires input { at.is_output ≡ false }
+    requires stands { Stands system.now forest.old at.instance }
     requires no_basic { (t : BasicType) → kind_at system.now (path_at system.now at.instance) ≢ Some (Basic t) }
     requires indexes { AreIndexes (ports_at system.now (path_at system.now at.instance)).inputs (names_in system.now at) indexes.now }
     requires values { length values.now ≡ length (names_in system.now at) }
@@ -41,8 +43,9 @@ pub fn keep_samples(
 }
 
 /// Sets the slots of a stimulus, at an instance that is in the resource.
-pub fn set_slots(forest: &mut Forest, system: &System, instance: u32, sets: &[SlotValue])
+pub(crate) fn set_slots(forest: &mut Forest, system: &System, instance: u32, sets: &[SlotValue])
     requires instance { IsInstance system.now instance }
+    requires stands { Stands system.now forest.old instance }
     requires within { All (λ s. s.index < length (ports_at system.now (path_at system.now instance)).inputs) sets.now }
     ensures { Changes system.now forest.old instance (slots_set system.now instance sets.now) forest.new }
 {

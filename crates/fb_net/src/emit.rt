@@ -12,6 +12,7 @@ ghost use Rattle.fb_net.specs.Changes.{Changes};
 ghost use Rattle.fb_net.specs.Emitting.{bare, carried_by, message_to, others, out_to, outputs_shown};
 ghost use Rattle.fb_net.specs.Steps.{ArePutOut, EmitsAll, EmitsWell, IsKept, IsSame, MayEmit, ports_in};
 ghost use Rattle.fb_net.specs.OfSystem.{IsOut, out_of, outputs_at};
+ghost use Rattle.fb_net.specs.Worlds.{Stands};
 
 use crate::outbox::{Out, Outbox, OutgoingMessage};
 use crate::resource::Forest;
@@ -251,6 +252,7 @@ fn publish_all(
     values: &[Value],
 )
     requires instance { IsInstance system.now instance }
+    requires stands { Stands system.now forest.old instance }
     requires within { All (λ k. k < length (ports_at system.now (path_at system.now instance)).outputs) indexes.now }
     ensures { Changes system.now forest.old instance (outputs_shown (outputs_at system.now instance indexes.now values.now)) forest.new }
 {

@@ -49,7 +49,7 @@ pub fn react_event(
 {
     system.facts();
     let (first, below) = forest.way(system, at.instance);
-    let seat = forest.seat(at.instance);
+    let seat = forest.seat_of(at.instance);
     let Some(shell) = forest.shells.get(seat) else {
         unreachable!()
     };

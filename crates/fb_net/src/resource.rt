@@ -1,14 +1,13 @@
 //! The blocks, the shells and the held copies of one resource.
 
-ghost use Rattle.std.specs.Prelude.{◌≡◌, ◌∷◌, ◌↔◌, option_map, slice_get, true, false, unwrap_or, IsTrue};
-ghost use Rattle.std.specs.Option.{option_copied};
+ghost use Rattle.std.specs.Prelude.{◌≡◌, ◌<◌, length, ◌∷◌, ◌↔◌, option_map, slice_get, true, false, unwrap_or, IsTrue};
 ghost use Rattle.fb_types.specs.Flat.{zero_value};
 ghost use Rattle.fb_types.specs.Reactions.{World};
-ghost use Rattle.fb_types.specs.OfSystem.{IsInstance, path_at};
+ghost use Rattle.fb_types.specs.OfSystem.{IsInstance};
 ghost use Rattle.fb_system.specs.OfSystem.{IsSourceOf, IsVariable, variable_of};
 ghost use Rattle.fb_net.specs.Changes.{Changes, Holds, ShowsInside, input_sampled, output_shown, slot_set};
 ghost use Rattle.fb_net.specs.HeldAt.{held_at};
-ghost use Rattle.fb_net.specs.Worlds.{Found, InForest, IsForest, Reads, Samples, Sees, Shows, seat_in, value_in, way_in, with_seated};
+ghost use Rattle.fb_net.specs.Worlds.{InForest, IsForest, Reads, Samples, Sees, Shows, Stands, seat_in, value_in, way_in, with_seated};
 ghost use Rattle.fb_net.specs.OfSystem.{IsComposite, TakesSamples};
 
 use crate::block::Block;
@@ -95,38 +94,48 @@ impl Forest {
         }
     }
 
+    /// The same as `seat`, for an instance that is known to have its seat: nothing is compared.
+    #[inline(always)]
+    pub(crate) fn seat_of(&self, instance: u32) -> usize
+        requires { instance < length self.now.seats }
+        ensures { result ≡ seat_in self.now.seats instance }
+    {
+        self.seats.as_slice()[instance as usize] as usize
+    }
+
     /// The shell of an instance that is in the resource.
     #[inline(always)]
-    pub(crate) fn shell(&self, system: &System, instance: u32) -> Option<&Shell>
-        requires { IsInstance system.now instance }
-        ensures { (w : World) → IsForest system.now self.now w → InForest system.now self.now instance →
-            Found system.now instance (w.blocks (path_at system.now instance)) (option_copied result) }
+    fn shell(&self, system: &System, instance: u32) -> &Shell
+        requires instance { IsInstance system.now instance }
+        requires stands { Stands system.now self.now instance }
+        ensures { slice_get self.now.shells (seat_in self.now.seats instance) ≡ Some result.now }
     {
         system.facts();
-        self.shells.get(self.seat(instance))
+        let seat = self.seat_of(instance);
+        &self.shells.as_slice()[seat]
     }
 
     /// The shell of an instance that is in the resource, to be changed.
     #[inline(always)]
     fn shell_mut(&mut self, instance: u32) -> Option<&mut Shell>
+        requires { instance < length self.old.seats }
         ensures* writes_back { sem 𝓛 (LendsIf the_row shell_row self.entry result (with_seated self.old instance) self.old) }
         ensures value { option_map (λ s. s.now) result ≡ slice_get self.old.shells (seat_in self.old.seats instance) }
     {
-        let seat = self.seat(instance);
+        let seat = self.seat_of(instance);
         self.shells.get_mut(seat)
     }
 
     /// What a connection or a stimulus has set at a data input of an instance that is in the resource.
     #[inline(always)]
-    pub fn slot(&self, system: &System, input: InstanceVariable) -> &Value
+    pub(crate) fn slot(&self, system: &System, input: InstanceVariable) -> &Value
         requires variable { IsVariable system.now input }
         requires input { input.is_output ≡ false }
+        requires stands { Stands system.now self.now input.instance }
         ensures { Reads system.now self.now input (λ b. b.slots) result.now }
     {
-        match self.shell(system, input.instance) {
-            Some(shell) => value_of(shell.slots.as_slice(), input.variable),
-            None => &NOTHING,
-        }
+        let shell = self.shell(system, input.instance);
+        value_of(shell.slots.as_slice(), input.variable)
     }
 
     /// What connections see at a data output of an instance that is in the resource.
@@ -134,31 +143,30 @@ impl Forest {
     pub(crate) fn published(&self, system: &System, output: InstanceVariable) -> &Value
         requires variable { IsVariable system.now output }
         requires output { output.is_output ≡ true }
+        requires stands { Stands system.now self.now output.instance }
         ensures { Reads system.now self.now output (λ b. b.published) result.now }
     {
-        match self.shell(system, output.instance) {
-            Some(shell) => value_of(shell.published.as_slice(), output.variable),
-            None => &NOTHING,
-        }
+        let shell = self.shell(system, output.instance);
+        value_of(shell.published.as_slice(), output.variable)
     }
 
     /// The copy of a data input that a composite block in the resource shows to its components.
     #[inline(always)]
-    pub fn copied(&self, system: &System, input: InstanceVariable) -> &Value
+    pub(crate) fn copied(&self, system: &System, input: InstanceVariable) -> &Value
         requires variable { IsVariable system.now input }
         requires input { input.is_output ≡ false }
+        requires stands { Stands system.now self.now input.instance }
         ensures { IsComposite system.now input → Reads system.now self.now input (λ b. b.variables) result.now }
     {
-        match self.shell(system, input.instance) {
-            Some(shell) => value_of(shell.inputs.as_slice(), input.variable),
-            None => &NOTHING,
-        }
+        let shell = self.shell(system, input.instance);
+        value_of(shell.inputs.as_slice(), input.variable)
     }
 
     /// What connections see at a source that is in the resource.
     #[inline(always)]
     fn seen(&self, system: &System, source: InstanceVariable) -> &Value
-        requires { IsVariable system.now source }
+        requires variable { IsVariable system.now source }
+        requires stands { Stands system.now self.now source.instance }
         ensures { Sees system.now self.now source result.now }
     {
         system.facts();
@@ -184,8 +192,10 @@ impl Forest {
     /// resource. The source says where it is.
     #[inline(always)]
     pub(crate) fn shown(&self, system: &System, source: &Source) -> &Value
-        requires { IsVariable system.now source.now.variable }
-        ensures { (IsTrue source.now.here ↔ InForest system.now self.now source.now.variable.instance) → Shows system.now self.now source.now.variable result.now }
+        requires variable { IsVariable system.now source.now.variable }
+        requires place { IsTrue source.now.here ↔ InForest system.now self.now source.now.variable.instance }
+        requires whole { (w : World) × IsForest system.now self.now w }
+        ensures { Shows system.now self.now source.now.variable result.now }
     {
         if source.here {
             self.seen(system, source.variable)
@@ -197,9 +207,10 @@ impl Forest {
     /// What a data input of an instance that is in the resource samples: what its source shows, or else what a
     /// stimulus has set.
     #[inline(always)]
-    pub fn sampled(&self, system: &System, input: InstanceVariable) -> &Value
+    pub(crate) fn sampled(&self, system: &System, input: InstanceVariable) -> &Value
         requires variable { IsVariable system.now input }
         requires input { input.is_output ≡ false }
+        requires stands { Stands system.now self.now input.instance }
         ensures { Samples system.now self.now input result.now }
     {
         self.sampled_from(system, input, &system.placed_source(input))
@@ -215,6 +226,7 @@ impl Forest {
     ) -> &Value
         requires variable { IsVariable system.now input }
         requires input { input.is_output ≡ false }
+        requires stands { Stands system.now self.now input.instance }
         requires source { IsSourceOf system.now input source.now }
         ensures { Samples system.now self.now input result.now }
     {
@@ -230,6 +242,7 @@ impl Forest {
     pub(crate) fn shown_inside(&self, system: &System, output: InstanceVariable) -> &Value
         requires variable { IsVariable system.now output }
         requires output { output.is_output ≡ true }
+        requires stands { Stands system.now self.now output.instance }
         requires composite { IsComposite system.now output }
         ensures { ShowsInside system.now self.now output result.now }
     {
@@ -246,6 +259,7 @@ impl Forest {
     ) -> &Value
         requires variable { IsVariable system.now output }
         requires output { output.is_output ≡ true }
+        requires stands { Stands system.now self.now output.instance }
         requires source { IsSourceOf system.now output source.now }
         requires composite { IsComposite system.now output }
         ensures { ShowsInside system.now self.now output result.now }
@@ -260,12 +274,14 @@ impl Forest {
     pub(crate) fn set_slot(&mut self, system: &System, input: InstanceVariable, value: Value)
         requires variable { IsVariable system.now input }
         requires input { input.is_output ≡ false }
+        requires stands { Stands system.now self.old input.instance }
         ensures { Changes system.now self.old input.instance (slot_set (variable_of system.now input).name value) self.new }
     {
         system.facts();
-        if let Some(shell) = self.shell_mut(input.instance) {
-            shell.slots.set(input.variable as usize, value);
-        }
+        let Some(shell) = self.shell_mut(input.instance) else {
+            unreachable!()
+        };
+        shell.slots.set(input.variable as usize, value);
     }
 
     /// A data output of an instance that is in the resource shows another value to connections. The value is lent, so
@@ -274,12 +290,14 @@ impl Forest {
     pub(crate) fn publish(&mut self, system: &System, output: InstanceVariable, value: &Value)
         requires variable { IsVariable system.now output }
         requires output { output.is_output ≡ true }
+        requires stands { Stands system.now self.old output.instance }
         ensures { Changes system.now self.old output.instance (output_shown (variable_of system.now output).name value.now) self.new }
     {
         system.facts();
-        if let Some(shell) = self.shell_mut(output.instance) {
-            shell.published.set(output.variable as usize, *value);
-        }
+        let Some(shell) = self.shell_mut(output.instance) else {
+            unreachable!()
+        };
+        shell.published.set(output.variable as usize, *value);
     }
 
     /// An event block or a composite that is in the resource samples a data input.
@@ -287,13 +305,15 @@ impl Forest {
     pub(crate) fn set_input(&mut self, system: &System, input: InstanceVariable, value: Value)
         requires variable { IsVariable system.now input }
         requires input { input.is_output ≡ false }
+        requires stands { Stands system.now self.old input.instance }
         requires takes { TakesSamples system.now input }
         ensures { Changes system.now self.old input.instance (input_sampled (variable_of system.now input).name value) self.new }
     {
         system.facts();
-        if let Some(shell) = self.shell_mut(input.instance) {
-            shell.inputs.set(input.variable as usize, value);
-        }
+        let Some(shell) = self.shell_mut(input.instance) else {
+            unreachable!()
+        };
+        shell.inputs.set(input.variable as usize, value);
     }
 
     /// A message brings a value of a variable of another resource. Where nothing in this resource is connected to the

@@ -6,6 +6,7 @@ ghost use Rattle.fb_system.specs.IndexLists.{AreIndexes};
 ghost use Rattle.fb_system.specs.OfSystem.{IsCompositeAt, IsPort};
 ghost use Rattle.fb_net.specs.Samples.{AreSampled, AreShown};
 ghost use Rattle.fb_net.specs.OfSystem.{names_in, names_out};
+ghost use Rattle.fb_net.specs.Worlds.{Stands};
 
 use crate::resource::Forest;
 use fb_system::System;
@@ -14,7 +15,7 @@ use std::alloc::{AllocError, Global};
 
 /// What the data inputs WITH an event input sample, in the order in which they are declared. They are at `indexes`, and
 /// the instance is in the resource.
-pub fn sampled_values(
+pub(crate) fn sampled_values(
     alloc: Global,
     forest: &Forest,
     system: &System,
@@ -23,6 +24,7 @@ pub fn sampled_values(
 ) -> Result<Values, AllocError>
     requires port { IsPort system.now at }
     requires input { at.is_output ≡ false }
+    requires stands { Stands system.now forest.now at.instance }
     requires indexes { AreIndexes (ports_at system.now (path_at system.now at.instance)).inputs (names_in system.now at) indexes.now }
     ensures sampled { IfOk result (AreSampled system.now forest.now at) }
     ensures counted { IfOk result (λ vs. length vs ≡ length (names_in system.now at)) }
@@ -51,7 +53,7 @@ pub fn sampled_values(
 
 /// What a composite, which is in the resource, shows from inside of the data outputs WITH an event output, in the
 /// order in which they are declared. They are at `indexes`.
-pub fn shown_values(
+pub(crate) fn shown_values(
     alloc: Global,
     forest: &Forest,
     system: &System,
@@ -60,6 +62,7 @@ pub fn shown_values(
 ) -> Result<Values, AllocError>
     requires port { IsPort system.now at }
     requires output { at.is_output ≡ true }
+    requires stands { Stands system.now forest.now at.instance }
     requires composite { IsCompositeAt system.now at.instance }
     requires indexes { AreIndexes (ports_at system.now (path_at system.now at.instance)).outputs (names_out system.now at) indexes.now }
     ensures shown { IfOk result (AreShown system.now forest.now at) }

@@ -6,6 +6,7 @@ use Rattle.fb_types.specs.Headline.{system_of}
 use Rattle.fb_net.specs.Changes.{Changes}
 use Rattle.fb_net.specs.Emitting.{outputs_shown}
 use Rattle.fb_net.proofs.Publishing.{all-outputs, nothing_shown, one_more_shown}
+use Rattle.fb_net.proofs.Wholes.{stands-changed}
 use Rattle.fb_net.proofs.emit.publish_all.Goals as goal
 
 pub loop-index-init : goal.loop-index-init
@@ -23,3 +24,6 @@ returns c =
     let end = zip_end c.args.indexes.now c.args.values.now c.loop-index.yielded c.into_iter-index-iterator.result c.loop-index.index-iterator c.next.new.self c.next.result (cc) (cc) c.loop-index.yielded_by c.in-None.is c.next.ensures.steps in
     subst (λ (bs : List Bound). Changes c.args.system.now c.args.forest.now c.args.instance (outputs_shown bs) c.loop-index.forest)
     (all-outputs (system_of c.args.system.now) c.args.instance (length c.loop-index.yielded) c.args.indexes.now c.args.values.now end) c.loop-index.invariant
+
+pub publish-requires-clause-stands : goal.publish-requires-clause-stands
+publish-requires-clause-stands c = stands-changed c.args.system.now c.args.forest.now c.loop-index.forest c.args.instance _ c.requires.stands c.loop-index.invariant

@@ -23,7 +23,7 @@ returns-clause-sent c =
     all_gone sys (sys.resource (path_at sys c.args.from.instance)) _ (others targets) c.args.outs.now.items c.loop-reached.index c.loop-reached.outs.items c.reached.result
     c.loop-reached.invariant (c.reached.ensures.leads ∙ others-at targets c.loop-reached.index) c.in_default.is
 
--- .. and none is after the last
+-- no target is after the last
 pub returns-then-not-reached-clause-sent : goal.returns-then-not-reached-clause-sent
 returns-then-not-reached-clause-sent c =
     let sys = system_of c.args.system.now in

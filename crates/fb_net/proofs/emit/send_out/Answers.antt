@@ -38,7 +38,7 @@ returns-in_default-clause-sent c =
     let sys = system_of c.args.system.now in
     none_to_go sys (sys.resource (path_at sys c.args.from.instance)) _ (sys.targets (port_of sys c.args.from)) c.args.outs.now.items c.args.first.now c.requires.first.leads c.in_default.is
 
--- .. and none is after the only one
+-- no target is after the only one
 pub returns-then-not-reached-clause-sent : goal.returns-then-not-reached-clause-sent
 returns-then-not-reached-clause-sent c =
     let sys = system_of c.args.system.now in

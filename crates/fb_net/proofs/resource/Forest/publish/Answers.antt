@@ -1,12 +1,18 @@
-use Rattle.std.proofs.Common.{rules, refl, sym}
-use Rattle.fb_net.proofs.Writing.{output_changes, never_none}
+use Rattle.std.proofs.Common.{sym}
+use Rattle.fb_net.proofs.Events.{no_shell}
+use Rattle.fb_net.proofs.Wholes.{seat-there}
+use Rattle.fb_net.proofs.Writing.{output_changes}
 use Rattle.fb_net.proofs.resource.Forest.publish.Goals as goal
 
-pub returns-in-Some : goal.returns-in-Some
-returns-in-Some c =
+pub shell_mut-requires : goal.shell_mut-requires
+shell_mut-requires c = seat-there c.args.system.now c.args.self.now c.args.output.instance c.requires.variable.instance c.requires.stands
+
+pub unreachable-requires : goal.unreachable-requires
+unreachable-requires c =
+    let stands = c.requires.stands in
+    no_shell c.args.system.now c.args.self.now c.args.output.instance c.requires.variable.instance stands.whole.0 stands.whole.1 stands.here (sym c.in_default.ensures.value)
+
+pub returns : goal.returns
+returns c =
     rw c.set.ensures
     (output_changes c.args.system.now c.facts.ensures.accepted c.facts.ensures.numbered c.args.self.now c.args.output c.requires.variable c.args.value.now c.in-Some.shell.now (sym c.in-Some.ensures.value) c.requires.output)
-
-pub returns-in_default : goal.returns-in_default
-returns-in_default c =
-    never_none c.args.system.now c.args.self.now _ c.args.output.instance _ c.requires.variable.instance (search rules) refl

@@ -1,13 +1,10 @@
-use Rattle.std.proofs.Common.{rules, ap, ◌∙◌}
+use Rattle.std.proofs.Common.{ap, ◌∙◌}
 use Rattle.fb_net.specs.Worlds.{value_in}
-use Rattle.fb_net.proofs.Shown.{found_reads, never_absent, published_stands}
+use Rattle.fb_net.proofs.Shown.{seated_reads, published_stands}
 use Rattle.fb_net.proofs.resource.Forest.published.Goals as goal
 
-pub returns-in-Some : goal.returns-in-Some
-returns-in-Some c =
-    found_reads _ _ _ (λ b. b.published) c.in-Some.shell.now _ _ (search rules) c.shell.ensures
+pub returns : goal.returns
+returns c =
+    seated_reads c.args.system.now c.args.self.now c.args.output (λ b. b.published) c.shell-shell.result.now _ c.requires.variable.instance c.shell-shell.ensures
     (λ m s. c.value_of.ensures ∙ ap (λ vs. value_in vs c.args.output.variable) c.as_slice.ensures
     ∙ published_stands _ _ _ m c.requires.variable s c.requires.output)
-
-pub returns-in-None : goal.returns-in-None
-returns-in-None c = never_absent c.args.system.now c.args.self.now c.args.output (λ b. b.published) _ c.in-None.ensures

@@ -4,17 +4,22 @@ use Rattle.fb_net.proofs.PortRows.{near, source_of}
 use Rattle.fb_net.proofs.Sampled.{slot_sampled, source_sampled}
 use Rattle.fb_net.proofs.resource.Forest.sampled_from.Goals as goal
 
-pub shown-requires : goal.shown-requires
-shown-requires c = (source_of (system_of c.args.system.now) c.args.input c.args.source.now (Some c.in-Some.source) c.requires.source c.in-Some.is).comes.within.variable
+pub shown-requires-clause-variable : goal.shown-requires-clause-variable
+shown-requires-clause-variable c = (source_of (system_of c.args.system.now) c.args.input c.args.source.now (Some c.in-Some.source) c.requires.source c.in-Some.is).comes.within.variable
+
+pub shown-requires-clause-place : goal.shown-requires-clause-place
+shown-requires-clause-place c =
+    let sys = system_of c.args.system.now in
+    let from = source_of sys c.args.input c.args.source.now (Some c.in-Some.source) c.requires.source c.in-Some.is in
+    near sys c.args.self.now.resource c.in-Some.source.variable.instance c.args.input.instance c.in-Some.source.here from.here c.requires.stands.here
+
+pub shown-requires-clause-whole : goal.shown-requires-clause-whole
+shown-requires-clause-whole c = c.requires.stands.whole
 
 pub returns-in-Some : goal.returns-in-Some
 returns-in-Some c =
-    let sys = system_of c.args.system.now in
-    let from = source_of sys c.args.input c.args.source.now (Some c.in-Some.source) c.requires.source c.in-Some.is in
-    let source = c.in-Some.source.variable in
-    λ w tree lies.
-    source_sampled c.args.system.now c.args.self.now c.args.input source _ c.requires.variable from.comes.within from.comes.comes
-    (c.shown.ensures (near sys c.args.self.now.resource source.instance c.args.input.instance c.in-Some.source.here from.here lies)) w tree lies
+    let from = source_of (system_of c.args.system.now) c.args.input c.args.source.now (Some c.in-Some.source) c.requires.source c.in-Some.is in
+    source_sampled c.args.system.now c.args.self.now c.args.input c.in-Some.source.variable _ c.requires.variable from.comes.within from.comes.comes c.shown.ensures
 
 pub returns-in-None : goal.returns-in-None
 returns-in-None c =

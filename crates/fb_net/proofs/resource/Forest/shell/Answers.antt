@@ -1,8 +1,19 @@
-use Rattle.std.proofs.Common.{ap, ◌∙◌}
-use Rattle.std.specs.Prelude.{slice_get}
-use Rattle.fb_net.proofs.Shown.{found_at}
+use Rattle.std.proofs.Common.{ap, length, arith}
+use Rattle.fb_net.proofs.Shown.{shell_read}
+use Rattle.fb_net.proofs.Wholes.{seat-there, shell-there}
 use Rattle.fb_net.proofs.resource.Forest.shell.Goals as goal
+
+pub seat_of-seat-requires : goal.seat_of-seat-requires
+seat_of-seat-requires c = seat-there c.args.system.now c.args.self.now c.args.instance c.requires.instance c.requires.stands
+
+pub bounds-as_slice-seat : goal.bounds-as_slice-seat
+bounds-as_slice-seat c =
+    let within = shell-there c.args.system.now c.args.self.now c.args.instance c.requires.instance c.requires.stands in
+    let same = ap length c.as_slice.ensures in
+    let seat = c.seat_of-seat.ensures in
+    omega (arith, within, same, seat)
 
 pub returns : goal.returns
 returns c =
-    found_at c.args.system.now c.args.self.now c.args.instance c.requires _ (c.get.ensures.value ∙ ap (slice_get c.args.self.now.shells) c.seat.ensures)
+    shell_read c.args.self.now c.args.instance _ _ _ (shell-there c.args.system.now c.args.self.now c.args.instance c.requires.instance c.requires.stands)
+    c.seat_of-seat.ensures c.as_slice.ensures c.index-as_slice-seat.is

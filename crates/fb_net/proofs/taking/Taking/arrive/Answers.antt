@@ -64,6 +64,9 @@ returns-in_ok-enter-in-Some-Composite-clause-reacted c =
     (composite-enters i k at t is c.requires.target.port c.if-at.false left) (λ w. refl) (λ w. refl)
     (subst (λ (t : Target). HasDone (entering i k t) c.args.self.now c.enter.new.self) (sym (at_input at c.if-at.false)) c.in_ok-enter-in-Some-Composite.ensures.entered)
 
+pub arrive_event-requires-clause-index : goal.arrive_event-requires-clause-index
+arrive_event-requires-clause-index c = record { port = c.requires.target.port; stands = record { here = c.requires.here; whole = (c.requires.typed.0, c.requires.typed.1) }; ready = c.requires.ready }
+
 pub arrive_event-requires-clause-typed : goal.arrive_event-requires-clause-typed
 arrive_event-requires-clause-typed c = c.requires.typed
 
@@ -93,11 +96,11 @@ leave-requires-clause-composite c =
 
 pub leave-requires-clause-index : goal.leave-requires-clause-index
 leave-requires-clause-index c =
-    subst (λ (t : Target). MayArrive c.args.self.now t) (at_output c.args.at c.if-at.true) (record { port = c.requires.target.port; here = c.requires.here; ready = c.requires.ready })
+    subst (λ (t : Target). MayArrive c.args.self.now t) (at_output c.args.at c.if-at.true) (record { port = c.requires.target.port; stands = record { here = c.requires.here; whole = (c.requires.typed.0, c.requires.typed.1) }; ready = c.requires.ready })
 
 pub enter-requires-clause-index : goal.enter-requires-clause-index
 enter-requires-clause-index c =
-    subst (λ (t : Target). MayArrive c.args.self.now t) (at_input c.args.at c.if-at.false) (record { port = c.requires.target.port; here = c.requires.here; ready = c.requires.ready })
+    subst (λ (t : Target). MayArrive c.args.self.now t) (at_input c.args.at c.if-at.false) (record { port = c.requires.target.port; stands = record { here = c.requires.here; whole = (c.requires.typed.0, c.requires.typed.1) }; ready = c.requires.ready })
 
 pub arrive_basic_read-requires-clause-index : goal.arrive_basic_read-requires-clause-index
 arrive_basic_read-requires-clause-index c =
@@ -106,7 +109,7 @@ arrive_basic_read-requires-clause-index c =
     ap (λ (l : Library). slice_get l.blocks c.in-Declared.index) (sym c.library.ensures) ∙ sym c.in-Some-Basic.ensures.value ∙ ap Some c.in-Some-Basic.field-0-is in
     let is : (system_of i).kind (path_at (system_of i) c.args.at.instance) ≡ Some (Basic c.in-Some-Basic.block) = sym c.in-Declared.ensures ∙ ap (option_map kind_of) declared in
     subst (λ (t : Target). MayArrive c.args.self.now t) (at_input c.args.at (basic_input (system_of i) c.args.at _ c.requires.target is))
-    (record { port = c.requires.target.port; here = c.requires.here; ready = c.requires.ready })
+    (record { port = c.requires.target.port; stands = record { here = c.requires.here; whole = (c.requires.typed.0, c.requires.typed.1) }; ready = c.requires.ready })
 
 pub returns-in-Some-Basic-clause-reacted : goal.returns-in-Some-Basic-clause-reacted
 returns-in-Some-Basic-clause-reacted c =

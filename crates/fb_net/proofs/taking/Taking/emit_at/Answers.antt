@@ -27,7 +27,7 @@ returns-clause-emitted c =
     let f = c.args.self.now.forest.now in
     let g = c.publish_all.new.forest in
     let x = c.args.self.now.outbox.now in
-    let lies : sys.resource (path_at sys k) ≡ g.resource = c.requires.index.here ∙ sym c.publish_all.ensures.resource in
+    let lies : sys.resource (path_at sys k) ≡ g.resource = c.requires.index.stands.here ∙ sym c.publish_all.ensures.resource in
     let y : Outbox = record { lines = c.push_reserved.new.self; outs = c.send_out.new.outs; timer = x.timer } in
     let done : Doing i c.args.self.now.key.now k f x e g y = record {
       indexes = indexes;
@@ -41,13 +41,13 @@ returns-clause-emitted c =
       lines = c.push_reserved.ensures.items ∙ ap (λ (ls : List Line). ls ++ line_by c.args.self.now.key.now k e ∷ []) c.in_ok-reserve.ensures.items;
       timer = refl;
     } in
-    has_emitted i c.args.self.now.key.now k f x e g y done c.requires.index.number c.requires.index.here c.requires.index.resource c.args.self.now.named c.requires.emission
+    has_emitted i c.args.self.now.key.now k f x e g y done c.requires.index.number c.requires.index.stands.here c.requires.index.resource c.args.self.now.named c.requires.emission
 
 pub returns-in_err-send_out-clause-kept : goal.returns-in_err-send_out-clause-kept
-returns-in_err-send_out-clause-kept c = kept-changed c.args.self.now.system.now c.args.self.now.forest.now c.publish_all.new.forest c.args.instance _ c.publish_all.ensures c.requires.index.here
+returns-in_err-send_out-clause-kept c = kept-changed c.args.self.now.system.now c.args.self.now.forest.now c.publish_all.new.forest c.args.instance _ c.publish_all.ensures c.requires.index.stands.here
 
 pub returns-in_err-reserve-clause-kept : goal.returns-in_err-reserve-clause-kept
-returns-in_err-reserve-clause-kept c = kept-changed c.args.self.now.system.now c.args.self.now.forest.now c.publish_all.new.forest c.args.instance _ c.publish_all.ensures c.requires.index.here
+returns-in_err-reserve-clause-kept c = kept-changed c.args.self.now.system.now c.args.self.now.forest.now c.publish_all.new.forest c.args.instance _ c.publish_all.ensures c.requires.index.stands.here
 
 pub returns-clause-kept : goal.returns-clause-kept
-returns-clause-kept c = kept-changed c.args.self.now.system.now c.args.self.now.forest.now c.publish_all.new.forest c.args.instance _ c.publish_all.ensures c.requires.index.here
+returns-clause-kept c = kept-changed c.args.self.now.system.now c.args.self.now.forest.now c.publish_all.new.forest c.args.instance _ c.publish_all.ensures c.requires.index.stands.here

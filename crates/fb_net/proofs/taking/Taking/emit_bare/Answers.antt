@@ -29,15 +29,15 @@ returns-clause-emitted c =
       published = nothing_shown i k f;
       sent =
           c.in_ok-send_bare.ensures.sent
-          ∙ ap (λ (r : ℕ). map (out_of sys) x.outs.items ++ spread sys r [] (sys.targets (event_output sys k e.event))) c.requires.index.here;
-      belong = subst (λ (r : ℕ). All (IsOut sys r) x.outs.items → All (IsOut sys r) c.send_bare.new.outs.items) c.requires.index.here c.in_ok-send_bare.ensures.outs;
+          ∙ ap (λ (r : ℕ). map (out_of sys) x.outs.items ++ spread sys r [] (sys.targets (event_output sys k e.event))) c.requires.index.stands.here;
+      belong = subst (λ (r : ℕ). All (IsOut sys r) x.outs.items → All (IsOut sys r) c.send_bare.new.outs.items) c.requires.index.stands.here c.in_ok-send_bare.ensures.outs;
       lines =
           c.push_reserved.ensures.items
           ∙ ap (λ (vs : List Value). c.reserve.new.self.items ++ line_by key k (record { event = c.args.event; values = vs }) ∷ []) c.new-values.ensures
           ∙ ap (λ (ls : List Line). ls ++ line_by key k e ∷ []) c.in_ok-reserve.ensures.items;
       timer = refl;
     } in
-    has_emitted i key k f x e f y done c.requires.index.number c.requires.index.here c.requires.index.resource c.args.self.now.named c.requires.emission
+    has_emitted i key k f x e f y done c.requires.index.number c.requires.index.stands.here c.requires.index.resource c.args.self.now.named c.requires.emission
 
 pub returns-in_err-send_bare-clause-kept : goal.returns-in_err-send_bare-clause-kept
 returns-in_err-send_bare-clause-kept c = kept-same c.args.self.now.system.now c.args.self.now.forest.now

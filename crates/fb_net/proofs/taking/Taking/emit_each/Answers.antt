@@ -1,4 +1,4 @@
-use Rattle.std.proofs.Common.{◌∷◌, [], List, subst, sym}
+use Rattle.std.proofs.Common.{◌∷◌, [], List, subst, sym, arith}
 use Rattle.std.proofs.lemmas.Result.{on_ok_weaker}
 use Rattle.std.specs.Prelude.{All}
 use Rattle.fb_types.specs.Headline.{Inputs, system_of}
@@ -11,9 +11,13 @@ use Rattle.fb_net.proofs.Emitting.{others_fit}
 use Rattle.fb_net.proofs.Same.{emitted-after, kept-after, may-emit-again, still}
 use Rattle.fb_net.proofs.taking.Taking.emit_each.Goals as goal
 
+pub emit_one-requires-clause-emission : goal.emit_one-requires-clause-emission
+emit_one-requires-clause-emission c =
+    subst (λ (es : List Emission). All (IsEmission (ports_in c.args.self.now c.args.instance)) es) c.in-Some.ensures c.requires.emissions 0 c.in-Some.emission (omega arith)
+
 pub emit_others-requires-clause-index : goal.emit_others-requires-clause-index
 emit_others-requires-clause-index c =
-    may-emit-again c.args.self.now c.emit_one.new.self c.args.instance (c.in-Some.emission ∷ []) c.emit_one.ensures.same c.requires.index c.in_ok-emit_one.ensures.emitted
+    may-emit-again c.args.self.now c.emit_one.new.self c.args.instance c.emit_one.ensures.same c.emit_one.ensures.kept c.requires.index
 
 pub emit_others-requires-clause-emissions : goal.emit_others-requires-clause-emissions
 emit_others-requires-clause-emissions c =

@@ -22,7 +22,7 @@ loop-emission-init c = record {
 
 pub emit_one-requires-clause-index : goal.emit_one-requires-clause-index
 emit_one-requires-clause-index c =
-    may-emit-again c.args.self.now c.loop-emission.self c.args.instance c.loop-emission.invariant.done c.loop-emission.invariant.same c.requires.index c.loop-emission.invariant.emitted
+    may-emit-again c.args.self.now c.loop-emission.self c.args.instance c.loop-emission.invariant.same c.loop-emission.invariant.kept c.requires.index
 
 pub emit_one-requires-clause-emission : goal.emit_one-requires-clause-emission
 emit_one-requires-clause-emission c =

@@ -34,7 +34,7 @@ returns-clause-emitted c =
     let g = c.publish.new.self in
     let x = c.args.self.now.outbox.now in
     let y : Outbox = record { lines = c.push_reserved.new.self; outs = c.send_out.new.outs; timer = x.timer } in
-    let lies : sys.resource (path_at sys k) ≡ g.resource = c.requires.index.here ∙ sym c.publish.ensures.resource in
+    let lies : sys.resource (path_at sys k) ≡ g.resource = c.requires.index.stands.here ∙ sym c.publish.ensures.resource in
     let one : c.from_ref.result.now ≡ c.args.value.now ∷ [] = first_of (cc, search rules, search (rules, c.from_ref.ensures.value), grind (arith, common_steps)) in
     let done : Doing i key k f x e g y = record {
       indexes = indexes;
@@ -53,14 +53,14 @@ returns-clause-emitted c =
           ∙ ap (λ (ls : List Line). ls ++ line_by key k e ∷ []) c.in_ok-reserve.ensures.items;
       timer = refl;
     } in
-    has_emitted i key k f x e g y done c.requires.index.number c.requires.index.here c.requires.index.resource c.args.self.now.named
+    has_emitted i key k f x e g y done c.requires.index.number c.requires.index.stands.here c.requires.index.resource c.args.self.now.named
     (record { event = c.requires.event; values = ap length c.requires.indexes.named })
 
 pub returns-in_err-send_out-clause-kept : goal.returns-in_err-send_out-clause-kept
-returns-in_err-send_out-clause-kept c = kept-changed c.args.self.now.system.now c.args.self.now.forest.now c.publish.new.self c.args.instance _ c.publish.ensures c.requires.index.here
+returns-in_err-send_out-clause-kept c = kept-changed c.args.self.now.system.now c.args.self.now.forest.now c.publish.new.self c.args.instance _ c.publish.ensures c.requires.index.stands.here
 
 pub returns-in_err-reserve-clause-kept : goal.returns-in_err-reserve-clause-kept
-returns-in_err-reserve-clause-kept c = kept-changed c.args.self.now.system.now c.args.self.now.forest.now c.publish.new.self c.args.instance _ c.publish.ensures c.requires.index.here
+returns-in_err-reserve-clause-kept c = kept-changed c.args.self.now.system.now c.args.self.now.forest.now c.publish.new.self c.args.instance _ c.publish.ensures c.requires.index.stands.here
 
 pub returns-clause-kept : goal.returns-clause-kept
-returns-clause-kept c = kept-changed c.args.self.now.system.now c.args.self.now.forest.now c.publish.new.self c.args.instance _ c.publish.ensures c.requires.index.here
+returns-clause-kept c = kept-changed c.args.self.now.system.now c.args.self.now.forest.now c.publish.new.self c.args.instance _ c.publish.ensures c.requires.index.stands.here

@@ -30,7 +30,7 @@ returns-clause-entered c =
     (λ sent. enters a.system.now a.key.now c.args.at a.forest.now b.forest.now a.outbox.now b.outbox.now _
     c.in_ok-take_with.ensures.taken ready refl refl (already (λ (i : Inputs) (k : Key). sent-of i b.forest.now.resource c.args.at b.outbox.now.outs.items c.send_out.new.outs.items) a b same
     (subst (λ (r : ℕ). sent-of b.system.now r c.args.at b.outbox.now.outs.items c.send_out.new.outs.items)
-    (still (λ (i : Inputs) (k : Key). InForest i b.forest.now c.args.at.instance) a b same (c.requires.index.here ∙ sym c.take_with.ensures.kept.resource)) sent)))
+    (still (λ (i : Inputs) (k : Key). InForest i b.forest.now c.args.at.instance) a b same (c.requires.index.stands.here ∙ sym c.take_with.ensures.kept.resource)) sent)))
     c.send_out.ensures.sent
 
 pub returns-clause-outs : goal.returns-clause-outs
@@ -38,7 +38,7 @@ returns-clause-outs c =
     let a = c.args.self.now in
     let b = c.take_with.new.self in
     let same = c.take_with.ensures.same in
-    let lies = still (λ (i : Inputs) (k : Key). InForest i b.forest.now c.args.at.instance) a b same (c.requires.index.here ∙ sym c.take_with.ensures.kept.resource) in
+    let lies = still (λ (i : Inputs) (k : Key). InForest i b.forest.now c.args.at.instance) a b same (c.requires.index.stands.here ∙ sym c.take_with.ensures.kept.resource) in
     on_ok_weaker c.send_out.result
     (λ outs. put-out-after a b b.forest.now (record b.outbox.now { outs = c.send_out.new.outs }) same c.in_ok-take_with.ensures.outs
     (λ were. record {

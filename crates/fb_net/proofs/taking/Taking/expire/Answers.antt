@@ -26,7 +26,7 @@ emit_all-requires-clause-index c =
     let resource = sym c.expire_event.ensures.resource in
     record {
       number = c.requires.instance;
-      here = c.requires.here ∙ resource;
+      stands = record { here = c.requires.here ∙ resource; whole = c.expire_event.ensures.whole };
       resource = c.requires.ready.resource ∙ resource;
     }
 

@@ -20,7 +20,7 @@ returns-clause-left c =
     let value = c.shown_inside_from.result.now in
     on_ok_weaker c.emit_value.result
     (λ well. leaves i c.args.self.now.key.now at f c.emit_value.new.self.forest.now c.args.self.now.outbox.now c.emit_value.new.self.outbox.now (value ∷ [])
-    (record { event = at.event; values = value ∷ [] } ∷ []) c.requires.index.ready c.requires.output c.requires.index.here
+    (record { event = at.event; values = value ∷ [] } ∷ []) c.requires.index.ready c.requires.output c.requires.index.stands.here
     (one-shown i f at (c.args.variable ∷ []) value (value ∷ []) c.requires.represents refl c.shown_inside_from.ensures refl) refl well.emitted)
     c.emit_value.ensures.emitted
 

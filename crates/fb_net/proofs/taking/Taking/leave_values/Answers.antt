@@ -10,7 +10,7 @@ returns-clause-left c =
     on_ok_weaker c.emit_at.result
     (λ well. leaves c.args.self.now.system.now c.args.self.now.key.now at c.args.self.now.forest.now c.emit_at.new.self.forest.now c.args.self.now.outbox.now c.emit_at.new.self.outbox.now c.in_ok-values.values
     (record { event = c.args.event; values = c.in_ok-values.values } ∷ [])
-    c.requires.index.ready refl c.requires.index.here c.in_ok-values.ensures.shown refl well.emitted)
+    c.requires.index.ready refl c.requires.index.stands.here c.in_ok-values.ensures.shown refl well.emitted)
     c.emit_at.ensures.emitted
 
 pub returns-clause-outs : goal.returns-clause-outs

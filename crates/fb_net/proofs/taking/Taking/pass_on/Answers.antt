@@ -30,7 +30,7 @@ write_taken-requires-clause-line c =
 
 pub emit_bare-requires-clause-index : goal.emit_bare-requires-clause-index
 emit_bare-requires-clause-index c =
-    record { number = c.requires.index.port.instance; here = c.requires.index.here; resource = c.requires.index.ready.resource }
+    record { number = c.requires.index.port.instance; stands = c.requires.index.stands; resource = c.requires.index.ready.resource }
 
 pub emit_bare-requires-clause-emission : goal.emit_bare-requires-clause-emission
 emit_bare-requires-clause-emission c =
@@ -49,11 +49,11 @@ returns-clause-reacted c =
     let passes = c.requires.passes in
     let sampled = nothing_sampled i f c.args.kind at c.args.event passes c.requires.kind values c.new-values.ensures in
     let kept = samples_none i f at.instance (names_in (system_of i) at) values (ap length c.new-values.ensures) in
-    let taken = sampling-represents i k at f f x y values c.requires.index.ready c.requires.input c.requires.index.here sampled kept
+    let taken = sampling-represents i k at f f x y values c.requires.index.ready c.requires.input c.requires.index.stands.here sampled kept
     c.in_ok-write_taken.ensures.written c.write_taken.ensures.outs c.write_taken.ensures.timer in
     on_ok_weaker c.emit_bare.result
     (λ well. event-reacts i k c.args.kind at c.requires.kind c.requires.input f f f c.emit_bare.new.self.forest.now x y c.emit_bare.new.self.outbox.now Keep (bare c.args.event ∷ []) taken
-    c.requires.index.here (passed_came i f c.args.kind at c.args.event passes c.requires.kind c.requires.index.port.instance k.tick) well.emitted)
+    c.requires.index.stands.here (passed_came i f c.args.kind at c.args.event passes c.requires.kind c.requires.index.port.instance k.tick) well.emitted)
     c.emit_bare.ensures.emitted
 
 pub returns-clause-outs : goal.returns-clause-outs

@@ -34,7 +34,7 @@ react_event-requires-clause-typed c =
     let b = c.take_samples.new.self in
     still (λ (i : Inputs) (k : Key). (w : World) × IsForest i b.forest.now w × InForest i b.forest.now c.args.at.instance × HasTypedInputs i c.args.kind c.args.at.instance w) a b c.take_samples.ensures.same
     (event-typed a.system.now a.key.now c.args.kind c.args.at c.requires.kind c.requires.input a.forest.now b.forest.now
-    a.outbox.now b.outbox.now c.in_ok-take_samples.ensures.taken c.requires.sound c.requires.typed (c.requires.index.here ∙ sym c.take_samples.ensures.kept.resource))
+    a.outbox.now b.outbox.now c.in_ok-take_samples.ensures.taken c.requires.sound c.requires.typed (c.requires.index.stands.here ∙ sym c.take_samples.ensures.kept.resource))
 
 pub emit_all-requires-clause-index : goal.emit_all-requires-clause-index
 emit_all-requires-clause-index c =
@@ -45,7 +45,10 @@ emit_all-requires-clause-index c =
     let resource = sym c.react_event.ensures.resource in
     record {
       number = still (λ (i : Inputs) (k : Key). c.args.at.instance < length (system_of i).paths) a b c.take_samples.ensures.same c.requires.index.port.instance;
-      here = still (λ (i : Inputs) (k : Key). InForest i g c.args.at.instance) a b c.take_samples.ensures.same (c.requires.index.here ∙ sym c.take_samples.ensures.kept.resource ∙ resource);
+      stands = record {
+        here = still (λ (i : Inputs) (k : Key). InForest i g c.args.at.instance) a b c.take_samples.ensures.same (c.requires.index.stands.here ∙ sym c.take_samples.ensures.kept.resource ∙ resource);
+        whole = c.react_event.ensures.whole;
+      };
       resource = ready.resource ∙ resource;
     }
 
@@ -67,7 +70,7 @@ returns-clause-reacted c =
     let emits = c.react_event.new.emits in
     let same = c.take_samples.ensures.same in
     event-reacts a.system.now a.key.now c.args.kind at c.requires.kind c.requires.input a.forest.now b.forest.now late z.forest.now a.outbox.now b.outbox.now z.outbox.now ask emits
-    c.in_ok-take_samples.ensures.taken (c.requires.index.here ∙ sym c.take_samples.ensures.kept.resource)
+    c.in_ok-take_samples.ensures.taken (c.requires.index.stands.here ∙ sym c.take_samples.ensures.kept.resource)
     (already (λ (i : Inputs) (k : Key). (w : World) → IsForest i b.forest.now w → InForest i b.forest.now at.instance → EventCame i at.instance c.args.kind (taken_reaction i c.args.kind at k.tick w) late ask emits w) a b same
     c.in_ok-react_event.ensures.reacted)
     (already (λ (i : Inputs) (k : Key). EmitsSo i k at.instance late (record b.outbox.now { timer = asked b.outbox.now.timer ask }) emits z.forest.now z.outbox.now) a b same

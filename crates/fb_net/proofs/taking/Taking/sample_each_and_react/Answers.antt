@@ -16,7 +16,7 @@ returns-clause-reacted c =
     let ended = subst (λ (vs : List Value). ChartEnded i c.args.self.now.forest.now at c.args.block.now vs c.args.meter.now.left end.result end.new.forest end.new.meter.left end.new.emits)
     c.as_slice.ensures end.ensures.reacted in
     chart-reacts i c.args.self.now.key.now at c.args.block.now c.requires.kind refl c.args.self.now.forest.now end.new.forest c.write_and_emit.new.self.forest.now
-    c.args.self.now.outbox.now c.write_and_emit.new.self.outbox.now c.requires.index.ready c.requires.index.here c.in_ok-values.values c.in_ok-values.ensures.sampled c.args.meter.now.left end.new.meter.left end.new.emits
+    c.args.self.now.outbox.now c.write_and_emit.new.self.outbox.now c.requires.index.ready c.requires.index.stands.here c.in_ok-values.values c.in_ok-values.ensures.sampled c.args.meter.now.left end.new.meter.left end.new.emits
     c.in_ok-write_and_emit.ensures.wrote end.result ended
 
 pub returns-in_err-values-clause-kept : goal.returns-in_err-values-clause-kept
@@ -45,7 +45,7 @@ write_and_emit-requires-clause-index c =
     let same = c.react_basic-end.ensures.resource in
     record {
       port = index.port;
-      here = index.here ∙ sym same;
+      stands = record { here = index.stands.here ∙ sym same; whole = c.react_basic-end.ensures.whole };
       ready = record { resource = index.ready.resource ∙ sym same };
     }
 

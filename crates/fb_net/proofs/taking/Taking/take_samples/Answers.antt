@@ -23,7 +23,7 @@ returns-then-is_empty-clause-taken c =
     let kept = samples_none i f at.instance (names_in (system_of i) at) c.new-values.result (ap length c.new-values.ensures) in
     on_ok_weaker c.write_taken.result
     (λ written. sampling-represents i c.args.self.now.key.now at f f c.args.self.now.outbox.now c.write_taken.new.outbox c.new-values.result
-    c.requires.index.ready c.requires.input c.requires.index.here sampled kept written c.write_taken.ensures.outs c.write_taken.ensures.timer)
+    c.requires.index.ready c.requires.input c.requires.index.stands.here sampled kept written c.write_taken.ensures.outs c.write_taken.ensures.timer)
     c.write_taken.ensures.written
 
 pub returns-then-is_empty-clause-kept : goal.returns-then-is_empty-clause-kept

@@ -1,4 +1,4 @@
-use Rattle.fb_net.proofs.ByEvent.{stimulus-kept, stimulus-taken, stimulus-typed}
+use Rattle.fb_net.proofs.ByEvent.{stimulus-kept, stimulus-lies, stimulus-taken, stimulus-typed}
 use Rattle.fb_net.specs.Outs.{StillAreOuts}
 use Rattle.fb_net.proofs.PutOut.{blocks-changed, remembered-then}
 use Rattle.fb_net.proofs.Wholes.{kept-then}
@@ -8,6 +8,14 @@ pub arrive-requires-clause-typed : goal.arrive-requires-clause-typed
 arrive-requires-clause-typed c =
     stimulus-typed c.args.self.now.system.now c.args.self.now.key.now c.args.row c.stimulus-stimulus.result c.stimulus-stimulus.ensures c.args.self.now.forest.now c.set_slots.new.forest
     c.set_slots.ensures c.requires.event.here c.requires.belongs c.requires.typed
+
+pub set_slots-requires-clause-stands : goal.set_slots-requires-clause-stands
+set_slots-requires-clause-stands c = record {
+  here =
+      stimulus-lies c.args.self.now.system.now c.args.row c.stimulus-stimulus.result c.stimulus-stimulus.ensures c.args.self.now.forest.now
+      c.requires.event.here;
+  whole = (c.requires.belongs.0, c.requires.belongs.1);
+}
 
 pub returns-clause-taken : goal.returns-clause-taken
 returns-clause-taken c =

@@ -47,12 +47,12 @@ returns-clause-taken c =
     let sampled = one-sampled i f at (c.args.variable ∷ []) value values c.requires.represents refl c.sampled_from-value.ensures is in
     on_ok_weaker c.write_taken.result
     (λ written. sampling-represents i c.args.self.now.key.now at f g c.args.self.now.outbox.now c.write_taken.new.outbox values
-    c.requires.index.ready c.requires.input c.requires.index.here sampled changes written c.write_taken.ensures.outs c.write_taken.ensures.timer)
+    c.requires.index.ready c.requires.input c.requires.index.stands.here sampled changes written c.write_taken.ensures.outs c.write_taken.ensures.timer)
     c.write_taken.ensures.written
 
 pub returns-clause-kept : goal.returns-clause-kept
 returns-clause-kept c =
-    kept-changed c.args.self.now.system.now c.args.self.now.forest.now c.set_input.new.self c.args.at.instance _ c.set_input.ensures c.requires.index.here
+    kept-changed c.args.self.now.system.now c.args.self.now.forest.now c.set_input.new.self c.args.at.instance _ c.set_input.ensures c.requires.index.stands.here
 
 pub returns-clause-outs : goal.returns-clause-outs
 returns-clause-outs c =

@@ -22,7 +22,7 @@ returns-clause-taken c =
     let kept = subst (λ (vs : List Value). Changes i c.args.self.now.forest.now at.instance (all_sampled (names_in (system_of i) at) vs) c.keep_samples.new.forest) c.as_slice.ensures c.keep_samples.ensures in
     on_ok_weaker c.write_taken.result
     (λ written. sampling-represents i c.args.self.now.key.now at c.args.self.now.forest.now c.keep_samples.new.forest c.args.self.now.outbox.now c.write_taken.new.outbox c.in_ok-values.values
-    c.requires.index.ready refl c.requires.index.here c.in_ok-values.ensures.sampled kept written c.write_taken.ensures.outs c.write_taken.ensures.timer)
+    c.requires.index.ready refl c.requires.index.stands.here c.in_ok-values.ensures.sampled kept written c.write_taken.ensures.outs c.write_taken.ensures.timer)
     c.write_taken.ensures.written
 
 pub returns-in_err-values-clause-kept : goal.returns-in_err-values-clause-kept
@@ -31,7 +31,7 @@ returns-in_err-values-clause-kept c =
 
 pub returns-clause-kept : goal.returns-clause-kept
 returns-clause-kept c =
-    kept-changed c.args.self.now.system.now c.args.self.now.forest.now c.keep_samples.new.forest c.args.instance _ c.keep_samples.ensures c.requires.index.here
+    kept-changed c.args.self.now.system.now c.args.self.now.forest.now c.keep_samples.new.forest c.args.instance _ c.keep_samples.ensures c.requires.index.stands.here
 
 pub returns-clause-outs : goal.returns-clause-outs
 returns-clause-outs c =
