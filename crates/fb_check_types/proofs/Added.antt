@@ -1,7 +1,7 @@
 -- Lists to which functions add, one after another.
-use Rattle.std.proofs.Common.{◌≡◌, ℕ, ◌+◌, ◌<◌, ◌≤◌, List, [], ◌∷◌, ◌++◌, drop, get_or, length, Result, Ok, Err, append_assoc, sym, ◌∙◌, ap}
+use Rattle.std.proofs.Common.{◌≡◌, ℕ, ◌+◌, ◌<◌, ◌≤◌, List, [], ◌∷◌, ◌++◌, drop, get_or, length, map, Result, Ok, Err, append_assoc, sym, ◌∙◌, ap}
 use Rattle.std.specs.Prelude.{IfOk}
-use Rattle.std.proofs.lemmas.List.{append-nil, at_drop_all, at_drop_more}
+use Rattle.std.proofs.lemmas.List.{append-nil, at_drop_all, at_drop_more, map-append}
 use Rattle.std.proofs.lemmas.Result.{IfOk-equal}
 
 -- what two calls add
@@ -13,6 +13,12 @@ pub then_added :
     {X T E : Type 0} (r : Result T E) (a b c p q w : List X) → w ≡ p ++ q → b ≡ a ++ p → IfOk r (λ _. c ≡ b ++ q) → IfOk r (λ _. c ≡ a ++ w)
 then_added {X} r a b c p q w shown first last =
     IfOk-equal r c (b ++ q) (a ++ w) last (ap (λ (xs : List X). xs ++ q) first ∙ append_assoc a p q ∙ ap (λ (xs : List X). a ++ xs) (sym shown))
+
+-- what each item means is added with the item
+pub meaning_added :
+    {A X T E : Type 0} (r : Result T E) (f : A → X) (old new : List A) (x : A) → IfOk r (λ _. new ≡ old ++ (x ∷ [])) → IfOk r (λ _. map f new ≡ map f old ++ (f x ∷ []))
+meaning_added (Ok y) f old new x added = ap (map f) added ∙ map-append f old (x ∷ [])
+meaning_added (Err e) f old new x added = tt
 
 -- one call alone
 pub all_added : {X T E : Type 0} (r : Result T E) (a c q w : List X) → w ≡ q → IfOk r (λ _. c ≡ a ++ q) → IfOk r (λ _. c ≡ a ++ w)

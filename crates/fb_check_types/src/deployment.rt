@@ -54,9 +54,10 @@ pub fn held_of(
 fn link_between(from: Option<usize>, to: Option<usize>) -> Option<LinkEnds>
     ensures { result ≡ option_and_then (λ x. option_map (λ y. record { from = x; to = y }) to) from }
 {
-    let from = from?;
-    let to = to?;
-    Some(LinkEnds { from, to })
+    match (from, to) {
+        (Some(from), Some(to)) => Some(LinkEnds { from, to }),
+        _ => None,
+    }
 }
 
 /// Adds the resources of a link, or those of its ends that are no resources.

@@ -136,9 +136,10 @@ fn connection_between(
 ) -> Option<NumberedConnection>
     ensures { result ≡ both_ends from to }
 {
-    let from = from?;
-    let to = to?;
-    Some(NumberedConnection { from, to })
+    match (from, to) {
+        (Some(from), Some(to)) => Some(NumberedConnection { from, to }),
+        _ => None,
+    }
 }
 
 fn end(site: Site, flow: FlowKind, connection: usize, side: Side) -> UnknownName

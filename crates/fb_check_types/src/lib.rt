@@ -9,9 +9,9 @@
 //! `laws` and `kind_laws` the number applies if a location is listed. `statements::all_statements` lists the statements
 //! of an algorithm as they begin in the text.
 //!
-//! Read in this order: `interface` and `scope`, the meaning of names; `mentions`, `charts` and `basics`, names in basic
-//! types; `there`, `ends` and `networks`, networks; `blocks` and `deployment`; `resolution`; `laws`. Then
-//! `value_kinds`, kinds; `variables`; `statements`, `misfits`; `kind_laws`.
+//! Read in this order: `interface` and `scope`, the meaning of names; `there`, items added to lists; `mentions`,
+//! `charts` and `basics`, names in basic types; `ends` and `networks`, networks; `blocks` and `deployment`;
+//! `resolution`; `laws`. Then `value_kinds`, kinds; `variables`; `statements`, `misfits`; `kind_laws`.
 #![tactic(auto)]
 
 mod basics;

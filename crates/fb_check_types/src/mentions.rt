@@ -7,6 +7,7 @@ ghost use Rattle.fb_check_types.specs.Trees.{all_of, arguments_of, branches_of, 
 ghost use Rattle.fb_check_types.specs.Mentions.{meant, meant_all, mentions_of_control, mentions_of_step};
 
 use crate::scope::Scope;
+use crate::there::push_one;
 use fb_types::{Body, Branch, Choice, Expr, Function, Name, Reference, Stmt};
 use std::alloc::{AllocError, Global};
 
@@ -21,8 +22,7 @@ pub enum Mention<'a> {
 fn push_mention<'a>(all: &mut Vec<Mention<'a>>, mention: Mention<'a>) -> Result<(), AllocError>
     ensures { IfOk result (λ _. meant_all all.new.items ≡ meant_all all.old.items ++ (meant mention.entry ∷ [])) }
 {
-    all.push(mention)?;
-    Ok(())
+    push_one(all, mention)
 }
 
 /// Adds what an expression names, in the order of the text.

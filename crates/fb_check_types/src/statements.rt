@@ -9,6 +9,7 @@ ghost use Rattle.fb_check_names.specs.Listed.{each_at, unless};
 ghost use Rattle.fb_check_types.specs.MisfitLists.{misfits_in_body, misfits_in_statement, part_at, wrong_choices, wrong_control, wrong_parts};
 ghost use Rattle.fb_check_types.specs.Statements.{all_standing, each_in_body, each_in_branches, each_in_choices, each_inside, standing_of};
 
+use crate::there::push_one;
 use crate::{
     Scope, Typing, are_same, is_condition, is_step_whole, is_value_kind, is_whole,
     value_kind_of_type,
@@ -34,8 +35,7 @@ fn push_standing<'a>(
 ) -> Result<(), AllocError>
     ensures { IfOk result (λ _. all_standing all.new.items ≡ all_standing all.old.items ++ ((in_loop, stmt_of statement.now) ∷ [])) }
 {
-    all.push(Standing { statement, in_loop })?;
-    Ok(())
+    push_one(all, Standing { statement, in_loop })
 }
 
 /// Adds statements, including those inside them, in the order in which they begin in the text.

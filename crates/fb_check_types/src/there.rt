@@ -1,10 +1,18 @@
-//! Lists of numbers, without those that are not there.
+//! Items added to lists.
 
-ghost use Rattle.std.specs.Prelude.{◌≡◌, ◌++◌, IfOk};
+ghost use Rattle.std.specs.Prelude.{◌≡◌, ◌∷◌, ◌++◌, [], IfOk};
 ghost use Rattle.fb_check_types.specs.There.{some_of};
 
 use fb_types::Items;
 use std::alloc::AllocError;
+
+/// Adds an item.
+pub(crate) fn push_one<T: Copy>(all: &mut Vec<T>, item: T) -> Result<(), AllocError>
+    ensures { IfOk result (λ _. all.new.items ≡ all.old.items ++ (item ∷ [])) }
+{
+    all.push(item)?;
+    Ok(())
+}
 
 /// Adds an item, if it is there.
 pub(crate) fn push_some<T: Copy>(items: &mut Items<T>, item: Option<T>) -> Result<(), AllocError>

@@ -52,25 +52,28 @@ fn are_whole(left: ValueKind, right: ValueKind) -> bool
     are_same(left, ValueKind::WholeNumber) && are_same(right, ValueKind::WholeNumber)
 }
 
-/// The kind of a unary operator's value, or `None` if the operand has another kind.
-fn unary_value_kind(operator: UnaryOperator, operand: ValueKind) -> Option<ValueKind>
-    ensures { result ≡ unary_value_kind operator operand }
+/// The kind of a unary operator's value, or `None` if the operand has none or another one.
+fn unary_value_kind(operator: UnaryOperator, operand: Option<ValueKind>) -> Option<ValueKind>
+    ensures { result ≡ option_and_then (unary_value_kind operator) operand }
 {
     match (operator, operand) {
-        (UnaryOperator::Negate, ValueKind::WholeNumber) => Some(ValueKind::WholeNumber),
-        (UnaryOperator::Not, ValueKind::TruthValue) => Some(ValueKind::TruthValue),
+        (UnaryOperator::Negate, Some(ValueKind::WholeNumber)) => Some(ValueKind::WholeNumber),
+        (UnaryOperator::Not, Some(ValueKind::TruthValue)) => Some(ValueKind::TruthValue),
         _ => None,
     }
 }
 
-/// The kind of a binary operator's value, or `None` if the operands have other kinds.
+/// The kind of a binary operator's value, or `None` if the operands have none or other ones.
 fn binary_value_kind(
     operator: BinaryOperator,
-    left: ValueKind,
-    right: ValueKind,
+    left: Option<ValueKind>,
+    right: Option<ValueKind>,
 ) -> Option<ValueKind>
-    ensures { result ≡ binary_value_kind operator left right }
+    ensures { result ≡ option_and_then (λ x. option_and_then (binary_value_kind operator x) right) left }
 {
+    let (Some(left), Some(right)) = (left, right) else {
+        return None;
+    };
     let (are_right, value_kind) = match operator {
         BinaryOperator::Or | BinaryOperator::Xor | BinaryOperator::And => {
             (are_truths(left, right), ValueKind::TruthValue)
@@ -91,20 +94,28 @@ fn binary_value_kind(
     if are_right { Some(value_kind) } else { None }
 }
 
-/// The kind of a function's value with one argument, or `None` if it takes another number of arguments or another kind.
-fn value_kind_of_one(function: Function, argument: ValueKind) -> Option<ValueKind>
-    ensures { result ≡ function_value_kind function (argument ∷ []) }
+/// The kind of a function's value with one argument, or `None` if it takes another number of arguments, or if the
+/// argument has no kind or another one.
+fn value_kind_of_one(function: Function, argument: Option<ValueKind>) -> Option<ValueKind>
+    ensures { result ≡ option_and_then (λ x. function_value_kind function (x ∷ [])) argument }
 {
     match (function, argument) {
-        (Function::Abs, ValueKind::WholeNumber) => Some(ValueKind::WholeNumber),
+        (Function::Abs, Some(ValueKind::WholeNumber)) => Some(ValueKind::WholeNumber),
         _ => None,
     }
 }
 
 /// The same with two arguments.
-fn value_kind_of_two(function: Function, first: ValueKind, second: ValueKind) -> Option<ValueKind>
-    ensures { result ≡ function_value_kind function (first ∷ second ∷ []) }
+fn value_kind_of_two(
+    function: Function,
+    first: Option<ValueKind>,
+    second: Option<ValueKind>,
+) -> Option<ValueKind>
+    ensures { result ≡ option_and_then (λ x. option_and_then (λ y. function_value_kind function (x ∷ y ∷ [])) second) first }
 {
+    let (Some(first), Some(second)) = (first, second) else {
+        return None;
+    };
     match function {
         Function::Min | Function::Max if are_whole(first, second) => Some(ValueKind::WholeNumber),
         _ => None,
@@ -114,12 +125,15 @@ fn value_kind_of_two(function: Function, first: ValueKind, second: ValueKind) ->
 /// The same with three arguments.
 fn value_kind_of_three(
     function: Function,
-    first: ValueKind,
-    second: ValueKind,
-    third: ValueKind,
+    first: Option<ValueKind>,
+    second: Option<ValueKind>,
+    third: Option<ValueKind>,
 ) -> Option<ValueKind>
-    ensures { result ≡ function_value_kind function (first ∷ second ∷ third ∷ []) }
+    ensures { result ≡ option_and_then (λ x. option_and_then (λ y. option_and_then (λ z. function_value_kind function (x ∷ y ∷ z ∷ [])) third) second) first }
 {
+    let (Some(first), Some(second), Some(third)) = (first, second, third) else {
+        return None;
+    };
     match (function, first) {
         (Function::Limit, ValueKind::WholeNumber) if are_whole(second, third) => Some(
             ValueKind::WholeNumber,
@@ -139,14 +153,14 @@ pub fn value_kind_of<T: Typing>(expr: &Expr, typing: &T) -> Option<ValueKind>
         Expr::Truth(_) => Some(ValueKind::TruthValue),
         Expr::Variable(variable) => Some(value_kind_of_type(typing.type_of(variable.name()))),
         Expr::Group(inner) => value_kind_of(inner.get(), typing),
-        Expr::Unary(operator, operand) => unary_value_kind(
-            *operator,
-            value_kind_of(operand.get(), typing)?,
-        ),
-        Expr::Binary(operator, left, right) => {
-            let first = value_kind_of(left.get(), typing)?;
-            binary_value_kind(*operator, first, value_kind_of(right.get(), typing)?)
+        Expr::Unary(operator, operand) => {
+            unary_value_kind(*operator, value_kind_of(operand.get(), typing))
         }
+        Expr::Binary(operator, left, right) => binary_value_kind(
+            *operator,
+            value_kind_of(left.get(), typing),
+            value_kind_of(right.get(), typing),
+        ),
         Expr::Call(name, arguments) => {
             value_kind_of_call(Function::named(name)?, arguments.as_slice(), typing)
         }
@@ -162,16 +176,18 @@ fn value_kind_of_call<T: Typing>(
     ensures { result ≡ option_and_then (function_value_kind function) (value_kinds_of (T.types typing.now) (arguments_of arguments.now)) }
 {
     match arguments {
-        [one] => value_kind_of_one(function, value_kind_of(one, typing)?),
-        [one, two] => {
-            let first = value_kind_of(one, typing)?;
-            value_kind_of_two(function, first, value_kind_of(two, typing)?)
-        }
-        [one, two, three] => {
-            let first = value_kind_of(one, typing)?;
-            let second = value_kind_of(two, typing)?;
-            value_kind_of_three(function, first, second, value_kind_of(three, typing)?)
-        }
+        [one] => value_kind_of_one(function, value_kind_of(one, typing)),
+        [one, two] => value_kind_of_two(
+            function,
+            value_kind_of(one, typing),
+            value_kind_of(two, typing),
+        ),
+        [one, two, three] => value_kind_of_three(
+            function,
+            value_kind_of(one, typing),
+            value_kind_of(two, typing),
+            value_kind_of(three, typing),
+        ),
         // Every function has one to three arguments.
         _ => None,
     }
