@@ -1,4 +1,5 @@
 pub mod Steps
+pub mod Passing
 pub mod Named
 mod ClauseSteps
 mod StatementSteps

@@ -1,4 +1,4 @@
--- One turn of a loop that reads up to a position.
+-- One iteration of a loop that reads up to a position.
 use Rattle.std.proofs.Common.{Bool, Err, List, Ok, [], ap, arith, cond, eqb, false, refl, subst, suc, sym, true, zero, ℕ, ◌-◌, ◌||◌, ◌∙◌, ◌∷◌, ◌≡◌, ◌≤◌}
 use Rattle.fb_read.specs.Parser.{Parser, Outcome, Reads, and_then, sees_name, rest_of, syntax}
 use Rattle.fb_read.specs.Statements.{begins_statement}

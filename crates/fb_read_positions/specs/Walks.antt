@@ -5,7 +5,7 @@ use Rattle.fb_read.specs.declared.token.Mark.{Mark}
 use Rattle.fb_read.specs.declared.token.Mark.TheVariants as mark
 use Rattle.fb_read.specs.declared.token.Token.TheVariants as token
 use Rattle.fb_read.specs.Tokens.{Tokens}
-use Rattle.fb_read.specs.Parser.{Parser, Outcome, and_then, ◌>>=◌, ◌>>◌, pure, syntax, sees, eat, expect, name, name_if, ty_name, word, optional, many, section, run_after}
+use Rattle.fb_read.specs.Parser.{Parser, Outcome, and_then, ◌>>=◌, ◌>>◌, pure, syntax, sees, sees_name, rest_of, eat, expect, name, name_if, ty_name, word, optional, many, section, run_after}
 use Rattle.fb_read.specs.Network.{application, connection, constant, instance, parameter, port}
 use Rattle.fb_read.specs.Ports.{event, ports, variables}
 use Rattle.fb_read.specs.Charts.{action, algorithm, state, states, transition, transitions}
@@ -49,6 +49,10 @@ abbrev pub skip : {A : Type 0} → Parser A → Walk
 skip item = λ ts. passed (item ts)
 
 -- ---- Steps
+
+-- the tokens after a name, if it is next
+abbrev pub after_name : Tokens → Tokens
+after_name ts = if sees_name ts then rest_of ts else ts
 
 -- the application, if it is next
 abbrev pub past_application : Walk
@@ -332,11 +336,15 @@ to_first_inner inner_list.GuardMentions = to_guard
 abbrev pub pass_separated : Step → ℕ → Walk
 pass_separated item n = pass (item ∷ step.Mark mark.Comma ∷ []) n
 
+-- this many actions, each with the comma after it
+abbrev pub pass_actions : ℕ → Walk
+pass_actions n = pass_separated step.Action n
+
 -- from the first item up to the item at an index
 abbrev pub pass_inner : InnerList → ℕ → Walk
 pass_inner inner_list.With n = pass_separated step.Name n
 pass_inner inner_list.Parameters n = pass_separated step.Parameter n
-pass_inner inner_list.Actions n = pass_separated step.Action n
+pass_inner inner_list.Actions n = pass_actions n
 pass_inner inner_list.Statements n = λ ts. to_statement ts true n
 pass_inner inner_list.Mentions n = λ ts. to_name ts n
 pass_inner inner_list.GuardMentions n = λ ts. to_name ts n

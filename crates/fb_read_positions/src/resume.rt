@@ -12,7 +12,7 @@ use crate::clauses::clause_left;
 use crate::lists::{InnerList, Item, ItemList, OuterList, is_same, item_of, owner_of};
 use crate::position::Position;
 use crate::statements::statement_left;
-use crate::step::{Step, pass, take_all, to_name};
+use crate::step::{Step, pass, pass_actions, take_all, to_name};
 use crate::walk::{past_outer, to_first, to_part};
 use fb_read::cursor::Cursor;
 use fb_read::fault::ParseFault;
@@ -163,6 +163,22 @@ fn left_past(
     Ok(Some(cursor.left()))
 }
 
+/// The number of tokens that are left at an action, this many actions after the one with which these tokens begin.
+fn left_past_actions(
+    alloc: Global,
+    tokens: &[Located],
+    count: usize,
+) -> Result<Option<usize>, AllocError>
+    requires { length tokens.now ≤ most_bytes }
+    ensures { IfOk result (λ o. IfSome o (Leaves (spec.pass_actions count) tokens.now)) }
+{
+    let mut cursor = Cursor::new(alloc, tokens);
+    if !is_read(pass_actions(&mut cursor, count))? {
+        return Ok(None);
+    }
+    Ok(Some(cursor.left()))
+}
+
 /// The number of tokens that are left at the name at an index among the names in these tokens.
 fn left_at_name(
     alloc: Global,
@@ -194,7 +210,7 @@ fn left_past_inner(
     match list {
         InnerList::With => left_past(alloc, tokens, &[Step::Name, comma], count),
         InnerList::Parameters => left_past(alloc, tokens, &[Step::Parameter, comma], count),
-        InnerList::Actions => left_past(alloc, tokens, &[Step::Action, comma], count),
+        InnerList::Actions => left_past_actions(alloc, tokens, count),
         InnerList::Statements => Ok(statement_left(alloc, tokens, count)),
         InnerList::Mentions | InnerList::GuardMentions => left_at_name(alloc, tokens, count),
     }

@@ -1,7 +1,8 @@
 //! The steps of which a way to a position is made. They read what is before the position, and keep nothing of it.
 
 ghost use Rattle.std.specs.Prelude.{◌≡◌};
-ghost use Rattle.fb_read.specs.Parser.{Outcome, Reads};
+ghost use Rattle.fb_read.specs.Charts.{action};
+ghost use Rattle.fb_read.specs.Parser.{Outcome, Reads, name, sees_name};
 ghost use Rattle.fb_read.specs.Tokens.{Tokens};
 ghost use Rattle.fb_read_positions.specs.Walks as spec;
 
@@ -12,8 +13,8 @@ use fb_read::ports::variables;
 use fb_read::rule::{Rule, many, optional, run_after, section};
 use fb_read::token::Mark;
 use fb_types::{
-    Action, Algorithm, Application, BlockType, Connection, EventPort, Instance, Name, Parameter,
-    PortName, Ports, State, Transition, Ty, Value,
+    Algorithm, Application, BlockType, Connection, EventPort, Instance, Parameter, PortName, Ports,
+    State, Transition, Ty, Value,
 };
 
 /// A part of a declaration that a way passes.
@@ -79,6 +80,29 @@ fn passed<T: Drop>(read: Result<T, ParseFault>) -> Result<(), ParseFault>
     Ok(())
 }
 
+/// Takes the next token, if it is a name. Returns whether it was.
+fn eat_name(cursor: &mut Cursor<'_>) -> bool
+    ensures found { result ≡ sees_name cursor.old }
+    ensures after { cursor.new ≡ spec.after_name cursor.old }
+{
+    let found = cursor.sees_name();
+    if found {
+        cursor.take();
+    }
+    found
+}
+
+/// Reads a name.
+fn past_name(cursor: &mut Cursor<'_>) -> Result<(), ParseFault>
+    ensures { Reads (spec.skip name cursor.old) result cursor.new }
+{
+    if eat_name(cursor) {
+        Ok(())
+    } else {
+        Err(ParseFault::Syntax)
+    }
+}
+
 /// Reads the application, if it is next.
 fn past_application(cursor: &mut Cursor<'_>) -> Result<(), ParseFault>
     ensures { Reads (spec.past_application cursor.old) result cursor.new }
@@ -114,11 +138,25 @@ fn past_type(cursor: &mut Cursor<'_>) -> Result<(), ParseFault>
 fn past_variable(cursor: &mut Cursor<'_>) -> Result<(), ParseFault>
     ensures { Reads (spec.past_variable cursor.old) result cursor.new }
 {
-    passed(Name::read(cursor))?;
+    past_name(cursor)?;
     if cursor.eat(Mark::Comma) {
         Ok(())
     } else {
         past_type(cursor)
+    }
+}
+
+/// Reads an action.
+fn past_action(cursor: &mut Cursor<'_>) -> Result<(), ParseFault>
+    ensures { Reads (spec.skip action cursor.old) result cursor.new }
+{
+    let has_algorithm = eat_name(cursor);
+    if cursor.eat(Mark::Arrow) {
+        past_name(cursor)
+    } else if has_algorithm {
+        Ok(())
+    } else {
+        Err(ParseFault::Syntax)
     }
 }
 
@@ -131,7 +169,7 @@ fn take(cursor: &mut Cursor<'_>, step: Step) -> Result<(), ParseFault>
         Step::Mark(mark) => cursor.expect(mark),
         Step::In => cursor.word(b"IN"),
         Step::St => cursor.word(b"ST"),
-        Step::Name => passed(Name::read(cursor)),
+        Step::Name => past_name(cursor),
         Step::Event => passed(cursor.name_if()),
         Step::Port => passed(PortName::read(cursor)),
         Step::Ports => passed(Ports::read(cursor)),
@@ -154,7 +192,7 @@ fn take(cursor: &mut Cursor<'_>, step: Step) -> Result<(), ParseFault>
         Step::Parameter => passed(Parameter::read(cursor)),
         Step::Connection => passed(Connection::read(cursor)),
         Step::State => passed(State::read(cursor)),
-        Step::Action => passed(Action::read(cursor)),
+        Step::Action => past_action(cursor),
         Step::Transition => passed(Transition::read(cursor)),
         Step::Algorithm => passed(Algorithm::read(cursor)),
     }
@@ -179,6 +217,18 @@ pub fn pass(cursor: &mut Cursor<'_>, steps: &[Step], count: usize) -> Result<(),
 {
     for _turn in 0..count {
         take_all(cursor, steps)?;
+    }
+    Ok(())
+}
+
+/// Reads this many actions and the comma after each. A state may have thousands of them, so this loop looks no step up
+/// and keeps no name.
+pub fn pass_actions(cursor: &mut Cursor<'_>, count: usize) -> Result<(), ParseFault>
+    ensures { Reads (spec.pass_actions count cursor.old) result cursor.new }
+{
+    for _turn in 0..count {
+        past_action(cursor)?;
+        cursor.expect(Mark::Comma)?;
     }
     Ok(())
 }

@@ -76,6 +76,13 @@ impl Text {
         }
     }
 
+    /// Appends several words, one after another.
+    pub fn phrase(&mut self, parts: &[&str]) {
+        for part in parts {
+            self.words(part);
+        }
+    }
+
     /// Appends an ASCII character.
     pub fn letter(&mut self, byte: u8) {
         if self.written.is_ok() {

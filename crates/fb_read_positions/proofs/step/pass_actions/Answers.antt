@@ -1,0 +1,33 @@
+use Rattle.std.proofs.Common.{ℕ, ◌∙◌, rules, arith}
+use Rattle.std.proofs.lemmas.Grind.{common_steps}
+use Rattle.fb_read.proofs.Turns.{one_more, no_more}
+use Rattle.fb_read_positions.specs.Walks.{pass, pass_actions}
+use Rattle.fb_read_positions.proofs.Passing.{action_fault, action_more, comma_fault}
+use Rattle.fb_read_positions.proofs.Steps.{fault_at, from_start}
+use Rattle.fb_read_positions.proofs.step.pass_actions.Goals as goal
+
+pub loop-turn-init : goal.loop-turn-init
+loop-turn-init c = from_start (λ (n : ℕ). pass_actions n c.args.cursor.now) c.args.count
+
+pub returns-in_err-past_action : goal.returns-in_err-past_action
+returns-in_err-past_action c =
+    let r =
+    fault_at _ _ _ _ (one_more (λ (n : ℕ). pass_actions n c.loop-turn.cursor) _ c.loop-turn._turn c.loop-turn-test.true c.loop-turn.invariant)
+    (action_fault _ c.loop-turn.cursor _ _ c.in_err-past_action.ensures) in
+    first_of (search rules, grind (arith, common_steps))
+
+pub returns-in_err-expect : goal.returns-in_err-expect
+returns-in_err-expect c =
+    let r =
+    fault_at _ _ _ _ (one_more (λ (n : ℕ). pass_actions n c.loop-turn.cursor) _ c.loop-turn._turn c.loop-turn-test.true c.loop-turn.invariant)
+    (comma_fault _ c.loop-turn.cursor _ _ _ c.in_ok-past_action.ensures c.in_err-expect.ensures) in
+    first_of (search rules, grind (arith, common_steps))
+
+pub loop-turn-preserved : goal.loop-turn-preserved
+loop-turn-preserved c =
+    one_more (λ (n : ℕ). pass_actions n c.loop-turn.cursor) _ c.loop-turn._turn c.loop-turn-test.true c.loop-turn.invariant
+    ∙ action_more _ c.loop-turn.cursor _ _ c.in_ok-past_action.ensures c.in_ok-expect.ensures
+
+pub returns : goal.returns
+unfolding pass
+returns c = no_more (λ (n : ℕ). pass_actions n c.loop-turn.cursor) _ c.loop-turn._turn c.loop-turn-test.false c.loop-turn.invariant
