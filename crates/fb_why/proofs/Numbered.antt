@@ -3,14 +3,13 @@ use Rattle.std.proofs.Common.{◌≡◌, ℕ, suc, false, List, [], ◌∷◌, m
 use Rattle.std.specs.Prelude.{All, IfOk, IfSome, MatchOption, nat_lt}
 use Rattle.std.specs.Option.{option_to_list}
 use Rattle.std.proofs.lemmas.List.Elements.{All-cons, All-map, All-nil, All-take, All-weaker}
-use Rattle.fb_read.specs.Whole.{IsLibraryText, IsMemory}
-use Rattle.fb_read.specs.declared.error.ReadError.{ReadError}
+use Rattle.fb_read.specs.Whole.{IsLibraryText}
 use Rattle.fb_types.specs.declared.deploy.Plan.{Plan}
 use Rattle.fb_types.specs.declared.deploy.Stimulus.{Stimulus}
 use Rattle.fb_types.specs.declared.library.Library.{Library}
 use Rattle.fb_why.specs.Causes.{IsCause}
-use Rattle.fb_why.specs.Findings.{AppliesAt, AppliesNowhere, AreFed, Finds, FindsOf, IsNoText, IsPlan, IsSilent, IsSilentOf, IsUnread}
-use Rattle.fb_why.specs.Listings.{AreAll, AreFlaws, AreFound, AreFoundBy, AreOne, AreShown, AreSpots, IsOnce, locations_of, most_findings}
+use Rattle.fb_why.specs.Findings.{AppliesAt, AppliesNowhere, AreFed, Finds, FindsOf, IsPlan, IsSilent, IsSilentOf, IsUnread}
+use Rattle.fb_why.specs.Listings.{AreAll, AreFlaws, AreFound, AreFoundBy, AreOne, AreShown, AreSpots, locations_of, most_findings}
 use Rattle.fb_why.specs.Places.{IsPlacedFinding}
 use Rattle.fb_why.specs.declared.cause.Cause.{Cause}
 use Rattle.fb_why.specs.declared.cause.Cause.TheVariants as cause
@@ -66,64 +65,28 @@ pub unread_inputs :
 unread_inputs f text bytes rows (Err e) nothing no_more why = tt
 unread_inputs f text bytes rows (Ok s) nothing no_more why = inr (record { nothing = nothing; no_more = no_more; unread = why })
 
-pub unread_text :
-    {E : Type 0} (f : Fault) (text : List ℕ) (bytes rows : Option (List ℕ)) (fault : ReadError) (made : Result Findings E)
-    → IfOk made (λ s. (s.shown.items ≡ []) × (s.more ≡ false) × ¬ (IsMemory fault)) → (¬ (IsMemory fault) → IsNoText text) → IfOk made (AreFlaws f text bytes rows)
-unread_text f text bytes rows fault (Err e) nothing why = tt
-unread_text f text bytes rows fault (Ok s) nothing why = inr (record { nothing = nothing.0; no_more = nothing.1; unread = inl (why nothing.2) })
-
 pub nothing_placed : {E : Type 0} (text : List ℕ) (made : Result Findings E) → IfOk made (λ s. s.shown.items ≡ []) → IfOk made (λ s. All (IsPlacedFinding text) s.shown.items)
 nothing_placed text (Err e) nothing = tt
 nothing_placed text (Ok s) nothing = subst (λ (rs : List PlacedFinding). All (IsPlacedFinding text) rs) (sym nothing) (All-nil (IsPlacedFinding text))
 
-pub unplaced_text :
-    {E : Type 0} (text : List ℕ) (fault : ReadError) (made : Result Findings E) → IfOk made (λ s. (s.shown.items ≡ []) × (s.more ≡ false) × ¬ (IsMemory fault))
-    → IfOk made (λ s. All (IsPlacedFinding text) s.shown.items)
-unplaced_text text fault (Err e) nothing = tt
-unplaced_text text fault (Ok s) nothing = subst (λ (rs : List PlacedFinding). All (IsPlacedFinding text) rs) (sym nothing.0) (All-nil (IsPlacedFinding text))
-
 -- ---- One finding at most
 
 pub once_found :
-    {E F : Type 0} (c : Cause) (n : ℕ) (text : List ℕ) (plan rows : Option (List ℕ)) (found : Result (Option PlacedFinding) E) (made : Result Findings F)
-    → IfOk found (λ o. MatchOption o (IsSilentOf c n text plan rows) (λ r. FindsOf c n text plan rows r.finding.location)) → IfOk made (IsOnce found)
+    {E : Type 0} (c : Cause) (n : ℕ) (text : List ℕ) (plan rows : Option (List ℕ)) (o : Option PlacedFinding) (made : Result Findings E)
+    → MatchOption o (IsSilentOf c n text plan rows) (λ r. FindsOf c n text plan rows r.finding.location) → IfOk made (λ f. f.shown.items ≡ option_to_list o) → IfOk made (λ f. f.more ≡ false)
     → IfOk made (AreOne c n text plan rows)
-once_found c n text plan rows found (Err e) holds is = tt
-once_found c n text plan rows (Err e) (Ok f) holds is = absurd (let no = is.1 in cc)
-once_found c n text plan rows (Ok o) (Ok f) holds is =
-    let same : o ≡ is.0 = let e = is.1 in cc in
-    record {
-      found = is.0;
-      shown = is.2;
-      no_more = is.3;
-      finds = subst (λ (q : Option PlacedFinding). MatchOption q (IsSilentOf c n text plan rows) (λ r. FindsOf c n text plan rows r.finding.location)) same holds;
-    }
+once_found c n text plan rows o (Err e) finds is more = tt
+once_found c n text plan rows o (Ok f) finds is more = record { found = o; shown = is; no_more = more; finds = finds }
 
 one_placed : (text : List ℕ) (o : Option PlacedFinding) → IfSome o (IsPlacedFinding text) → All (IsPlacedFinding text) (option_to_list o)
 one_placed text None h = All-nil (IsPlacedFinding text)
 one_placed text (Some r) h = All-cons (IsPlacedFinding text) r [] h (All-nil (IsPlacedFinding text))
 
 pub once_placed :
-    {E F : Type 0} (text : List ℕ) (found : Result (Option PlacedFinding) E) (made : Result Findings F) → IfOk found (λ o. IfSome o (IsPlacedFinding text)) → IfOk made (IsOnce found)
+    {E : Type 0} (text : List ℕ) (o : Option PlacedFinding) (made : Result Findings E) → IfSome o (IsPlacedFinding text) → IfOk made (λ f. f.shown.items ≡ option_to_list o)
     → IfOk made (λ f. All (IsPlacedFinding text) f.shown.items)
-once_placed text found (Err e) holds is = tt
-once_placed text (Err e) (Ok f) holds is = absurd (let no = is.1 in cc)
-once_placed text (Ok o) (Ok f) holds is =
-    let same : o ≡ is.0 = let e = is.1 in cc in
-    subst (λ (rs : List PlacedFinding). All (IsPlacedFinding text) rs) (sym is.2) (one_placed text is.0 (subst (λ (q : Option PlacedFinding). IfSome q (IsPlacedFinding text)) same holds))
-
-pub is_once :
-    {E F : Type 0} (made : Result (Option PlacedFinding) E) (o : Option PlacedFinding) (shown : Result Findings F) → made ≡ Ok o → IfOk shown (λ f. f.shown.items ≡ option_to_list o)
-    → IfOk shown (λ f. f.more ≡ false) → IfOk shown (IsOnce made)
-is_once made o (Err e) was is more = tt
-is_once made o (Ok f) was is more = (o, was, is, more)
-
--- of another number nothing is shown
-pub other_found :
-    {E : Type 0} (n : ℕ) (text : List ℕ) (plan rows : Option (List ℕ)) (made : Result Findings E) → IfOk made (λ f. f.shown.items ≡ []) → IfOk made (λ f. f.more ≡ false)
-    → IfOk made (AreOne cause.Other n text plan rows)
-other_found n text plan rows (Err e) is more = tt
-other_found n text plan rows (Ok f) is more = record { found = None; shown = is; no_more = more; finds = tt }
+once_placed text o (Err e) holds is = tt
+once_placed text o (Ok f) holds is = subst (λ (rs : List PlacedFinding). All (IsPlacedFinding text) rs) (sym is) (one_placed text o holds)
 
 pub by_cause :
     {E : Type 0} (c d : Cause) (n : ℕ) (text : List ℕ) (plan rows : Option (List ℕ)) (made : Result Findings E) → c ≡ d → IfOk made (AreFoundBy d n text plan rows)

@@ -1,10 +1,10 @@
 -- The place at which a location of what was declared is shown.
-use Rattle.std.proofs.Common.{◌≡◌, ◌∷◌, ◌++◌, ◌+◌, ◌<◌, [], ℕ, List, length, get_or, map, take, Option, Some, None, Result, Ok, Err, inr, refl, sym, ◌∙◌, ap, subst}
+use Rattle.std.proofs.Common.{◌≡◌, ◌∷◌, ◌++◌, ◌+◌, ◌<◌, [], ℕ, List, length, get_or, map, take, Option, Some, None, inr, refl, sym, ◌∙◌, ap, subst}
 use Rattle.std.proofs.lemmas.List.{length-map, map-append, take_more}
 use Rattle.std.proofs.lemmas.List.Elements.{All-cons, All-nil}
 use Rattle.std.proofs.lemmas.Slice.Zip.{AllZip-long}
 use Rattle.std.specs.List.{AllZip}
-use Rattle.std.specs.Prelude.{All, IfOk, IfSome}
+use Rattle.std.specs.Prelude.{All, IfSome}
 use Rattle.fb_types.specs.declared.library.Library.{Library}
 use Rattle.fb_read.specs.Blank.{Text}
 use Rattle.fb_read.specs.Whole.{IsLibraryText}
@@ -19,11 +19,9 @@ use Rattle.fb_why.specs.declared.spot.Spot.{Spot}
 -- ---- Findings with their places
 
 -- a finding that is not in the declaration has no place there
-pub is_elsewhere :
-    {E : Type 0} (text : Text) (made : Result (Option PlacedFinding) E) → IfOk made (λ o. IfSome o (λ r. r.place ≡ None)) → IfOk made (λ o. IfSome o (IsPlacedFinding text))
-is_elsewhere text (Err e) h = tt
-is_elsewhere text (Ok None) h = tt
-is_elsewhere text (Ok (Some r)) h = subst (λ (q : Option TextLocation). IfSome q (IsPlaceOf text r.finding.location)) (sym h) tt
+pub is_elsewhere : (text : Text) (o : Option PlacedFinding) → IfSome o (λ r. r.place ≡ None) → IfSome o (IsPlacedFinding text)
+is_elsewhere text None h = tt
+is_elsewhere text (Some r) h = subst (λ (q : Option TextLocation). IfSome q (IsPlaceOf text r.finding.location)) (sym h) tt
 
 placed_for :
     (text : Text) (library : Library) (location : Spot) (p : Option Position) (place : Option TextLocation) → IsLibraryText text library → position_of library location ≡ p

@@ -13,7 +13,6 @@ use Rattle.fb_inputs.specs.declared.position.DeployPosition.{DeployPosition}
 use Rattle.fb_inputs.specs.declared.position.DeployPosition.TheVariants as in_deploy
 use Rattle.fb_inputs.specs.declared.position.StimuliPosition.{StimuliPosition}
 use Rattle.fb_inputs.specs.declared.position.StimuliPosition.TheVariants as in_stimuli
-use Rattle.fb_read_positions.specs.Locations.{IsLocation, IsStretch}
 use Rattle.fb_why.specs.InputStretches.{IsDeployPlace, IsStimuliPlace}
 use Rattle.fb_check_names.specs.declared.location.Side.{Side}
 use Rattle.fb_check_names.specs.declared.location.Side.TheVariants as side
@@ -122,11 +121,6 @@ IsPlaceIn deploy stimuli (input.Stimuli position) place = IsPlaceInRows stimuli 
 abbrev pub IsNearIn : (stimuli : Option Text) → StimuliPosition → Span → Type 0
 IsNearIn None position span = Unit {0}
 IsNearIn (Some bytes) position span = IsNearInStimuli bytes position span
-
--- The place is that of these bytes of the stimuli that are given.
-abbrev pub IsPlaceOfBytes : (stimuli : Option Text) → Span → Place → Type 0
-IsPlaceOfBytes stimuli span place =
-    (bytes : Text) × (stimuli ≡ Some bytes) × (place.file ≡ file.Stimuli) × IsStretch span.start span.end place.at × IsLocation bytes place.at
 
 -- The place, if there is one, is that of the position.
 abbrev pub IsPlaceFor : (deploy stimuli : Option Text) → Option InputPosition → Option Place → Type 0

@@ -1,5 +1,5 @@
 -- The findings of one number: all locations at which it applies, and the first of them (this project's own).
-use Rattle.std.specs.Prelude.{◌≡◌, ◌≤◌, ◌⊎◌, ℕ, false, List, [], ◌∷◌, Option, Result, Ok, All, MatchOption, map, take, length, nat_lt}
+use Rattle.std.specs.Prelude.{◌≡◌, ◌≤◌, ◌⊎◌, ℕ, false, List, [], ◌∷◌, Option, All, MatchOption, map, take, length, nat_lt}
 use Rattle.std.specs.Option.{option_to_list}
 use Rattle.fb_read.specs.Whole.{IsLibraryText}
 use Rattle.fb_types.specs.declared.deploy.Plan.{Plan}
@@ -101,10 +101,6 @@ abbrev pub AreFlaws : Fault → (declaration : List ℕ) → (deploy stimuli : O
 AreFlaws flaw declaration deploy stimuli f = AreShown flaw declaration deploy stimuli f ⊎ AreUnread flaw declaration deploy stimuli f
 
 -- ---- By the number
-
--- what was found, if memory did not run out, is all that is shown
-abbrev pub IsOnce : {E : Type 0} → Result (Option PlacedFinding) E → Findings → Type 0
-IsOnce {E} made f = (found : Option PlacedFinding) × (made ≡ Ok found) × (f.shown.items ≡ option_to_list found) × (f.more ≡ false)
 
 -- the only finding, or none
 pub record AreOne (c : Cause) (number : ℕ) (declaration : List ℕ) (deploy stimuli : Option (List ℕ)) (f : Findings) : Type 0 where

@@ -14,6 +14,13 @@ pub(crate) enum Source {
     Guard(usize, usize),
 }
 
+/// The text of an algorithm or of a guard.
+#[derive(Clone, Copy)]
+pub(crate) enum SourceText<'a> {
+    Body(&'a Body),
+    Guard(&'a Expr),
+}
+
 /// A list of a basic type, by the index of the type.
 #[derive(Clone, Copy, PartialEq, Eq)]
 pub(crate) enum NameList {
@@ -63,49 +70,31 @@ impl<'a> Contents<'a> {
         index: usize,
     ) -> Result<Option<&'a Stmt>, AllocError> {
         if self.stated != Some(source) {
-            self.stated = None;
             self.statements = all_statements(self.alloc, body)?;
             self.stated = Some(source);
         }
-        match self.statements.get(index) {
-            Some(standing) => Ok(Some(standing.statement)),
-            None => Ok(None),
-        }
+        let found = self.statements.get(index);
+        Ok(found.map(|standing| standing.statement))
     }
 
-    /// What an algorithm with this body names at an index.
+    /// What an algorithm or a guard, which has this text, names at an index.
     ///
     /// # Errors
     ///
     /// When memory runs out.
-    pub fn mention_in_body(
+    pub fn mention(
         &mut self,
         source: Source,
-        body: &'a Body,
+        text: SourceText<'a>,
         index: usize,
     ) -> Result<Option<Mention<'a>>, AllocError> {
         if self.mentioned != Some(source) {
-            self.begin();
-            push_body(&mut self.mentions, body)?;
-            self.mentioned = Some(source);
-        }
-        Ok(self.mentions.get(index).copied())
-    }
-
-    /// What a guard names at an index.
-    ///
-    /// # Errors
-    ///
-    /// When memory runs out.
-    pub fn mention_in_guard(
-        &mut self,
-        source: Source,
-        guard: &'a Expr,
-        index: usize,
-    ) -> Result<Option<Mention<'a>>, AllocError> {
-        if self.mentioned != Some(source) {
-            self.begin();
-            push_expression(&mut self.mentions, guard)?;
+            let mut mentions = Vec::new(self.alloc);
+            match text {
+                SourceText::Body(body) => push_body(&mut mentions, body)?,
+                SourceText::Guard(guard) => push_expression(&mut mentions, guard)?,
+            }
+            self.mentions = mentions;
             self.mentioned = Some(source);
         }
         Ok(self.mentions.get(index).copied())
@@ -113,27 +102,16 @@ impl<'a> Contents<'a> {
 
     /// Adds the names of a list, which has these items.
     pub fn push_names<T: Named>(&mut self, text: &mut Text, list: NameList, items: &[T]) {
-        match self.list_names(list, items) {
-            Ok(()) => text.words(self.names.as_str()),
-            Err(_) => text.give_up(),
-        }
-    }
-
-    /// Goes to the names of a list, which has these items.
-    fn list_names<T: Named>(&mut self, list: NameList, items: &[T]) -> Result<(), AllocError> {
         if self.named != Some(list) {
-            let mut text = Text::new(self.alloc);
-            text.names(items);
-            self.named = None;
-            self.names = text.into_string()?;
+            let mut names = Text::new(self.alloc);
+            names.names(items);
+            let Ok(names) = names.into_string() else {
+                text.give_up();
+                return;
+            };
+            self.names = names;
             self.named = Some(list);
         }
-        Ok(())
-    }
-
-    /// Begins with the mentions of another algorithm or guard.
-    fn begin(&mut self) {
-        self.mentioned = None;
-        self.mentions.clear();
+        text.words(self.names.as_str());
     }
 }

@@ -1,38 +1,40 @@
 //! Where a refusal applies to inputs that can be read.
 
-ghost use Rattle.std.specs.Prelude.{◌≡◌, ◌∷◌, [], IfOk};
+ghost use Rattle.std.specs.Prelude.{◌≡◌, IfOk, slice_get};
 ghost use Rattle.fb_why.specs.Listings.{AreSpots, spots_of};
 
 use crate::spot::Spot;
 use fb_check::{Case, Fault, Refusal, why_refused};
 use std::alloc::{AllocError, Global};
 
-/// One location.
-fn one_spot(alloc: Global, spot: Spot) -> Result<Vec<Spot>, AllocError>
-    ensures { IfOk result (λ spots. spots.items ≡ spot ∷ []) }
+/// The location at an index among those of a refusal.
+fn spot_at(refusal: &Refusal, index: usize) -> Option<Spot>
+    ensures { result ≡ slice_get (spots_of refusal.now) index }
 {
-    let mut spots = Vec::new(alloc);
-    spots.push(spot)?;
-    Ok(spots)
+    match refusal {
+        Refusal::Twice(found) => Some(Spot::Twice(*found.get(index)?)),
+        Refusal::NameUnknown(found) => Some(Spot::Unknown(*found.get(index)?)),
+        Refusal::KindWrong(found) => Some(Spot::Misfit(*found.get(index)?)),
+        Refusal::OutOfRange(found) => Some(Spot::Misjoin(*found.get(index)?)),
+        Refusal::TwoSources(found) => Some(Spot::Joined(*found.get(index)?)),
+        Refusal::TooHigh(descent) => (index == 0).then_some(Spot::TooHigh(*descent)),
+        Refusal::NotMapped(found) => Some(Spot::Unmapped(*found.get(index)?)),
+        Refusal::NoLink(found) => Some(Spot::Unlinked(*found.get(index)?)),
+        Refusal::NoEvent(found) => Some(Spot::Unserved(*found.get(index)?)),
+        Refusal::BadStimulus(found) => Some(Spot::Stimulus(*found.get(index)?)),
+        Refusal::OverLimit(limit) => (index == 0).then_some(Spot::Limit(*limit)),
+    }
 }
 
 /// The locations of a refusal.
 fn spots_of(alloc: Global, refusal: &Refusal) -> Result<Vec<Spot>, AllocError>
     ensures { IfOk result (λ spots. spots.items ≡ spots_of refusal.now) }
 {
-    match refusal {
-        Refusal::Twice(found) => found.iter().map(|p| Spot::Twice(*p)).collect(alloc),
-        Refusal::NameUnknown(found) => found.iter().map(|p| Spot::Unknown(*p)).collect(alloc),
-        Refusal::KindWrong(found) => found.iter().map(|p| Spot::Misfit(*p)).collect(alloc),
-        Refusal::OutOfRange(found) => found.iter().map(|p| Spot::Misjoin(*p)).collect(alloc),
-        Refusal::TwoSources(found) => found.iter().map(|p| Spot::Joined(*p)).collect(alloc),
-        Refusal::TooHigh(descent) => one_spot(alloc, Spot::TooHigh(*descent)),
-        Refusal::NotMapped(found) => found.iter().map(|p| Spot::Unmapped(*p)).collect(alloc),
-        Refusal::NoLink(found) => found.iter().map(|p| Spot::Unlinked(*p)).collect(alloc),
-        Refusal::NoEvent(found) => found.iter().map(|p| Spot::Unserved(*p)).collect(alloc),
-        Refusal::BadStimulus(found) => found.iter().map(|p| Spot::Stimulus(*p)).collect(alloc),
-        Refusal::OverLimit(limit) => one_spot(alloc, Spot::Limit(*limit)),
+    let mut spots = Vec::new(alloc);
+    while let Some(spot) = spot_at(refusal, spots.len()) {
+        spots.push(spot)?;
     }
+    Ok(spots)
 }
 
 /// The locations at which the refusal applies to inputs, if the check refuses them for this fault: all, in the order of

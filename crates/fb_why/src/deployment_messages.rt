@@ -12,33 +12,24 @@ pub fn deployment_message(
     location: DeployLocation,
 ) -> Result<String, AllocError> {
     let mut text = Text::new(alloc);
-    push_deployment(alloc, &mut text, bytes, location);
-    text.into_string()
-}
-
-fn push_deployment(alloc: Global, text: &mut Text, bytes: &[u8], location: DeployLocation) {
     match location {
         DeployLocation::Bytes => text.words("there are more than 1,048,576 bytes"),
         DeployLocation::Document(_) => text.words("this is no TOML"),
         DeployLocation::Shape { table, fault } => {
-            push_table(text, table);
-            push_fault(alloc, text, bytes, table, fault);
+            push_table(&mut text, table);
+            push_fault(alloc, &mut text, bytes, table, fault);
         }
-        DeployLocation::Latency { link, entry } => push_latency(alloc, text, bytes, link, entry),
-        DeployLocation::NoEntry { link } => {
-            text.placed("", link, " link: latencies has no entry");
+        DeployLocation::Latency { link, entry } => {
+            push_latency(alloc, &mut text, bytes, link, entry);
         }
+        DeployLocation::NoEntry { link } => text.placed("", link, " link: latencies has no entry"),
         DeployLocation::Entry { link, entry: 0 } => {
             text.placed("", link, " link: the 1st entry is not at tick 0");
         }
         DeployLocation::Entry { link, entry } => {
             text.placed("", link, " link: the tick of the ");
-            text.placed(
-                "",
-                entry,
-                " entry is not later than that of the entry before it",
-            );
-            text.words(", or is over 1,000,000,000,000");
+            text.placed("", entry, " entry is not later than that of the entry");
+            text.words(" before it, or is over 1,000,000,000,000");
         }
         DeployLocation::Resources => text.words("there are more than 256 resources"),
         DeployLocation::Links => text.words("there are more than 1,024 links"),
@@ -46,6 +37,7 @@ fn push_deployment(alloc: Global, text: &mut Text, bytes: &[u8], location: Deplo
             text.placed("", link, " link: there are more than 64 entries");
         }
     }
+    text.into_string()
 }
 
 fn push_table(text: &mut Text, table: TableLocation) {
@@ -69,14 +61,8 @@ fn push_fault(
         TableFault::Missing(DeployKey::Latency) => {
             text.words("there is neither latency nor latencies");
         }
-        TableFault::Missing(key) => {
-            text.words("there is no ");
-            text.words(key.text());
-        }
-        TableFault::Wrong(key) => {
-            text.words(key.text());
-            text.words(kind_of(key));
-        }
+        TableFault::Missing(key) => text.phrase(&["there is no ", key.text()]),
+        TableFault::Wrong(key) => text.phrase(&[key.text(), kind_of(key)]),
         TableFault::Element(key, element) => {
             text.words(key.text());
             text.placed(": the ", element, kind_of_element(key));
@@ -153,20 +139,16 @@ pub(crate) fn item_at<'a>(keys: &'a Table, key: &str, index: usize) -> Option<&'
     keys.get(key)?.as_array()?.get(index)?.as_table()
 }
 
-/// Adds the latency of an entry of a link.
+/// Adds the latency of an entry of a link, or the latency of a link without entries.
 fn push_latency(alloc: Global, text: &mut Text, bytes: &[u8], link: usize, entry: usize) {
+    let Ok(keys) = toml::table_from_slice(alloc, bytes) else {
+        text.give_up();
+        return;
+    };
     text.placed("", link, " link: ");
-    match toml::table_from_slice(alloc, bytes) {
-        Ok(keys) => push_entry(text, item_at(&keys, "link", link), entry),
-        Err(_) => text.give_up(),
-    }
-    text.words(" is not within 1 to 1,000,000");
-}
-
-/// Adds the latency of an entry, or the latency of a link without a table.
-fn push_entry(text: &mut Text, link: Option<&Table>, entry: usize) {
-    match link {
-        Some(keys) if keys.get("latency").is_some() => text.words("latency"),
+    match item_at(&keys, "link", link) {
+        Some(link) if link.get("latency").is_some() => text.words("latency"),
         _ => text.placed("the latency of the ", entry, " entry"),
     }
+    text.words(" is not within 1 to 1,000,000");
 }

@@ -1,6 +1,6 @@
 //! The explanation of a refusal, of a warning, or of the reason of a stop.
 
-ghost use Rattle.std.specs.Prelude.{◌≡◌, ◌++◌, ◌∷◌, ◌||◌, [], true, Contains, IfSome, codes, is_some, map};
+ghost use Rattle.std.specs.Prelude.{◌≡◌, ◌++◌, ◌∷◌, [], true, Contains, IfSome, codes, is_some, map};
 ghost use Rattle.std.specs.List.{list_any};
 ghost use Rattle.std.specs.Str.{str_eq_ignore_ascii_case};
 ghost use Rattle.fb_why.specs.Explained as spec;
@@ -69,28 +69,16 @@ fn look_up(table: &[Explanation], name: &str) -> Option<Explanation>
     None
 }
 
-/// What was found, or else the first explanation with the name in one more table.
-fn or_look_up(found: Option<Explanation>, table: &[Explanation], name: &str) -> Option<Explanation>
-    requires { IfSome found (λ e. str_eq_ignore_ascii_case e.name.now name.now ≡ true) }
-    ensures named { IfSome result (λ e. str_eq_ignore_ascii_case e.name.now name.now ≡ true) }
-    ensures found { is_some result ≡ (is_some found || list_any (λ e. str_eq_ignore_ascii_case e.name.now name.now) table.now) }
-{
-    match found {
-        Some(explanation) => Some(explanation),
-        None => look_up(table, name),
-    }
-}
-
 /// The explanation of a refusal or a warning by its name in the line, such as `E21`, `file fault` or `L01`, or of a
 /// reason by its name in the last line of a trace, such as `divide`. Letter case makes no difference.
 pub fn explain(name: &str) -> Option<Explanation>
     ensures named { IfSome result (λ e. str_eq_ignore_ascii_case e.name.now name.now ≡ true) }
     ensures all { is_some result ≡ list_any (λ n. str_eq_ignore_ascii_case n name.now) explained }
 {
-    let declared = look_up(of_declarations(), name);
-    let given = or_look_up(declared, of_inputs(), name);
-    let checked = or_look_up(given, of_checks(), name);
-    let ruled = or_look_up(checked, of_rules(), name);
-    let warned = or_look_up(ruled, of_warnings(), name);
-    or_look_up(warned, of_stops(), name)
+    look_up(of_declarations(), name)
+        .or(look_up(of_inputs(), name))
+        .or(look_up(of_checks(), name))
+        .or(look_up(of_rules(), name))
+        .or(look_up(of_warnings(), name))
+        .or(look_up(of_stops(), name))
 }

@@ -43,10 +43,8 @@ fn end_of_last(alloc: Global, text: &[u8], tokens: &[Located]) -> Option<usize>
 fn end_of_tokens(alloc: Global, text: &[u8]) -> Option<usize>
     ensures { IfSome result (EndsAt text.now) }
 {
-    match tokens_of(alloc, text) {
-        Ok(tokens) => end_of_last(alloc, text, tokens.as_slice()),
-        Err(_) => None,
-    }
+    let tokens = tokens_of(alloc, text).ok()?;
+    end_of_last(alloc, text, tokens.as_slice())
 }
 
 /// The end of the last token before an offset, if a line ends between them.
@@ -92,15 +90,6 @@ fn shown(alloc: Global, text: &[u8], refusal: Refusal) -> TextLocation
     }
 }
 
-/// The refusal with its location.
-fn located(alloc: Global, text: &[u8], refusal: Refusal) -> TextRefusal
-    requires { IsFaultAt refusal.fault text.now refusal.start refusal.end }
-    ensures { IsTextRefusal text.now result }
-{
-    let location = shown(alloc, text, refusal);
-    TextRefusal { refusal, location }
-}
-
 /// Why a text is refused, and where. `None` if it declares a library. The text is read once for that.
 ///
 /// # Errors
@@ -115,6 +104,9 @@ pub fn text_refusal(alloc: Global, text: &[u8]) -> Result<Option<TextRefusal>, A
             Ok(None)
         }
         Err(ReadFault::Memory) => Err(AllocError),
-        Err(ReadFault::Refused(refusal)) => Ok(Some(located(alloc, text, refusal))),
+        Err(ReadFault::Refused(refusal)) => {
+            let location = shown(alloc, text, refusal);
+            Ok(Some(TextRefusal { refusal, location }))
+        }
     }
 }

@@ -1,9 +1,9 @@
 //! Finds where a refusal applies: reads the bytes again, and searches for the locations at which the refusal applies.
 
-ghost use Rattle.std.specs.Prelude.{◌≡◌, ℕ, [], All, List, Option, IfOk, MatchOption, false, option_map};
-ghost use Rattle.fb_read.specs.Whole.{IsLibraryText, IsMemory};
+ghost use Rattle.std.specs.Prelude.{All, IfOk, List, MatchOption, Option, option_map, ℕ};
+ghost use Rattle.fb_read.specs.Whole.{IsLibraryText};
 ghost use Rattle.fb_why.specs.Findings.{AreFed, AreNoStimuli, AreNotFed, AreStimuli, IsNoPlan, IsPlan};
-ghost use Rattle.fb_why.specs.Listings.{AreFlaws, AreFound, AreFoundBy, AreShown, IsOnce};
+ghost use Rattle.fb_why.specs.Listings.{AreFlaws, AreFound};
 ghost use Rattle.fb_why.specs.Places.{IsPlacedFinding};
 
 use crate::cause::{Cause, cause_of, is_of_stimuli};
@@ -16,16 +16,6 @@ use fb_inputs::{InputError, read_deploy, read_stimuli};
 use fb_read::{ReadError, discard, read_library};
 use fb_types::{Deploy, Library, Plan, Stimulus};
 use std::alloc::{AllocError, Global};
-
-/// The findings for a declaration that can't be read: none, unless memory ran out.
-fn no_findings(alloc: Global, fault: ReadError) -> Result<Findings, AllocError>
-    ensures { IfOk result (λ f. (f.shown.items ≡ []) × (f.more ≡ false) × ¬ (IsMemory fault)) }
-{
-    match fault {
-        ReadError::Memory => Err(AllocError),
-        _ => one(alloc, None),
-    }
-}
 
 /// The deployment that is given, or the default one if none is given. `None` if the bytes are refused.
 fn deploy_of(alloc: Global, deploy: Option<&[u8]>) -> Result<Option<Deploy>, AllocError>
@@ -70,21 +60,6 @@ fn fed_stimuli(
     }
 }
 
-/// Where the refusal applies to inputs, whose library this text declares.
-fn flaws_of(
-    alloc: Global,
-    flaw: Fault,
-    declaration: &[u8],
-    case: &Case,
-) -> Result<Findings, AllocError>
-    requires { IsLibraryText declaration.now case.now.library.now }
-    ensures found { (deploy stimuli : Option (List ℕ)) → IsPlan deploy case.now.plan.now → AreFed flaw stimuli case.now.stimuli.now → IfOk result (AreShown flaw declaration.now deploy stimuli) }
-    ensures placed { IfOk result (λ f. All (IsPlacedFinding declaration.now) f.shown.items) }
-{
-    let spots = spots_in(alloc, flaw, case)?;
-    listed(alloc, declaration, case, spots.as_slice())
-}
-
 /// Where the refusal applies to a library, which this text declares, to a plan, and to the stimuli in these bytes.
 fn flaws_with(
     alloc: Global,
@@ -106,7 +81,8 @@ fn flaws_with(
         plan,
         stimuli: stimuli.as_slice(),
     };
-    flaws_of(alloc, flaw, declaration, &case)
+    let spots = spots_in(alloc, flaw, &case)?;
+    listed(alloc, declaration, &case, spots.as_slice())
 }
 
 /// Where the refusal applies to a library, which this text declares, and to the deployment and the stimuli in these
@@ -146,38 +122,8 @@ fn flaw_findings(
             discard(library);
             findings
         }
-        Err(fault) => no_findings(alloc, fault),
-    }
-}
-
-/// What was found, as the findings of a number.
-fn once(
-    alloc: Global,
-    found: Result<Option<PlacedFinding>, AllocError>,
-) -> Result<Findings, AllocError>
-    ensures { IfOk result (IsOnce found) }
-{
-    one(alloc, found?)
-}
-
-/// Where the refusal with this number and this cause applies.
-fn findings_by(
-    alloc: Global,
-    cause: Cause,
-    number: u8,
-    declaration: &[u8],
-    deploy: Option<&[u8]>,
-    stimuli: Option<&[u8]>,
-) -> Result<Findings, AllocError>
-    ensures found { let plan = option_map (λ b. b.now) deploy.entry in let rows = option_map (λ b. b.now) stimuli.entry in
-        IfOk result (AreFoundBy cause number declaration.now plan rows) }
-    ensures placed { IfOk result (λ f. All (IsPlacedFinding declaration.now) f.shown.items) }
-{
-    match cause {
-        Cause::Text => once(alloc, text_finding(alloc, number, declaration)),
-        Cause::Bytes => once(alloc, bytes_finding(alloc, number, deploy, stimuli)),
-        Cause::Check(flaw) => flaw_findings(alloc, flaw, declaration, deploy, stimuli),
-        Cause::Other => one(alloc, None),
+        Err(ReadError::Memory) => Err(AllocError),
+        Err(_) => one(alloc, None),
     }
 }
 
@@ -199,5 +145,10 @@ pub fn findings_of(
     ensures placed { IfOk result (λ f. All (IsPlacedFinding declaration.now) f.shown.items) }
 {
     let cause = cause_of(number);
-    findings_by(alloc, cause, number, declaration, deploy, stimuli)
+    match cause {
+        Cause::Text => one(alloc, text_finding(alloc, number, declaration)?),
+        Cause::Bytes => one(alloc, bytes_finding(alloc, number, deploy, stimuli)?),
+        Cause::Check(flaw) => flaw_findings(alloc, flaw, declaration, deploy, stimuli),
+        Cause::Other => one(alloc, None),
+    }
 }

@@ -31,36 +31,29 @@ fn push_ports(text: &mut Text, library: &Library, block: usize, pair: Repeat) ->
     let ports = library.blocks.get(block)?.ports();
     let (first, second) = pair;
     let first = port_at(block, ports, first);
+    let other_kind = kind_at(port_at(block, ports, second));
     text.named(": ", name_at(first, library)?);
-    text.words(AGAIN);
-    text.words(", as ");
-    text.words(kind_at(first));
-    text.words(" and as ");
-    text.words(kind_at(port_at(block, ports, second)));
+    text.phrase(&[AGAIN, ", as ", kind_at(first), " and as ", other_kind]);
     Some(())
 }
 
 /// Adds that something is given twice (E20).
 fn push_given(text: &mut Text, library: &Library, plan: &Plan, given: GivenTwice) -> Option<()> {
     match given {
-        GivenTwice::EventBlock(_) => {
-            text.words(": an event block has this name");
-            return Some(());
-        }
-        GivenTwice::Block(block, InBlock::Port(pair)) => {
-            return push_ports(text, library, block, pair);
-        }
+        GivenTwice::EventBlock(_) => text.words(": an event block has this name"),
+        GivenTwice::Block(block, InBlock::Port(pair)) => push_ports(text, library, block, pair)?,
         GivenTwice::Resource((_, resource)) => {
             text.named("resource ", &plan.resources.get(resource)?.name);
+            text.words(AGAIN);
         }
         GivenTwice::Link((_, link)) => {
             let link = plan.links.get(link)?;
             text.named("link from ", &link.from);
             text.named(" to ", &link.to);
+            text.words(AGAIN);
         }
-        _ => {}
+        _ => text.words(AGAIN),
     }
-    text.words(AGAIN);
     Some(())
 }
 
@@ -117,25 +110,16 @@ fn push_unmapped(text: &mut Text, plan: &Plan, unmapped: Unmapped) -> Option<()>
     Some(())
 }
 
-/// The resource that lists the component at an end, or else the first one.
-fn resource_of<'a>(plan: &'a Plan, end: &PortName) -> Option<&'a ResourceEntry> {
-    if let Some(component) = &end.component {
-        for resource in plan.resources.as_slice() {
-            for name in resource.instances.as_slice() {
-                if name.is(component) {
-                    return Some(resource);
-                }
-            }
+/// The name of the resource that lists the component at an end of a connection, or else of the first one.
+fn resource_of<'a>(plan: &'a Plan, end: &PortName) -> Option<&'a Name> {
+    let component = end.component.as_ref()?;
+    for resource in plan.resources.as_slice() {
+        let names = resource.instances.as_slice();
+        if names.iter().any(|name| name.is(component)) {
+            return Some(&resource.name);
         }
     }
-    plan.resources.get(0)
-}
-
-/// Adds words, and the resource that holds the component at an end of a connection of the application.
-fn push_resource(text: &mut Text, words: &str, plan: &Plan, end: &PortName) {
-    if let Some(resource) = resource_of(plan, end) {
-        text.named(words, &resource.name);
-    }
+    Some(&plan.resources.get(0)?.name)
 }
 
 /// Adds which link a connection would need (E27).
@@ -145,20 +129,17 @@ fn push_unlinked(text: &mut Text, network: &Network, plan: &Plan, at: Unlinked) 
         FlowKind::Data => network.data_connections.get(at.connection)?,
     };
     text.words(": there is no link");
-    push_resource(text, " from resource ", plan, &connection.from);
-    push_resource(text, " to resource ", plan, &connection.to);
+    text.named(" from resource ", resource_of(plan, &connection.from)?);
+    text.named(" to resource ", resource_of(plan, &connection.to)?);
     Some(())
 }
 
 /// Adds which event could serve a data connection (E28).
 fn push_unserved(text: &mut Text, network: &Network, plan: &Plan, at: usize) -> Option<()> {
     let connection = network.data_connections.get(at)?;
-    text.words(": no output event");
-    if let Some(component) = &connection.from.component {
-        text.named(" of ", component);
-    }
+    text.named(": no output event of ", connection.from.component.as_ref()?);
     text.named(" WITH ", &connection.from.port);
-    push_resource(text, " goes to resource ", plan, &connection.to);
+    text.named(" goes to resource ", resource_of(plan, &connection.to)?);
     Some(())
 }
 

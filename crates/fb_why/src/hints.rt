@@ -73,7 +73,7 @@ pub(crate) fn push_else_if(alloc: Global, message: &mut Text, before: &[u8], exp
 
 // ---- Times with a fraction, as `T#1.5s`, and how they are written in whole numbers.
 
-/// No more digits than this are read.
+/// No more digits than this are read, so that no product of such a number with a unit saturates.
 const MOST_DIGITS: usize = 9;
 
 /// The units of a time, each with its milliseconds.
@@ -85,16 +85,13 @@ const UNITS: &[(&str, usize)] = &[
     ("ms", 1),
 ];
 
-/// How many digits are in front.
-fn digits_len(bytes: &[u8]) -> usize {
-    let end = bytes.iter().position(|byte| !byte.is_ascii_digit());
-    end.unwrap_or(bytes.len())
-}
-
-/// How many letters are in front.
-fn letters_len(bytes: &[u8]) -> usize {
-    let end = bytes.iter().position(|byte| !byte.is_ascii_alphabetic());
-    end.unwrap_or(bytes.len())
+/// The bytes of a kind in front, and the others.
+fn split_front<F: Fn(&u8) -> bool>(bytes: &[u8], is_of_kind: F) -> (&[u8], &[u8])
+    requires { F.IsAlwaysCallable is_of_kind }
+{
+    let end = bytes.iter().position(|byte| !is_of_kind(byte));
+    let split = bytes.split_at_checked(end.unwrap_or(bytes.len()));
+    split.unwrap_or((bytes, &[]))
 }
 
 /// The number that digits are, and the power of ten with as many zeros, if there are any digits, and not too many.
@@ -106,20 +103,17 @@ fn number(digits: &[u8]) -> Option<(usize, usize)> {
     let mut scale = 1usize;
     for digit in digits {
         let ones = usize::from(digit.wrapping_sub(b'0'));
-        value = value.checked_mul(10)?.checked_add(ones)?;
-        scale = scale.checked_mul(10)?;
+        value = value.saturating_mul(10).saturating_add(ones);
+        scale = scale.saturating_mul(10);
     }
     Some((value, scale))
 }
 
 /// The milliseconds of a unit.
 fn milliseconds_of(unit: &[u8]) -> Option<usize> {
-    for (name, milliseconds) in UNITS {
-        if name.as_bytes().eq_ignore_ascii_case(unit) {
-            return Some(*milliseconds);
-        }
-    }
-    None
+    let mut units = UNITS.iter();
+    let (_, milliseconds) = units.find(|(name, _)| name.as_bytes().eq_ignore_ascii_case(unit))?;
+    Some(*milliseconds)
 }
 
 /// The milliseconds of a whole number and a fraction of a unit, if they are whole.
@@ -127,29 +121,29 @@ fn milliseconds(whole: &[u8], fraction: &[u8], unit: &[u8]) -> Option<usize> {
     let unit = milliseconds_of(unit)?;
     let (whole, _) = number(whole)?;
     let (parts, scale) = number(fraction)?;
-    let parts = parts.checked_mul(unit)?;
-    if parts.checked_rem(scale)? != 0 {
+    let parts = parts.saturating_mul(unit);
+    let more = parts.checked_div(scale)?;
+    if more.saturating_mul(scale) != parts {
         return None;
     }
-    let more = parts.checked_div(scale)?;
-    whole.checked_mul(unit)?.checked_add(more)
+    Some(whole.saturating_mul(unit).saturating_add(more))
 }
 
 /// The time with a fraction with which bytes begin, and its milliseconds, if they are a whole number.
 pub(crate) fn fraction_of(bytes: &[u8]) -> Option<(&[u8], usize)> {
-    let (word, rest) = bytes.split_at_checked(letters_len(bytes))?;
+    let (word, rest) = split_front(bytes, u8::is_ascii_alphabetic);
     if !(word.eq_ignore_ascii_case(b"T") || word.eq_ignore_ascii_case(b"TIME")) {
         return None;
     }
     let [b'#', rest @ ..] = rest else {
         return None;
     };
-    let (whole, rest) = rest.split_at_checked(digits_len(rest))?;
+    let (whole, rest) = split_front(rest, u8::is_ascii_digit);
     let [b'.', rest @ ..] = rest else {
         return None;
     };
-    let (fraction, rest) = rest.split_at_checked(digits_len(rest))?;
-    let (unit, rest) = rest.split_at_checked(letters_len(rest))?;
+    let (fraction, rest) = split_front(rest, u8::is_ascii_digit);
+    let (unit, rest) = split_front(rest, u8::is_ascii_alphabetic);
     let literal = bytes.get(..bytes.len().saturating_sub(rest.len()))?;
     Some((literal, milliseconds(whole, fraction, unit)?))
 }
@@ -159,13 +153,11 @@ pub(crate) fn push_time(message: &mut Text, milliseconds: usize) {
     message.words(if milliseconds == 0 { "T#0s" } else { "T#" });
     let mut rest = milliseconds;
     for (name, unit) in UNITS {
-        let (Some(count), Some(left)) = (rest.checked_div(*unit), rest.checked_rem(*unit)) else {
-            return;
-        };
+        let count = rest.checked_div(*unit).unwrap_or(0);
         if count > 0 {
             message.numbered("", count, name);
         }
-        rest = left;
+        rest = rest.saturating_sub(count.saturating_mul(*unit));
     }
 }
 

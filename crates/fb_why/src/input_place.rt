@@ -3,7 +3,7 @@
 ghost use Rattle.std.specs.Prelude.{◌≡◌, IfOk, IfSome, map, option_map};
 ghost use Rattle.std.specs.List.{AllZip};
 ghost use Rattle.fb_why.specs.InputPlaces as spec;
-ghost use Rattle.fb_why.specs.InputPlaces.{IsInputPosition, IsListedIn, IsNearIn, IsPlaceFor, IsPlaceInDeploy, IsPlaceOf, IsPlaceOfBytes, IsShownAt};
+ghost use Rattle.fb_why.specs.InputPlaces.{IsInputPosition, IsListedIn, IsNearIn, IsPlaceFor, IsPlaceOf, IsShownAt};
 ghost use Rattle.fb_why.specs.InputStretches.{IsDeployPlace};
 
 use crate::place::PlacedFinding;
@@ -171,17 +171,6 @@ fn input_position(
     }
 }
 
-/// The place of a position of the deployment, if one is given.
-fn place_in_deploy(deploy: Option<&[u8]>, position: DeployPosition) -> Option<Place>
-    ensures { IfSome result (IsPlaceInDeploy (option_map (λ b. b.now) deploy.entry) position) }
-{
-    let at = place_in_deployment(deploy?, position)?;
-    Some(Place {
-        file: InputFile::Deployment,
-        at,
-    })
-}
-
 /// The positions at which findings are shown, if they are in the deployment or in the stimuli, each at the index of its
 /// finding.
 fn input_positions(
@@ -222,31 +211,6 @@ fn stimuli_rows(
     Ok(rows)
 }
 
-/// The bytes of the stimuli that are nearest to these positions, if some are given.
-fn spans_near(
-    alloc: Global,
-    stimuli: Option<&[u8]>,
-    rows: &[StimuliPosition],
-) -> Result<Vec<Span>, AllocError>
-    ensures { IfOk result (λ spans. AllZip (IsNearIn (option_map (λ b. b.now) stimuli.entry)) rows.now spans.items) }
-{
-    match stimuli {
-        Some(bytes) => nearest_spans(alloc, bytes, rows),
-        None => nearest_spans(alloc, &[], rows),
-    }
-}
-
-/// The place of bytes in the stimuli, if some are given.
-fn place_of_bytes(stimuli: Option<&[u8]>, span: Span) -> Option<Place>
-    ensures { IfSome result (IsPlaceOfBytes (option_map (λ b. b.now) stimuli.entry) span) }
-{
-    let at = location_at(stimuli?, span.start, span.end)?;
-    Some(Place {
-        file: InputFile::Stimuli,
-        at,
-    })
-}
-
 /// The place of a position, if there is one. Of one in the stimuli it is that of `span`, the bytes nearest to it.
 fn place_of(
     deploy: Option<&[u8]>,
@@ -258,8 +222,20 @@ fn place_of(
     ensures { IsPlaceFor (option_map (λ b. b.now) deploy.entry) (option_map (λ b. b.now) stimuli.entry) position result }
 {
     match position? {
-        InputPosition::Deployment(position) => place_in_deploy(deploy, position),
-        InputPosition::Stimuli(_) => place_of_bytes(stimuli, span),
+        InputPosition::Deployment(position) => {
+            let at = place_in_deployment(deploy?, position)?;
+            Some(Place {
+                file: InputFile::Deployment,
+                at,
+            })
+        }
+        InputPosition::Stimuli(_) => {
+            let at = location_at(stimuli?, span.start, span.end)?;
+            Some(Place {
+                file: InputFile::Stimuli,
+                at,
+            })
+        }
     }
 }
 
@@ -297,7 +273,7 @@ pub fn places_in_inputs(
 {
     let positions = input_positions(alloc, deploy, found)?;
     let rows = stimuli_rows(alloc, positions.as_slice())?;
-    let spans = spans_near(alloc, stimuli, rows.as_slice())?;
+    let spans = nearest_spans(alloc, stimuli.unwrap_or(&[]), rows.as_slice())?;
     places_of(
         alloc,
         deploy,

@@ -17,9 +17,7 @@ use fb_types::{
 fn push_expected(text: &mut Text, value: Value, ty: Ty) {
     text.words(" := ");
     text.value(value);
-    text.words(": a value of ");
-    text.words(type_words(ty));
-    text.words(" is expected");
+    text.phrase(&[": a value of ", type_words(ty), " is expected"]);
 }
 
 /// Adds words for an expression, the kind that is expected, and its kind.
@@ -169,9 +167,6 @@ pub(crate) fn push_misjoin(text: &mut Text, types: &BlockTypes, misjoin: Misjoin
     let connection = network.data_connections.get(connection)?;
     let from = type_at_end(types, site, network, &connection.from)?;
     let to = type_at_end(types, site, network, &connection.to)?;
-    text.words(": ");
-    text.words(type_words(from));
-    text.words(" does not fit ");
-    text.words(type_words(to));
+    text.phrase(&[": ", type_words(from), " does not fit ", type_words(to)]);
     Some(())
 }

@@ -38,23 +38,6 @@ pub(crate) fn one(alloc: Global, found: Option<PlacedFinding>) -> Result<Finding
     Ok(Findings { shown, more: false })
 }
 
-/// What is wrong at a location of inputs, at this place.
-fn finding_at<'a>(
-    alloc: Global,
-    types: &BlockTypes<'a>,
-    contents: &mut Contents<'a>,
-    case: &Case,
-    location: Spot,
-    place: Option<TextLocation>,
-) -> Result<PlacedFinding, AllocError>
-    ensures found { IfOk result (λ r. r.finding.location ≡ location) }
-    ensures placed { IfOk result (λ r. r.place ≡ place) }
-{
-    let text = flaw_message(alloc, types, contents, case, location)?;
-    let finding = Finding { location, text };
-    Ok(PlacedFinding { finding, place })
-}
-
 /// What is wrong at each of these locations of inputs, with its place at the same index.
 fn findings_at<'a>(
     alloc: Global,
@@ -70,20 +53,12 @@ fn findings_at<'a>(
 {
     let mut all = Vec::new(alloc);
     for (location, place) in locations.iter().zip(places) {
-        all.push(finding_at(alloc, types, contents, case, *location, *place)?)?;
+        let text = flaw_message(alloc, types, contents, case, *location)?;
+        let (location, place) = (*location, *place);
+        let finding = Finding { location, text };
+        all.push(PlacedFinding { finding, place })?;
     }
     Ok(all)
-}
-
-/// The first of these locations, as many as are shown.
-fn first_of(locations: &[Spot]) -> &[Spot]
-    ensures { result.now ≡ take most_findings locations.now }
-{
-    if locations.len() > MOST_FINDINGS {
-        &locations[..MOST_FINDINGS]
-    } else {
-        locations
-    }
 }
 
 /// The findings at these locations of inputs. The text that declares the library is read again for their places.
@@ -99,7 +74,7 @@ pub(crate) fn listed(
     ensures placed { IfOk result (λ f. All (IsPlacedFinding declaration.now) f.shown.items) }
 {
     let more = locations.len() > MOST_FINDINGS;
-    let first = first_of(locations);
+    let first = &locations[..locations.len().min(MOST_FINDINGS)];
     let types = BlockTypes::new(alloc, case.library)?;
     let positions = positions_of(alloc, case.library, first)?;
     let places = places_of(alloc, declaration, case.library, positions.as_slice())?;

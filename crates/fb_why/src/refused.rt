@@ -56,14 +56,13 @@ fn deployment_finding(
     let Some(bytes) = deploy else {
         return Ok(None);
     };
-    let Some(location) = deployment_location(alloc, bytes)? else {
-        return Ok(None);
-    };
-    if location.number() != number {
-        return Ok(None);
+    match deployment_location(alloc, bytes)? {
+        Some(location) if location.number() == number => {
+            let words = deployment_message(alloc, bytes, location);
+            found(Spot::Deployment(location), None, words)
+        }
+        _ => Ok(None),
     }
-    let words = deployment_message(alloc, bytes, location);
-    found(Spot::Deployment(location), None, words)
 }
 
 /// Where the bytes of stimuli, if given, are refused, if their refusal has this number.
@@ -79,14 +78,13 @@ fn stimuli_finding(
     let Some(bytes) = stimuli else {
         return Ok(None);
     };
-    let Some(location) = stimuli_location(alloc, bytes)? else {
-        return Ok(None);
-    };
-    if location.number() != number {
-        return Ok(None);
+    match stimuli_location(alloc, bytes)? {
+        Some(location) if location.number() == number => {
+            let words = stimuli_message(alloc, bytes, location);
+            found(Spot::Stimuli(location), None, words)
+        }
+        _ => Ok(None),
     }
-    let words = stimuli_message(alloc, bytes, location);
-    found(Spot::Stimuli(location), None, words)
 }
 
 /// Where the bytes of a deployment or those of stimuli are refused with this number.

@@ -18,7 +18,10 @@ pub fn rules_message(
         RulesLocation::Bytes => text.words("there are more than 1,048,576 bytes"),
         RulesLocation::Document(at) => push_position(&mut text, bytes, at),
         RulesLocation::Crowded => text.words("there are more than 1,000 rules"),
-        _ => push_read(alloc, &mut text, bytes, location),
+        _ => match toml::table_from_slice(alloc, bytes) {
+            Ok(keys) => push_location(&mut text, &keys, location),
+            Err(_) => text.give_up(),
+        },
     }
     text.into_string()
 }
@@ -40,13 +43,6 @@ fn push_position(text: &mut Text, bytes: &[u8], at: usize) {
 }
 
 /// Adds what is at a location in a document.
-fn push_read(alloc: Global, text: &mut Text, bytes: &[u8], location: RulesLocation) {
-    match toml::table_from_slice(alloc, bytes) {
-        Ok(keys) => push_location(text, &keys, location),
-        Err(_) => text.give_up(),
-    }
-}
-
 fn push_location(text: &mut Text, keys: &Table, location: RulesLocation) {
     match location {
         RulesLocation::Rule { rule, fault } => {
@@ -59,8 +55,7 @@ fn push_location(text: &mut Text, keys: &Table, location: RulesLocation) {
         }
         RulesLocation::Number { rule, key } => {
             text.placed("", rule, " rule: ");
-            text.words(key_text(key));
-            text.words(range_of(key));
+            text.phrase(&[key_text(key), range_of(key)]);
         }
         _ => match keys.get("rule") {
             Some(_) if keys.len() > 1 => push_further(text, keys, &["rule"]),
@@ -76,14 +71,8 @@ fn push_fault(text: &mut Text, keys: Option<&Table>, fault: RuleFault) {
         RuleFault::NoForm => text.words("there is none of after, before, never and count"),
         RuleFault::Missing(RuleKey::Not) => text.words("there is neither see nor not"),
         RuleFault::Missing(RuleKey::Most) => text.words("there is neither least nor most"),
-        RuleFault::Missing(key) => {
-            text.words("there is no ");
-            text.words(key_text(key));
-        }
-        RuleFault::Wrong(key) => {
-            text.words(key_text(key));
-            text.words(kind_of(key));
-        }
+        RuleFault::Missing(key) => text.phrase(&["there is no ", key_text(key)]),
+        RuleFault::Wrong(key) => text.phrase(&[key_text(key), kind_of(key)]),
         RuleFault::Further => {
             if let Some(keys) = keys {
                 push_further(text, keys, known_keys(keys));
@@ -138,8 +127,7 @@ pub fn unknown_key_message(alloc: Global, rule: usize, key: RuleKey) -> Result<S
 
 /// Adds a key and its text, which is no pattern.
 fn push_pattern(text: &mut Text, keys: Option<&Table>, key: RuleKey) {
-    text.words(key_text(key));
-    text.words(": ");
+    text.phrase(&[key_text(key), ": "]);
     if let Some(written) = text_at(keys, key) {
         text.quoted(written.as_bytes());
     }

@@ -85,8 +85,7 @@ fn push_setting(text: &mut Text, types: &BlockTypes, stimulus: &Stimulus, settin
     match input_type(types, stimulus, setting) {
         Some(ty) if !ty.holds(setting.value) => {
             text.named(": ", &setting.variable);
-            text.words(" is ");
-            text.words(values_of(ty));
+            text.phrase(&[" is ", values_of(ty)]);
         }
         _ => {
             text.named(": no data input that goes WITH ", &stimulus.event);
@@ -98,12 +97,11 @@ fn push_setting(text: &mut Text, types: &BlockTypes, stimulus: &Stimulus, settin
 /// Adds the first variable that is set twice.
 fn push_twice(text: &mut Text, settings: &[Setting]) {
     for (location, setting) in settings.iter().enumerate() {
-        for other in settings.iter().take(location) {
-            if other.variable.is(&setting.variable) {
-                text.named("", &setting.variable);
-                text.words(" is set twice");
-                return;
-            }
+        let (earlier, variable) = (&settings[..location], &setting.variable);
+        if earlier.iter().any(|other| other.variable.is(variable)) {
+            text.named("", variable);
+            text.words(" is set twice");
+            return;
         }
     }
 }

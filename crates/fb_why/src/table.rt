@@ -346,7 +346,7 @@ pub static OF_STOPS: [Explanation; 3] = [
         meaning: "A resource used up its steps in one tick, and the run stopped.",
         example: "`WHILE TRUE DO X := X + 1; END_WHILE`: the loop does not end.",
         other: "Two blocks that raise each other's events with no delay between them.",
-        look: "Event connections that lead in a circle without an E_DELAY or a link; charts that go round by transitions without an event; loops. Each event, tried transition, action, statement and turn of a loop is a step. If the work of a tick is just large, give `--steps`: the default is 10,000 for each tick of a resource.",
+        look: "Event connections that lead in a circle without an E_DELAY or a link; charts that go round by transitions without an event; loops. Each event, tried transition, action, statement and iteration of a loop is a step. If the work of a tick is just large, give `--steps`: the default is 10,000 for each tick of a resource.",
     },
     Explanation {
         name: "divide",

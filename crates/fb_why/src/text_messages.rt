@@ -83,13 +83,10 @@ fn push_expected(alloc: Global, message: &mut Text, before: &[u8], expected: Exp
         return;
     };
     let words = words.as_str();
-    if !words.is_empty() {
-        message.words(if words.contains(" ") {
-            ", expected one of "
-        } else {
-            ", expected "
-        });
-        message.words(words);
+    if words.contains(" ") {
+        message.phrase(&[", expected one of ", words]);
+    } else if !words.is_empty() {
+        message.phrase(&[", expected ", words]);
     }
     push_else_if(alloc, message, before, words);
 }

@@ -1,6 +1,6 @@
 //! The text for an unknown name (E21), after the words for its position: what was expected there.
 
-use crate::contents::{Contents, NameList, Source};
+use crate::contents::{Contents, NameList, Source, SourceText};
 use fb_check_names::{PortKind, Side, UnknownName};
 use fb_check_types::mentions::Mention;
 use fb_read_positions::headings::{basic_at, composite_at};
@@ -208,13 +208,15 @@ pub(crate) fn push_unknown<'a>(
             let basic = basic_at(types.library, block)?;
             let guard = basic.transitions.get(index)?.condition.guard.as_ref()?;
             let source = Source::Guard(block, index);
-            push_mention(text, basic, contents.mention_in_guard(source, guard, at));
+            let mention = contents.mention(source, SourceText::Guard(guard), at);
+            push_mention(text, basic, mention);
         }
         Position::InBasic(block, BasicPart::Mention(algorithm, at)) => {
             let basic = basic_at(types.library, block)?;
             let body = &basic.algorithms.get(algorithm)?.body;
             let source = Source::Algorithm(block, algorithm);
-            push_mention(text, basic, contents.mention_in_body(source, body, at));
+            let mention = contents.mention(source, SourceText::Body(body), at);
+            push_mention(text, basic, mention);
         }
         _ => push_at(text, types, contents, position)?,
     }

@@ -1,94 +1,55 @@
-use Rattle.std.proofs.Common.{◌≡◌, ℕ, List, Result, Ok, Err, Vec, Global, map, refl, rules, tests, sym, ap, ◌∙◌}
-use Rattle.std.specs.Prelude.{IfOk}
-use Rattle.std.proofs.lemmas.Iterator.{YieldsList-from_map, YieldsList-from_slice, items_from_collect}
-use Rattle.std.proofs.lemmas.Iterator.Consumers.{YieldsList-at}
-use Rattle.fb_check_names.specs.declared.twice.GivenTwice.{GivenTwice}
-use Rattle.fb_check_names.specs.declared.location.UnknownName.{UnknownName}
-use Rattle.fb_check_names.specs.declared.location.Misfit.{Misfit}
-use Rattle.fb_check_names.specs.declared.location.Misjoin.{Misjoin}
-use Rattle.fb_check_names.specs.declared.location.Joined.{Joined}
-use Rattle.fb_check_names.specs.declared.location.Unmapped.{Unmapped}
-use Rattle.fb_check_names.specs.declared.location.Unlinked.{Unlinked}
-use Rattle.fb_check.specs.declared.location.StimulusLocation.{StimulusLocation}
-use Rattle.fb_check.specs.declared.refusal.Refusal.{Refusal}
+use Rattle.std.proofs.Common.{◌≡◌, ◌≤◌, ◌+◌, ◌<◌, ◌-◌, ℕ, zero, suc, List, [], ◌∷◌, ◌++◌, Option, Some, None, length, take, get_or, slice_get, refl, sym, ap, ◌∙◌, arith}
+use Rattle.std.proofs.lemmas.List.{length_push, take_all, take_more}
+use Rattle.std.proofs.lemmas.Option.{get_or_from_slice_get, slice_get_within}
 use Rattle.fb_why.specs.Listings.{spots_of}
 use Rattle.fb_why.specs.declared.spot.Spot.{Spot}
-use Rattle.fb_why.specs.declared.spot.Spot.TheVariants as spot
 use Rattle.fb_why.proofs.declared.spots_of.Goals as goal
 
--- the locations of a refusal are those of its list
-of_list : {E : Type 0} (made : Result (Vec Spot Global) E) (r s : Refusal) (ss : List Spot) → r ≡ s → spots_of s ≡ ss → IfOk made (λ v. v.items ≡ ss) → IfOk made (λ v. v.items ≡ spots_of r)
-of_list (Err e) r s ss is of holds = tt
-of_list (Ok v) r s ss is of holds = holds ∙ sym of ∙ ap spots_of (sym is)
+-- the first of these elements
+abbrev AreFirst : List Spot → List Spot → Type 0
+AreFirst ss all = (ss ≡ take (length ss) all) × (length ss ≤ length all)
 
-pub returns-in-Twice : goal.returns-in-Twice
-returns-in-Twice c =
-    let at : GivenTwice → Spot = λ p. spot.Twice p in
-    of_list c.collect.result c.args.refusal.now _ (map at c.in-Twice.found.items) c.in-Twice.is refl
-    (items_from_collect c.collect.result c.collect.ensures.ran
-    (YieldsList-from_map _ at (YieldsList-at c.map.ensures.source (YieldsList-from_slice c.in-Twice.found.items (c.iter.ensures.rest ∙ c.deref.ensures.value))) c.map.ensures.closure
-    (λ x r q k. search (rules, tests))))
+none_first : (ss all : List Spot) → ss ≡ [] → AreFirst ss all
+none_first [] all none = (refl, omega arith)
+none_first (s ∷ ss) all none = absurd (cc)
 
-pub returns-in-NameUnknown : goal.returns-in-NameUnknown
-returns-in-NameUnknown c =
-    let at : UnknownName → Spot = λ p. spot.Unknown p in
-    of_list c.collect-in-NameUnknown.result c.args.refusal.now _ (map at c.in-NameUnknown.found.items) c.in-NameUnknown.is refl
-    (items_from_collect c.collect-in-NameUnknown.result c.collect-in-NameUnknown.ensures.ran
-    (YieldsList-from_map _ at (YieldsList-at c.map-in-NameUnknown.ensures.source (YieldsList-from_slice c.in-NameUnknown.found.items (c.iter-in-NameUnknown.ensures.rest ∙ c.deref-in-NameUnknown.ensures.value))) c.map-in-NameUnknown.ensures.closure
-    (λ x r q k. search (rules, tests))))
+there : (all : List Spot) (n k : ℕ) (o : Option Spot) (x : Spot) → n ≡ k → o ≡ slice_get all n → o ≡ Some x → slice_get all k ≡ Some x
+there all n k o x same gives some = ap (slice_get all) (sym same) ∙ sym gives ∙ some
 
-pub returns-in-KindWrong : goal.returns-in-KindWrong
-returns-in-KindWrong c =
-    let at : Misfit → Spot = λ p. spot.Misfit p in
-    of_list c.collect-in-KindWrong.result c.args.refusal.now _ (map at c.in-KindWrong.found.items) c.in-KindWrong.is refl
-    (items_from_collect c.collect-in-KindWrong.result c.collect-in-KindWrong.ensures.ran
-    (YieldsList-from_map _ at (YieldsList-at c.map-in-KindWrong.ensures.source (YieldsList-from_slice c.in-KindWrong.found.items (c.iter-in-KindWrong.ensures.rest ∙ c.deref-in-KindWrong.ensures.value))) c.map-in-KindWrong.ensures.closure
-    (λ x r q k. search (rules, tests))))
+one_more : (ss more all : List Spot) (x : Spot) → slice_get all (length ss) ≡ Some x → more ≡ ss ++ x ∷ [] → AreFirst ss all → AreFirst more all
+one_more ss more all x at grown first =
+    let within = slice_get_within all (length ss) x at in
+    let long : length more ≡ length ss + 1 = ap length grown ∙ length_push ss x in (
+      grown ∙ (λ i. first.0 i ++ (sym (get_or_from_slice_get all (length ss) x x at)) i ∷ []) ∙ sym (take_more all (length ss) x within) ∙ ap (λ n. take n all) (sym long),
+      omega arith,
+    )
 
-pub returns-in-OutOfRange : goal.returns-in-OutOfRange
-returns-in-OutOfRange c =
-    let at : Misjoin → Spot = λ p. spot.Misjoin p in
-    of_list c.collect-in-OutOfRange.result c.args.refusal.now _ (map at c.in-OutOfRange.found.items) c.in-OutOfRange.is refl
-    (items_from_collect c.collect-in-OutOfRange.result c.collect-in-OutOfRange.ensures.ran
-    (YieldsList-from_map _ at (YieldsList-at c.map-in-OutOfRange.ensures.source (YieldsList-from_slice c.in-OutOfRange.found.items (c.iter-in-OutOfRange.ensures.rest ∙ c.deref-in-OutOfRange.ensures.value))) c.map-in-OutOfRange.ensures.closure
-    (λ x r q k. search (rules, tests))))
+fewer_left : (ss more all : List Spot) (x : Spot) → slice_get all (length ss) ≡ Some x → more ≡ ss ++ x ∷ [] → length all - length more < length all - length ss
+fewer_left ss more all x at grown =
+    let within = slice_get_within all (length ss) x at in
+    let long : length more ≡ length ss + 1 = ap length grown ∙ length_push ss x in
+    omega arith
 
-pub returns-in-TwoSources : goal.returns-in-TwoSources
-returns-in-TwoSources c =
-    let at : Joined → Spot = λ p. spot.Joined p in
-    of_list c.collect-in-TwoSources.result c.args.refusal.now _ (map at c.in-TwoSources.found.items) c.in-TwoSources.is refl
-    (items_from_collect c.collect-in-TwoSources.result c.collect-in-TwoSources.ensures.ran
-    (YieldsList-from_map _ at (YieldsList-at c.map-in-TwoSources.ensures.source (YieldsList-from_slice c.in-TwoSources.found.items (c.iter-in-TwoSources.ensures.rest ∙ c.deref-in-TwoSources.ensures.value))) c.map-in-TwoSources.ensures.closure
-    (λ x r q k. search (rules, tests))))
+past : (all : List Spot) (k : ℕ) → slice_get all k ≡ None → length all ≤ k
+past [] k none = omega arith
+past (s ∷ all) zero none = absurd (cc)
+past (s ∷ all) (suc k) none = let h = past all k none in omega arith
 
-pub returns-in-NotMapped : goal.returns-in-NotMapped
-returns-in-NotMapped c =
-    let at : Unmapped → Spot = λ p. spot.Unmapped p in
-    of_list c.collect-in-NotMapped.result c.args.refusal.now _ (map at c.in-NotMapped.found.items) c.in-NotMapped.is refl
-    (items_from_collect c.collect-in-NotMapped.result c.collect-in-NotMapped.ensures.ran
-    (YieldsList-from_map _ at (YieldsList-at c.map-in-NotMapped.ensures.source (YieldsList-from_slice c.in-NotMapped.found.items (c.iter-in-NotMapped.ensures.rest ∙ c.deref-in-NotMapped.ensures.value))) c.map-in-NotMapped.ensures.closure
-    (λ x r q k. search (rules, tests))))
+pub loop-spot-init : goal.loop-spot-init
+loop-spot-init c = none_first _ (spots_of c.args.refusal.now) c.new-spots.ensures.items
 
-pub returns-in-NoLink : goal.returns-in-NoLink
-returns-in-NoLink c =
-    let at : Unlinked → Spot = λ p. spot.Unlinked p in
-    of_list c.collect-in-NoLink.result c.args.refusal.now _ (map at c.in-NoLink.found.items) c.in-NoLink.is refl
-    (items_from_collect c.collect-in-NoLink.result c.collect-in-NoLink.ensures.ran
-    (YieldsList-from_map _ at (YieldsList-at c.map-in-NoLink.ensures.source (YieldsList-from_slice c.in-NoLink.found.items (c.iter-in-NoLink.ensures.rest ∙ c.deref-in-NoLink.ensures.value))) c.map-in-NoLink.ensures.closure
-    (λ x r q k. search (rules, tests))))
+pub loop-spot-preserved : goal.loop-spot-preserved
+loop-spot-preserved c =
+    one_more c.loop-spot.spots.items c.push.new.self.items (spots_of c.args.refusal.now) c.in-Some.spot
+    (there (spots_of c.args.refusal.now) c.len.result _ c.spot_at.result c.in-Some.spot (c.len.ensures ∙ c.loop-spot.spots.ok.0) c.spot_at.ensures c.in-Some.is) c.in_ok-push.ensures.items c.loop-spot.invariant
 
-pub returns-in-NoEvent : goal.returns-in-NoEvent
-returns-in-NoEvent c =
-    let at : ℕ → Spot = λ p. spot.Unserved p in
-    of_list c.collect-in-NoEvent.result c.args.refusal.now _ (map at c.in-NoEvent.found.items) c.in-NoEvent.is refl
-    (items_from_collect c.collect-in-NoEvent.result c.collect-in-NoEvent.ensures.ran
-    (YieldsList-from_map _ at (YieldsList-at c.map-in-NoEvent.ensures.source (YieldsList-from_slice c.in-NoEvent.found.items (c.iter-in-NoEvent.ensures.rest ∙ c.deref-in-NoEvent.ensures.value))) c.map-in-NoEvent.ensures.closure
-    (λ x r q k. search (rules, tests))))
+pub loop-spot-smaller : goal.loop-spot-smaller
+loop-spot-smaller c =
+    fewer_left c.loop-spot.spots.items c.push.new.self.items (spots_of c.args.refusal.now) c.in-Some.spot
+    (there (spots_of c.args.refusal.now) c.len.result _ c.spot_at.result c.in-Some.spot (c.len.ensures ∙ c.loop-spot.spots.ok.0) c.spot_at.ensures c.in-Some.is) c.in_ok-push.ensures.items
 
-pub returns-in-BadStimulus : goal.returns-in-BadStimulus
-returns-in-BadStimulus c =
-    let at : StimulusLocation → Spot = λ p. spot.Stimulus p in
-    of_list c.collect-in-BadStimulus.result c.args.refusal.now _ (map at c.in-BadStimulus.found.items) c.in-BadStimulus.is refl
-    (items_from_collect c.collect-in-BadStimulus.result c.collect-in-BadStimulus.ensures.ran
-    (YieldsList-from_map _ at (YieldsList-at c.map-in-BadStimulus.ensures.source (YieldsList-from_slice c.in-BadStimulus.found.items (c.iter-in-BadStimulus.ensures.rest ∙ c.deref-in-BadStimulus.ensures.value))) c.map-in-BadStimulus.ensures.closure
-    (λ x r q k. search (rules, tests))))
+pub returns : goal.returns
+returns c =
+    let all = spots_of c.args.refusal.now in
+    c.loop-spot.invariant.0
+    ∙ take_all _ all (past all _ (ap (slice_get all) (sym (c.len.ensures ∙ c.loop-spot.spots.ok.0)) ∙ sym c.spot_at.ensures ∙ c.in_default.is))

@@ -1,5 +1,6 @@
-use Rattle.std.proofs.Common.{◌≡◌, ◌||◌, Bool, List, [], ◌∷◌, ◌++◌, map, refl, sym, ◌∙◌, ap}
-use Rattle.std.specs.Prelude.{codes}
+use Rattle.std.proofs.Common.{◌≡◌, ◌||◌, Bool, List, [], ◌∷◌, ◌++◌, Option, Some, None, true, map, is_some, refl, sym, subst, ◌∙◌, ap}
+use Rattle.std.specs.Option.{option_or}
+use Rattle.std.specs.Prelude.{IfSome, codes}
 use Rattle.std.specs.List.{list_any}
 use Rattle.std.specs.Str.{str_eq_ignore_ascii_case}
 use Rattle.std.proofs.lemmas.List.Folds.{list_any-append}
@@ -24,20 +25,38 @@ among_names n table names are = sym (any_mapped (is n) (λ (e : Explanation). e.
 abbrev checked : List Name
 checked = of_checks ++ codes "file fault" ∷ []
 
+either : {A : Type 0} (x y : Option A) → is_some (option_or x y) ≡ (is_some x || is_some y)
+either None y = refl
+either (Some a) y = refl
+
 -- what is found in a front or in the table after it is found in both together
 after :
-    (n : Name) (front part : List Name) (table : List Explanation) (f b : Bool) → f ≡ list_any (is n) front
-    → map (λ (e : Explanation). e.name.now) table ≡ part → b ≡ (f || list_any (λ (e : Explanation). is n e.name.now) table) → b ≡ list_any (is n) (front ++ part)
-after n front part table f b before are found =
-    found ∙ ap (λ (c : Bool). c || list_any (λ (e : Explanation). is n e.name.now) table) before
-    ∙ ap (λ (c : Bool). list_any (is n) front || c) (among_names n table part are) ∙ sym (list_any-append (is n) front part)
+    (n : Name) (front part : List Name) (table : List Explanation) (x y z : Option Explanation) → z ≡ option_or x y → is_some x ≡ list_any (is n) front
+    → map (λ (e : Explanation). e.name.now) table ≡ part → is_some y ≡ list_any (λ (e : Explanation). is n e.name.now) table → is_some z ≡ list_any (is n) (front ++ part)
+after n front part table x y z made before are found =
+    ap is_some made ∙ either x y ∙ ap (λ (b : Bool). b || is_some y) before
+    ∙ ap (λ (b : Bool). list_any (is n) front || b) (found ∙ among_names n table part are) ∙ sym (list_any-append (is n) front part)
+
+-- what is found first or else has the name
+named : (n : Name) (x y z : Option Explanation) → z ≡ option_or x y → IfSome x (λ e. is n e.name.now ≡ true) → IfSome y (λ e. is n e.name.now ≡ true) → IfSome z (λ e. is n e.name.now ≡ true)
+named n None y z made first second = subst (λ (o : Option Explanation). IfSome o (λ e. is n e.name.now ≡ true)) (sym made) second
+named n (Some e) y z made first second = subst (λ (o : Option Explanation). IfSome o (λ e. is n e.name.now ≡ true)) (sym made) first
+
+pub returns-clause-named : goal.returns-clause-named
+returns-clause-named c =
+    let n = c.args.name.now in
+    let given = named n _ _ _ c.or.ensures c.look_up.ensures.named c.look_up-2.ensures.named in
+    let checks = named n _ _ _ c.or-2.ensures given c.look_up-3.ensures.named in
+    let ruled = named n _ _ _ c.or-3.ensures checks c.look_up-4.ensures.named in
+    let warned = named n _ _ _ c.or-4.ensures ruled c.look_up-5.ensures.named in
+    named n _ _ _ c.or-5.ensures warned c.look_up-6.ensures.named
 
 pub returns-clause-all : goal.returns-clause-all
 returns-clause-all c =
     let n = c.args.name.now in
-    let declared = c.look_up-declared.ensures.found ∙ among_names n c.of_declarations.result.now of_declarations c.of_declarations.ensures in
-    let given = after n of_declarations of_inputs c.of_inputs.result.now _ _ declared c.of_inputs.ensures c.or_look_up-given.ensures.found in
-    let checks = after n (of_declarations ++ of_inputs) checked c.of_checks.result.now _ _ given c.of_checks.ensures c.or_look_up-checked.ensures.found in
-    let ruled = after n (of_declarations ++ of_inputs ++ checked) of_rules c.of_rules.result.now _ _ checks c.of_rules.ensures c.or_look_up-ruled.ensures.found in
-    let warned = after n (of_declarations ++ of_inputs ++ checked ++ of_rules) of_warnings c.of_warnings.result.now _ _ ruled c.of_warnings.ensures c.or_look_up-warned.ensures.found in
-    after n (of_declarations ++ of_inputs ++ checked ++ of_rules ++ of_warnings) of_stops c.of_stops.result.now _ _ warned c.of_stops.ensures c.or_look_up.ensures.found
+    let declared = c.look_up.ensures.found ∙ among_names n c.of_declarations.result.now of_declarations c.of_declarations.ensures in
+    let given = after n of_declarations of_inputs c.of_inputs.result.now _ _ _ c.or.ensures declared c.of_inputs.ensures c.look_up-2.ensures.found in
+    let checks = after n (of_declarations ++ of_inputs) checked c.of_checks.result.now _ _ _ c.or-2.ensures given c.of_checks.ensures c.look_up-3.ensures.found in
+    let ruled = after n (of_declarations ++ of_inputs ++ checked) of_rules c.of_rules.result.now _ _ _ c.or-3.ensures checks c.of_rules.ensures c.look_up-4.ensures.found in
+    let warned = after n (of_declarations ++ of_inputs ++ checked ++ of_rules) of_warnings c.of_warnings.result.now _ _ _ c.or-4.ensures ruled c.of_warnings.ensures c.look_up-5.ensures.found in
+    after n (of_declarations ++ of_inputs ++ checked ++ of_rules ++ of_warnings) of_stops c.of_stops.result.now _ _ _ c.or-5.ensures warned c.of_stops.ensures c.look_up-6.ensures.found

@@ -3,7 +3,7 @@ use Rattle.std.specs.Prelude.{option_map}
 use Rattle.fb_types.specs.declared.deploy.Stimulus.{Stimulus}
 use Rattle.fb_types.proofs.Options.{match_none, match_some}
 use Rattle.fb_why.specs.Findings.{AreFed, AreNotFed}
-use Rattle.fb_why.proofs.Numbered.{nothing_placed, shown_flaws, unread_inputs}
+use Rattle.fb_why.proofs.Numbered.{nothing_placed, shown_flaws, shown_of, unread_inputs}
 use Rattle.fb_why.proofs.finding.flaws_with.Goals as goal
 
 pub returns-in_default-clause-found : goal.returns-in_default-clause-found
@@ -20,7 +20,8 @@ pub returns-clause-found : goal.returns-clause-found
 returns-clause-found c =
     let given = option_map (λ (b : Bor (List ℕ)). b.now) c.args.stimuli in
     λ bytes planned.
-    shown_flaws c.args.flaw c.args.declaration.now bytes given c.flaws_of.result
-    (c.flaws_of.ensures.found bytes given planned
-    (subst (λ (l : List Stimulus). AreFed c.args.flaw given l) (sym c.as_slice.ensures.value)
-    (match_some c.in_ok-stimuli.field-0 (AreNotFed c.args.flaw given) (λ (v : Vec Stimulus Global). AreFed c.args.flaw given v.items) c.in-Some.stimuli c.in_ok-stimuli.ensures c.in-Some.is)))
+    let fed = subst (λ (l : List Stimulus). AreFed c.args.flaw given l) (sym c.as_slice.ensures.value)
+    (match_some c.in_ok-stimuli.field-0 (AreNotFed c.args.flaw given) (λ (v : Vec Stimulus Global). AreFed c.args.flaw given v.items) c.in-Some.stimuli c.in_ok-stimuli.ensures c.in-Some.is) in
+    shown_flaws c.args.flaw c.args.declaration.now bytes given c.listed.result
+    (shown_of c.args.flaw c.args.declaration.now bytes given c.args.library.now c.args.plan.now c.as_slice.result.now c.in_ok-spots.spots.items c.as_slice-2.result.now c.listed.result c.requires planned fed
+    c.in_ok-spots.ensures c.as_slice-2.ensures.value c.listed.ensures.shown c.listed.ensures.more)

@@ -1,4 +1,4 @@
-use Rattle.std.proofs.Common.{◌≡◌, length, map, take, sym, ◌∙◌, ap, arith}
+use Rattle.std.proofs.Common.{length, map, take, refl, ◌∙◌, ap, arith}
 use Rattle.std.proofs.lemmas.List.{length_push, take_all}
 use Rattle.std.proofs.lemmas.Slice.Zip.{zip_end, zip_turn}
 use Rattle.fb_why.specs.declared.place.PlacedFinding.{PlacedFinding}
@@ -13,13 +13,12 @@ loop-location-preserved c =
     let l = c.loop-location in
     let ss = c.args.locations.now in
     let os = c.args.places.now in
-    let r = c.in_ok-finding_at.field-0 in
     let turn = zip_turn ss os l.yielded c.into_iter-location-iterator.result l.location-iterator c.next.new.self c.next.result
     (rw c.into_iter-location-iterator.ensures.into_iter_gives (rw c.zip-location-items.ensures.first c.iter.ensures.rest))
     (rw c.into_iter-location-iterator.ensures.into_iter_gives c.zip-location-items.ensures.second.0) l.yielded_by (c.in-Some.location, c.in-Some.place) c.in-Some.is c.next.ensures.steps in
     rw (length_push l.yielded (c.in-Some.location, c.in-Some.place)) (
-      located l.all.items c.push.new.self.items r ss (length l.yielded) c.in-Some.location.now turn.0 (turn.2 c.in-Some.location.now) c.in_ok-push.ensures.items c.in_ok-finding_at.ensures.found l.invariant.0,
-      placed_more l.all.items c.push.new.self.items r os (length l.yielded) c.in-Some.place.now turn.1 (turn.3 c.in-Some.place.now) c.in_ok-push.ensures.items c.in_ok-finding_at.ensures.placed l.invariant.1,
+      located l.all.items c.push.new.self.items _ ss (length l.yielded) c.in-Some.location.now turn.0 (turn.2 c.in-Some.location.now) c.in_ok-push.ensures.items refl l.invariant.0,
+      placed_more l.all.items c.push.new.self.items _ os (length l.yielded) c.in-Some.place.now turn.1 (turn.3 c.in-Some.place.now) c.in_ok-push.ensures.items refl l.invariant.1,
     )
 
 pub returns-clause-found : goal.returns-clause-found
