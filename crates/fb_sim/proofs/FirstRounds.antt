@@ -17,20 +17,21 @@ use Rattle.fb_sim.specs.declared.tally.Written.{Written}
 use Rattle.fb_sim.specs.declared.trial.Leg.{Leg}
 use Rattle.fb_sim.specs.declared.trial.Leg.TheVariants as legs
 use Rattle.fb_sim.proofs.RoundIs.{all_begin, come_begins}
-use Rattle.fb_sim.proofs.RunIs.{Came, both_counted, both_got, joined}
+use Rattle.fb_sim.proofs.RunIs.{CameLast, both_counted, both_got, joined}
+use Rattle.fb_sim.specs.declared.progress.Round.TheVariants.{Going}
 use Rattle.fb_sim.proofs.Texts.{part-after}
 
 module _ (i : Inputs) (o : Options) where
   -- what was written into memory that held nothing
-  pub leg_going : (core : CoreState) (old new : List ℕ) (w : Written) (rounds : ℕ) → old ≡ [] → Came i o [] core (Some old) (Some new) w rounds → HasBegun i o core w new
-  leg_going core old new w rounds none c =
-      let is : new ≡ text_of i o.form c.out = c.got ∙ ap (λ z. z ++ text_of i o.form c.out) none in
+  pub leg_going : (core : CoreState) (old new : List ℕ) (w : Written) → old ≡ [] → CameLast i o [] (Going core) (Some old) (Some new) w → HasBegun i o core w new
+  leg_going core old new w none l =
+      let is : new ≡ text_of i o.form l.out = l.wrote.got ∙ ap (λ z. z ++ text_of i o.form l.out) none in
       record {
-        out = c.out;
-        come = c.come;
+        out = l.out;
+        come = l.after.0;
         is = is;
-        counted = c.counted ∙ ap (λ (t : List ℕ). bounded (length t)) (sym is);
-        lined = c.lined;
+        counted = l.wrote.counted ∙ ap (λ (t : List ℕ). bounded (length t)) (sym is);
+        lined = l.wrote.lined;
       }
 
   pub leg_over : (finish : Finish) (old new : List ℕ) (w : Written) → old ≡ [] → RunsOn i o [] (Some old) (Some new) (Ok (finish, w)) → HasRunOut i o finish w new
@@ -90,8 +91,8 @@ module _ (i : Inputs) (o : Options) where
         leg_on finish m r = (
           h.out ++ r.0,
           r.1,
-          both_got i o [] old mid new h.out r.0 (got_whole h.out h.is) r.2,
-          both_counted i o [] h.out r.0 w.bytes m.bytes (counted_as h.out h.is h.counted) r.3,
+          both_got i o old mid new h.out r.0 (got_whole h.out h.is) r.2,
+          both_counted i o h.out r.0 w.bytes m.bytes (counted_as h.out h.is h.counted) r.3,
           both_lined h.out r.0 w.lines m.lines h.lined r.4,
         )
 
@@ -99,10 +100,10 @@ module _ (i : Inputs) (o : Options) where
         leg_failed (Write n) r = (
           h.out ++ r.0,
           r.1,
-          subst (λ (t : List ℕ). IsPartWritten old new t (bounded (w.bytes + n))) (joined i o [] h.out r.0)
+          subst (λ (t : List ℕ). IsPartWritten old new t (bounded (w.bytes + n))) (joined i o h.out r.0)
               (part-after (text_of i o.form h.out) (got_whole h.out h.is) (counted_as h.out h.is h.counted) r.2),
         )
-        leg_failed Memory r = (h.out ++ r.0, r.1, both_got i o [] old mid new h.out r.0 (got_whole h.out h.is) r.2)
+        leg_failed Memory r = (h.out ++ r.0, r.1, both_got i o old mid new h.out r.0 (got_whole h.out h.is) r.2)
         leg_failed (Refused x) bad = absurd bad
         leg_failed BadOption bad = absurd bad
         leg_failed Failed bad = absurd bad

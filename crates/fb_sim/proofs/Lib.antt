@@ -1,6 +1,7 @@
 pub mod AdvanceIs
 pub mod AgendaIs
 mod Coming
+mod CrewCrossing
 pub mod Crossing
 pub mod DeliverIs
 pub mod Edges
@@ -26,4 +27,5 @@ pub mod TakenIs
 pub mod Texts
 pub mod WindowIs
 pub mod Weaving
+pub mod Sorting
 pub mod HandedOut

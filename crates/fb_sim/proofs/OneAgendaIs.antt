@@ -101,10 +101,10 @@ module _ (i : Inputs) (o : Options) where
 
     module _ (now : Option (List ℕ)) (k : ℕ) (got : Appends mid now (text_of i o.form piece)) (counted : k ≡ bounded (length (text_of i o.form piece))) where
       got_both : Appends old now (text_of i o.form (lines_of g.taken ++ piece))
-      got_both = both_got i o [] old mid now (lines_of g.taken) piece g.got got
+      got_both = both_got i o old mid now (lines_of g.taken) piece g.got got
 
       counted_both : bounded (n + k) ≡ bounded (length (text_of i o.form (lines_of g.taken ++ piece)))
-      counted_both = both_counted i o [] (lines_of g.taken) piece n k g.counted counted
+      counted_both = both_counted i o (lines_of g.taken) piece n k g.counted counted
 
       pub gone_more : (next : Machine) → (p : Pauses i o.horizon o.steps g.at m new Lines) → (IsAt i p.0.state p.0.agenda new → IsAt i p.0.state p.0.agenda next)
           → Gone i o next old now (bounded (n + k))
@@ -141,7 +141,7 @@ module _ (i : Inputs) (o : Options) where
     gone_short good now p pauses (Write w) s = (
       lines_of g.taken ++ piece,
       both_begin good p pauses,
-      subst (λ (t : List ℕ). IsPartWritten old now t (bounded (n + w))) (joined i o [] (lines_of g.taken) piece) (part-after (text_of i o.form (lines_of g.taken)) g.got g.counted s),
+      subst (λ (t : List ℕ). IsPartWritten old now t (bounded (n + w))) (joined i o (lines_of g.taken) piece) (part-after (text_of i o.form (lines_of g.taken)) g.got g.counted s),
     )
     gone_short good now p pauses (Refused r) s = absurd s
     gone_short good now p pauses Memory s = absurd s

@@ -40,13 +40,13 @@ settled_belong :
     → Settles i limit horizon es bounds before workers s → All (BelongsTo (system_of i)) (lines_out s)
 settled_belong i limit horizon es bounds before workers (settled.Going core out) st =
     let M = machine (system_of i) limit in
-    (st.settled (phase_of M st.turns (count_of (system_of i))) (is_phase M st.turns (count_of (system_of i)) st.are_turns.others)).0.belong
+    (st.settled (phase_of M st.loans (count_of (system_of i))) (is_phase M st.loans (count_of (system_of i)) st.are_loans.others)).0.belong
 settled_belong i limit horizon es bounds before workers (settled.Ended core out) st =
     let M = machine (system_of i) limit in
-    (st.settled (phase_of M st.turns (count_of (system_of i))) (is_phase M st.turns (count_of (system_of i)) st.are_turns.others)).0.belong
+    (st.settled (phase_of M st.loans (count_of (system_of i))) (is_phase M st.loans (count_of (system_of i)) st.are_loans.others)).0.belong
 settled_belong i limit horizon es bounds before workers (settled.Stopped out mark) st =
     let M = machine (system_of i) limit in
-    (st.settled (phase_of M st.turns (count_of (system_of i))) (is_phase M st.turns (count_of (system_of i)) st.are_turns.others)).2
+    (st.settled (phase_of M st.loans (count_of (system_of i))) (is_phase M st.loans (count_of (system_of i)) st.are_loans.others)).2
 
 -- What settling says of what was away.
 abbrev Says : AwayState → Inputs → ℕ → ℕ → List (List run.Line) → Settled → Type 0

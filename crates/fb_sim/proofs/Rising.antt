@@ -18,12 +18,12 @@ use Rattle.fb_laws.proofs.Bridge.{world_of}
 use Rattle.fb_laws.proofs.OwnPart.{lawful}
 use Rattle.fb_window.specs.Bounding.{AreGreatest, IsInReach}
 use Rattle.fb_laws.specs.Finality.{core_of}
-use Rattle.fb_laws.specs.Phases.{Turn, IsPhase, turned}
-use Rattle.fb_window.specs.Settling.{AreTurns, HasRisen, after_phase}
+use Rattle.fb_laws.specs.Phases.{Loan, IsPhase, after_loan}
+use Rattle.fb_window.specs.Settling.{AreLoans, HasRisen, after_phase}
 use Rattle.fb_window.specs.Standing.{IsAt}
-use Rattle.fb_laws.proofs.AtHome.{has_turned, rises_or_stops, stop_in_range}
+use Rattle.fb_laws.proofs.AtHome.{has_returned, rises_or_stops, stop_in_range}
 use Rattle.fb_window.proofs.BoundsAre.{clock_within, home, is_round_of, kept_by}
-use Rattle.fb_laws.proofs.Phasing.{IsRound, all_turned}
+use Rattle.fb_laws.proofs.Phasing.{IsRound, after_loans}
 use Rattle.fb_laws.proofs.Reached.{runs_after}
 use Rattle.fb_sim.specs.Rounds.{Rises}
 
@@ -85,8 +85,8 @@ module _ (M : Machine) (c : Core M) where
 module _ (i : Inputs) (good : AreGood i) (limit horizon : ℕ) (es : List (CoreStep (machine (system_of i) limit)))
     (sc : IsSchedule (machine (system_of i) limit) horizon (opening_core (system_of i) (stimuli_of i) limit) es)
     (xs : List Resource) (at : IsAt i limit (core_of i limit es) xs) (cap : ℕ) (bounds : List ℕ) (greatest : AreGreatest (system_of i) limit horizon cap (core_of i limit es) bounds)
-    (workers : ℕ → ℕ) (turns : ℕ → Option (Turn (machine (system_of i) limit))) (t : AreTurns i limit horizon (core_of i limit es) bounds workers turns)
-    (fs : List (CoreStep (machine (system_of i) limit))) (phase : IsPhase (machine (system_of i) limit) turns fs)
+    (workers : ℕ → ℕ) (loans : ℕ → Option (Loan (machine (system_of i) limit))) (t : AreLoans i limit horizon (core_of i limit es) bounds workers loans)
+    (fs : List (CoreStep (machine (system_of i) limit))) (phase : IsPhase (machine (system_of i) limit) loans fs)
     (ys : List Resource) (back : IsAt i limit (core_of i limit (after_phase i limit es fs)) ys)
     (unended : IsAtHorizon (machine (system_of i) limit) (count_of (system_of i)) horizon (core_of i limit (after_phase i limit es fs)) → ⊥)
     (goes : (s : ℕ) (reason : Reason) → IsLeastStop (machine (system_of i) limit) (count_of (system_of i)) (core_of i limit (after_phase i limit es fs)) s reason → ⊥)
@@ -103,21 +103,21 @@ module _ (i : Inputs) (good : AreGood i) (limit horizon : ℕ) (es : List (CoreS
   abbrev c : Core (machine (system_of i) limit)
   c = core_of i limit es
 
-  -- after the turns, before the exchange
+  -- after the loans, before the exchange
   abbrev e : Core (machine (system_of i) limit)
-  e = all_turned (machine (system_of i) limit) (core_of i limit es) turns
+  e = after_loans (machine (system_of i) limit) (core_of i limit es) loans
 
   abbrev d : Core (machine (system_of i) limit)
   d = core_of i limit (after_phase i limit es fs)
 
-  round : IsRound (machine (system_of i) limit) horizon (opening_core (system_of i) (stimuli_of i) limit) es fs turns
-  round = is_round_of i good limit horizon es sc xs at bounds workers turns t fs phase
+  round : IsRound (machine (system_of i) limit) horizon (opening_core (system_of i) (stimuli_of i) limit) es fs loans
+  round = is_round_of i good limit horizon es sc xs at bounds workers loans t fs phase
 
   clock_same : (r : ℕ) → (d r).clock ≡ (e r).clock
   clock_same r = ap (λ (z : Core M). (z r).clock) round.comes_to
 
-  rest : (r : ℕ) → turns r ≡ None → e r ≡ c r
-  rest r none = ap (λ o. turned M (c r) o) none
+  rest : (r : ℕ) → loans r ≡ None → e r ≡ c r
+  rest r none = ap (λ o. after_loan M (c r) o) none
 
   quiet : (r : ℕ) → count_of (system_of i) ≤ r → (e r).state.stop ≡ None
   quiet r b = ap (λ (s : Member M). s.state.stop) (rest r (t.others r b)) ∙ (at.others r b).live
@@ -136,17 +136,17 @@ module _ (i : Inputs) (good : AreGood i) (limit horizon : ℕ) (es : List (CoreS
     over : (r : ℕ) → r < count_of (system_of i) → (core_of i limit es r).state.stop ≡ None → x.tick ≤ slice_index_or bounds r 0
     over r b live = (greatest r b).over m x.tick floor (let h = x.within in omega arith) in_reach
 
-    -- and so is each clock after the turns,
+    -- and so is each clock after the loans,
     past : (r : ℕ) → r < count_of (system_of i) → (e r).state.stop ≡ None → x.tick ≤ (e r).clock
     past r b none =
         ⊎_elim
         (λ live. let run = t.live r b live in
-        let turn : Turn M = record { worker = workers r; bound = slice_index_or bounds r 0; run = run.0 } in
-        let same : e r ≡ turned M (c r) (Some turn) = ap (λ o. turned M (c r) o) run.1 in
-        let h = has_turned M (lawful (system_of i) (sound_of i good) limit) horizon w c (runs_after M es) (kept_by i good limit horizon es sc) m r turn floor (t.may r turn run.1) in
-        let to : (turned M (c r) (Some turn)).clock ≡ turn.bound = h.live (sym (ap (λ (s : Member M). s.state.stop) same) ∙ none) in
-        let clock : (e r).clock ≡ (turned M (c r) (Some turn)).clock = ap (λ (s : Member M). s.clock) same in
-        let g : x.tick ≤ turn.bound = over r b live in
+        let loan : Loan M = record { worker = workers r; bound = slice_index_or bounds r 0; run = run.0 } in
+        let same : e r ≡ after_loan M (c r) (Some loan) = ap (λ o. after_loan M (c r) o) run.1 in
+        let h = has_returned M (lawful (system_of i) (sound_of i good) limit) horizon w c (runs_after M es) (kept_by i good limit horizon es sc) m r loan floor (t.may r loan run.1) in
+        let to : (after_loan M (c r) (Some loan)).clock ≡ loan.bound = h.live (sym (ap (λ (s : Member M). s.state.stop) same) ∙ none) in
+        let clock : (e r).clock ≡ (after_loan M (c r) (Some loan)).clock = ap (λ (s : Member M). s.clock) same in
+        let g : x.tick ≤ loan.bound = over r b live in
         omega arith)
         (λ q. absurd (none_some _ _ none (ap (λ (s : Member M). s.state.stop) (rest r (t.stopped r q.0 q.1)) ∙ q.1)))
         (option_cases (c r).state.stop)

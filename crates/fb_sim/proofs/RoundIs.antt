@@ -79,8 +79,8 @@ module _ (i : Inputs) (good : AreGood i) (limit horizon : ℕ) where
     home_again (settled.Going core out) st =
         let M = machine (system_of i) limit in
         let n = count_of (system_of i) in
-        let fs = phase_of M st.turns n in
-        let ph = is_phase M st.turns n st.are_turns.others in
+        let fs = phase_of M st.loans n in
+        let ph = is_phase M st.loans n st.are_loans.others in
         let se = st.settled fs ph in
         let k = se.0 in
         record {
@@ -93,14 +93,14 @@ module _ (i : Inputs) (good : AreGood i) (limit horizon : ℕ) where
             },
             se.1,
             se.2,
-            rises i good limit horizon es sc xs at cap bounds greatest workers st.turns st.are_turns fs ph core.resources.items k.at se.1 se.2 se.3,
+            rises i good limit horizon es sc xs at cap bounds greatest workers st.loans st.are_loans fs ph core.resources.items k.at se.1 se.2 se.3,
           );
         }
     home_again (settled.Ended core out) st =
         let M = machine (system_of i) limit in
         let n = count_of (system_of i) in
-        let fs = phase_of M st.turns n in
-        let ph = is_phase M st.turns n st.are_turns.others in
+        let fs = phase_of M st.loans n in
+        let ph = is_phase M st.loans n st.are_loans.others in
         let se = st.settled fs ph in
         let k = se.0 in
         let come : HasCome i limit horizon core (ls ++ map (line_of (system_of i)) out.items) = record {
@@ -112,8 +112,8 @@ module _ (i : Inputs) (good : AreGood i) (limit horizon : ℕ) where
     home_again (settled.Stopped out mark) st =
         let M = machine (system_of i) limit in
         let n = count_of (system_of i) in
-        let fs = phase_of M st.turns n in
-        let ph = is_phase M st.turns n st.are_turns.others in
+        let fs = phase_of M st.loans n in
+        let ph = is_phase M st.loans n st.are_loans.others in
         let se = st.settled fs ph in
         record {
           belong = se.2;
@@ -124,30 +124,30 @@ module _ (i : Inputs) (good : AreGood i) (limit horizon : ℕ) where
         }
 
     -- the steps of the round are those of one phase, and the exchange
-    phase_at : (s : Settled) (st : Settles i limit horizon es bounds before workers s) → IsPhaseAt i limit horizon cap es (phase_of (machine (system_of i) limit) st.turns (count_of (system_of i)))
+    phase_at : (s : Settled) (st : Settles i limit horizon es bounds before workers s) → IsPhaseAt i limit horizon cap es (phase_of (machine (system_of i) limit) st.loans (count_of (system_of i)))
     phase_at s st = record {
       bounds = bounds;
       greatest = greatest;
       workers = workers;
-      turns = st.turns;
-      are_turns = st.are_turns;
-      phase = is_phase (machine (system_of i) limit) st.turns (count_of (system_of i)) st.are_turns.others;
+      loans = st.loans;
+      are_loans = st.are_loans;
+      phase = is_phase (machine (system_of i) limit) st.loans (count_of (system_of i)) st.are_loans.others;
     }
 
     pub home_once : (s : Settled) → Settles i limit horizon es bounds before workers s → IsHomeOnce i limit horizon cap es ls s
     unfolding home_again
     home_once (settled.Going core out) st =
-        let fs = phase_of (machine (system_of i) limit) st.turns (count_of (system_of i)) in
+        let fs = phase_of (machine (system_of i) limit) st.loans (count_of (system_of i)) in
         let home = home_again (settled.Going core out) st in
         record { belong = home.belong; round = record { steps = fs; phase = phase_at (settled.Going core out) st; after = home.after; by = refl } }
     home_once (settled.Ended core out) st =
-        let fs = phase_of (machine (system_of i) limit) st.turns (count_of (system_of i)) in
+        let fs = phase_of (machine (system_of i) limit) st.loans (count_of (system_of i)) in
         let home = home_again (settled.Ended core out) st in
         record { belong = home.belong; round = record { steps = fs; phase = phase_at (settled.Ended core out) st; after = home.after; by = refl } }
     home_once (settled.Stopped out mark) st =
-        let fs = phase_of (machine (system_of i) limit) st.turns (count_of (system_of i)) in
+        let fs = phase_of (machine (system_of i) limit) st.loans (count_of (system_of i)) in
         let home = home_again (settled.Stopped out mark) st in
-        let se = st.settled fs (is_phase (machine (system_of i) limit) st.turns (count_of (system_of i)) st.are_turns.others) in
+        let se = st.settled fs (is_phase (machine (system_of i) limit) st.loans (count_of (system_of i)) st.are_loans.others) in
         record { belong = home.belong; round = record { steps = fs; phase = phase_at (settled.Stopped out mark) st; after = home.after; by = (se.0, se.1) } }
 
 -- ---- The opening

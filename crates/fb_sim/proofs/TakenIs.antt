@@ -36,6 +36,7 @@ other_world i k e w v t forest other home blocks held = record {
   blocks = λ n within here. subst (λ b. RepresentsAt i t.roots t.blocks n b) (sym (blocks (path_at (system_of i) n) (away n here))) (forest.blocks n within here);
   ways = forest.ways;
   shells = λ n within here. subst (λ b. SeatedAt i t.seats t.shells n b) (sym (blocks (path_at (system_of i) n) (away n here))) (forest.shells n within here);
+  seated = forest.seated;
   apart = forest.apart;
   held = λ x variable read apart. forest.held x variable read apart ∙ ap (λ h. Some (h (variable_of (system_of i) x))) (sym held);
 }

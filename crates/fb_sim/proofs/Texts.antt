@@ -18,6 +18,7 @@ use Rattle.fb_trace.specs.Merging.{Lists, flat}
 use Rattle.fb_trace.specs.Progress.{IsPartWritten, bounded}
 use Rattle.fb_window.specs.Settling.{IsMerged}
 use Rattle.fb_sim.specs.Weaving.{AreDivided, IsWovenText, all_bytes}
+use Rattle.fb_sim.proofs.Sorting.{woven_of}
 use Rattle.fb_sim.proofs.Weaving.{woven_joined, woven_merged}
 
 -- the text of lines, and then of more lines
@@ -55,6 +56,14 @@ handed i form heap lists count text t few counted =
     let m = woven_merged lists t.all t.woven in
     let long : length (flat lists) ≡ length t.all = sym (length_permutation (flat lists) t.all m.moved) in
     (vec_of heap t.all (omega (arith, few, counted, long)), m, t.is, counted ∙ long)
+
+-- the lines of lists become one list, if they are as few as memory may have
+pub merged_list : (heap : Global) (lists : Lists) (count : ℕ) → count < 10 ^ 12 → count ≡ length (flat lists) → (all : Vec run.Line) × IsMerged lists all.items
+merged_list heap lists count few counted =
+    let t = woven_of (map (λ v. v.items) lists) in
+    let m = woven_merged lists t.0 t.1 in
+    let long : length (flat lists) ≡ length t.0 = sym (length_permutation (flat lists) t.0 m.moved) in
+    (vec_of heap t.0 (omega (arith, few, counted, long)), m)
 
 -- ---- What is taken of two texts
 

@@ -1,8 +1,7 @@
 -- From what the calls of a round say of each other's values to what the round hands out.
-use Rattle.std.proofs.Common.{◌≡◌, ℕ, List, ◌++◌, map, length, Option, Result, Ok, Err, refl, sym, ap, ap₂, ◌∙◌, subst, ⊎_elim}
+use Rattle.std.proofs.Common.{◌≡◌, ℕ, List, ◌++◌, map, Option, Result, Ok, Err, refl, sym, ap, ap₂, ◌∙◌, subst, ⊎_elim}
 use Rattle.std.specs.Global.{Vec}
 use Rattle.std.specs.Prelude.{All}
-use Rattle.std.proofs.lemmas.List.{length-map}
 use Rattle.std.specs.List.{AllZip}
 use Rattle.std.specs.Result.{IsErrAnd}
 use Rattle.std.specs.Io.KnownBytes.{Appends}
@@ -19,7 +18,6 @@ use Rattle.fb_system.specs.Lines.{BelongsTo}
 use Rattle.fb_resource.specs.declared.resource.Resource.{Resource}
 use Rattle.fb_resource.specs.declared.resource.WindowDone.{WindowDone}
 use Rattle.fb_trace.specs.Merging.{Lists}
-use Rattle.fb_trace.specs.Progress.{IsPartWritten, bounded}
 use Rattle.fb_window.specs.Bounding.{AreGreatest}
 use Rattle.fb_laws.specs.Finality.{core_of}
 use Rattle.fb_window.specs.Jobs.{Does, JobModel, jobs_of}
@@ -35,7 +33,8 @@ use Rattle.fb_window.specs.declared.cores.Reach.{Reach}
 use Rattle.fb_window.specs.declared.cores.Reach.TheVariants as reach
 use Rattle.fb_window.specs.declared.cores.Settled.{Settled}
 use Rattle.fb_window.specs.declared.cores.Settled.TheVariants as settled
-use Rattle.fb_sim.specs.Rounds.{Begin, FailsToHandOut, HandsOut, RoundsWithCounts, HasCome, HasWalked, IsAfter, IsHomeAgain, IsHomeOnce, IsOnItsWay, Rounds, WritesPartOf, lines_out, round_of, text_of}
+use Rattle.fb_sim.specs.Rounds.{FailsRound, FailsToHandOut, HandsOut, RoundsWithCounts, HasCome, HasWalked, HoldsTo, IsAfter, IsHeldOf, IsHomeAgain, IsHomeOnce, IsOnItsWay, Rounds, WritesPartOf, lines_out, round_of, text_of}
+use Rattle.fb_sim.specs.declared.held.Held.{Held}
 use Rattle.fb_sim.specs.declared.options.Options.{Options}
 use Rattle.fb_sim.specs.declared.outcome.RunError.{RunError}
 use Rattle.fb_sim.specs.declared.outcome.RunError.TheVariants.{Refused, Memory, Write, BadOption, Failed}
@@ -43,7 +42,7 @@ use Rattle.fb_sim.specs.declared.progress.Round.{Round}
 use Rattle.fb_sim.specs.declared.progress.Round.TheVariants.{Going, Ended, Stopped}
 use Rattle.fb_sim.specs.declared.tally.Tally.{Tally}
 use Rattle.fb_window.proofs.Keeping.{keeps}
-use Rattle.fb_sim.proofs.RoundIs.{all_begin, come_begins, home_again, home_once}
+use Rattle.fb_sim.proofs.RoundIs.{come_begins, home_again, home_once}
 
 -- what holds of the inputs and the limit holds of the core's own
 at_core : (P : Inputs → ℕ → Type 0) (j i : Inputs) (l limit : ℕ) → j ≡ i → l ≡ limit → P i limit → P j l
@@ -158,64 +157,55 @@ home_since i limit horizon c ls core h s home = record { belong = home.belong; a
 
 -- ---- What is written
 
-module _ (i : Inputs) (o : Options) (c : model_cores.Core (machine (system_of i) o.steps)) (ls : List Line) (old new : Option (List ℕ)) where
-  pub counted_whole : (s : Settled) (n : Tally) → IsHomeAgain i o.steps o.horizon c ls s → Appends old new (text_of i o.form (map (line_of (system_of i)) (lines_out s)))
-      → n.bytes ≡ bounded (length (text_of i o.form (map (line_of (system_of i)) (lines_out s)))) → n.final_lines ≡ length (lines_out s)
-      → RoundsWithCounts i o c ls old new (Ok (round_of s, n))
-  counted_whole s n h got counted lined = (map (line_of (system_of i)) (lines_out s), h.after, got, counted, lined ∙ sym (length-map (lines_out s) (line_of (system_of i))))
-
-  home_begins : AreGood i → (s : Settled) → IsHomeAgain i o.steps o.horizon c ls s → Begin i o.steps o.horizon (ls ++ map (line_of (system_of i)) (lines_out s))
-  home_begins good (settled.Going core out) h = come_begins i good o.steps o.horizon core (ls ++ map (line_of (system_of i)) out.items) h.after.0
-  home_begins good (settled.Ended core out) h = come_begins i good o.steps o.horizon core (ls ++ map (line_of (system_of i)) out.items) h.after.0
-  home_begins good (settled.Stopped out mark) h = all_begin i good o.steps o.horizon (ls ++ map (line_of (system_of i)) out.items) _ h.after.1
-
-  pub counted_part : AreGood i → (s : Settled) (n : ℕ) → IsHomeAgain i o.steps o.horizon c ls s → IsPartWritten old new (text_of i o.form (map (line_of (system_of i)) (lines_out s))) n
-      → RoundsWithCounts i o c ls old new (Err (Write n))
-  counted_part good s n h part = (map (line_of (system_of i)) (lines_out s), home_begins good s h, part)
-
-  -- a writer that failed
-  pub counted_failed : AreGood i → (s : Settled) (e : RunError) → IsHomeAgain i o.steps o.horizon c ls s → WritesPartOf old new (text_of i o.form (map (line_of (system_of i)) (lines_out s))) e
-      → RoundsWithCounts i o c ls old new (Err e)
-  counted_failed good s (Write n) h part = counted_part good s n h part
-  counted_failed good s (Refused r) h part = absurd part
-  counted_failed good s Memory h part = absurd part
-  counted_failed good s BadOption h part = absurd part
-  counted_failed good s Failed h part = absurd part
-
-  -- memory that ran out before anything was written
-  pub counted_out_of_memory : (e : RunError) → e ≡ Memory → new ≡ old → RoundsWithCounts i o c ls old new (Err e)
-  counted_out_of_memory e is same = subst (λ (f : RunError). RoundsWithCounts i o c ls old new (Err f)) (sym is) same
-
-  -- the error that `?` passes on
-  pub counted_passed : (r : Result (Round × Tally) RunError) (e : RunError) → IsErrAnd r (λ f. f ≡ e) → RoundsWithCounts i o c ls old new (Err e) → RoundsWithCounts i o c ls old new r
-  counted_passed (Ok x) e bad h = absurd bad
-  counted_passed (Err f) e is h = subst (λ (x : RunError). RoundsWithCounts i o c ls old new (Err x)) (sym is) h
-
-  -- what is known whatever list all lines of the lists become
-  abbrev Homes : Reach → Lists → Type 0
-  Homes r lists = (all : Vec run.Line) → IsMerged lists all.items → IsHomeAgain i o.steps o.horizon c ls (settled_of r all)
-
+module _ (i : Inputs) (o : Options) (core : CoreState) (held : Held) (ls : List Line) (holds : HoldsTo i o.steps o.horizon core held ls) (old new : Option (List ℕ)) where
   out_same : (r : Reach) (all : Vec run.Line) → lines_out (settled_of r all) ≡ all.items
   out_same (reach.Going core) all = refl
   out_same (reach.Ended core) all = refl
   out_same (reach.Stopped mark) all = refl
 
-  pub apart_whole : (r : Reach) (lists : Lists) (round : Round) (n : Tally) → ((all : Vec run.Line) → round ≡ round_of (settled_of r all)) → Homes r lists
-      → HandsOut i o.form lists old new n.bytes n.final_lines → RoundsWithCounts i o c ls old new (Ok (round, n))
-  apart_whole r lists round n is home h =
-      let s = settled_of r h.all in
-      let same = sym (out_same r h.all) in
-      subst (λ (x : Round). RoundsWithCounts i o c ls old new (Ok (x, n))) (sym (is h.all))
-      (counted_whole s n (home h.all h.merged) (subst (λ (xs : List run.Line). Appends old new (text_of i o.form (map (line_of (system_of i)) xs))) same h.got)
-      (subst (λ (xs : List run.Line). n.bytes ≡ bounded (length (text_of i o.form (map (line_of (system_of i)) xs)))) same h.counted) (h.lined ∙ ap length same))
+  -- what is known of the lines that have become final, whatever list they become
+  abbrev Homes : Reach → Held → Type 0
+  Homes r next = (ks : List Line) (come : HasCome i o.steps o.horizon core ks) (all : Vec run.Line) → IsMerged next.lists.items all.items → IsHomeAgain i o.steps o.horizon (core_of i o.steps come.steps) ks (settled_of r all)
 
-  pub apart_failed : AreGood i → (r : Reach) (lists : Lists) (e : RunError) → Homes r lists → FailsToHandOut i o.form lists old new e → RoundsWithCounts i o c ls old new (Err e)
-  apart_failed good r lists e home h =
-      ⊎_elim (λ m. counted_out_of_memory e m.0 m.1)
-      (λ p.
-      counted_failed good (settled_of r p.all) e (home p.all p.merged)
-      (subst (λ (xs : List run.Line). WritesPartOf old new (text_of i o.form (map (line_of (system_of i)) xs)) e) (sym (out_same r p.all)) p.part))
-      h
+  -- what is held is written, and the next lines are held
+  pub held_whole : (r : Reach) (finals : Held) (bytes lines : ℕ) (t : Round × Held × Tally) → ((all : Vec run.Line) → t.0 ≡ round_of (settled_of r all)) → t.1 ≡ finals → t.2.bytes ≡ bytes → t.2.final_lines ≡ lines
+      → Homes r finals → IsHeldOf i finals → HandsOut i o.form held.lists.items old new bytes lines → RoundsWithCounts i o core held ls holds old new (Ok t)
+  held_whole r finals bytes lines (round, next, n) is same counted lined home of h = (
+    h.all,
+    h.merged,
+    h.got,
+    counted ∙ h.counted,
+    lined ∙ h.lined,
+    subst (λ (v : Held). IsHeldOf i v) (sym same) of,
+    λ later merged.
+        let come = holds.come h.all h.merged in
+        let ks = ls ++ map (line_of (system_of i)) h.all.items in
+        let c = core_of i o.steps come.steps in
+        let again = home ks come later (subst (λ (v : Held). IsMerged v.lists.items later.items) same merged) in
+        subst (λ (x : Round). IsAfter i o.steps o.horizon c (ks ++ map (line_of (system_of i)) later.items) x) (sym (is later))
+        (subst (λ (xs : List run.Line). IsAfter i o.steps o.horizon c (ks ++ map (line_of (system_of i)) xs) (round_of (settled_of r later))) (out_same r later) again.after),
+  )
+
+  -- a writer that failed
+  held_part : AreGood i → (all : Vec run.Line) → IsMerged held.lists.items all.items → (e : RunError) → WritesPartOf old new (text_of i o.form (map (line_of (system_of i)) all.items)) e → FailsRound i o ls old new e
+  held_part good all merged (Write n) part =
+      (map (line_of (system_of i)) all.items, come_begins i good o.steps o.horizon core (ls ++ map (line_of (system_of i)) all.items) (holds.come all merged), part)
+  held_part good all merged (Refused r) bad = absurd bad
+  held_part good all merged Memory bad = absurd bad
+  held_part good all merged BadOption bad = absurd bad
+  held_part good all merged Failed bad = absurd bad
+
+  -- memory that ran out before anything was written
+  pub held_out_of_memory : (e : RunError) → e ≡ Memory → new ≡ old → FailsRound i o ls old new e
+  held_out_of_memory e is same = subst (λ (f : RunError). FailsRound i o ls old new f) (sym is) same
+
+  pub held_failed : AreGood i → (e : RunError) → FailsToHandOut i o.form held.lists.items old new e → FailsRound i o ls old new e
+  held_failed good e h = ⊎_elim (λ m. held_out_of_memory e m.0 m.1) (λ p. held_part good p.all p.merged e p.part) h
+
+  -- the error that `?` passes on
+  pub held_passed : (r : Result (Round × Held × Tally) RunError) (e : RunError) → IsErrAnd r (λ f. f ≡ e) → FailsRound i o ls old new e → RoundsWithCounts i o core held ls holds old new r
+  held_passed (Ok x) e bad h = absurd bad
+  held_passed (Err f) e is h = subst (λ (x : RunError). FailsRound i o ls old new x) (sym is) h
 
 -- What one round has written: the text of its lines, or a part of it.
 module _ (i : Inputs) (o : Options) (es : List (CoreStep (machine (system_of i) o.steps))) (ls : List Line) (old new : Option (List ℕ)) where

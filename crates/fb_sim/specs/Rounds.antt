@@ -1,5 +1,5 @@
 -- A run with workers, round after round (this project's profile).
-use Rattle.std.specs.Prelude.{◌≡◌, ◌⊎◌, ◌+◌, ◌<◌, ℕ, List, ◌++◌, map, length, All, Option, Result, Ok, Err}
+use Rattle.std.specs.Prelude.{◌≡◌, ◌⊎◌, ◌+◌, ◌<◌, ◌^◌, ℕ, List, ◌++◌, map, length, All, Option, Result, Ok, Err}
 use Rattle.std.specs.Global.{Vec}
 use Rattle.std.specs.Io.KnownBytes.{Appends}
 use Rattle.fb_types.specs.Headline.{Inputs, system_of, stimuli_of}
@@ -15,14 +15,14 @@ use Rattle.fb_types.specs.declared.run.Form.{Form}
 use Rattle.fb_types.specs.declared.run.Line as run
 use Rattle.fb_types.specs.declared.value.Reason.{Reason}
 use Rattle.fb_system.specs.Lines.{BelongsTo}
-use Rattle.fb_trace.specs.Merging.{Lists}
+use Rattle.fb_trace.specs.Merging.{Lists, flat}
 use Rattle.fb_trace.specs.Progress.{IsPartWritten, bounded}
 use Rattle.fb_trace.specs.declared.last.Outcome.{Outcome}
 use Rattle.fb_trace.specs.declared.last.Outcome.TheVariants.{End, Stop}
 use Rattle.fb_laws.specs.Finality.{HasKept, core_of}
-use Rattle.fb_laws.specs.Phases.{Turn, IsPhase}
+use Rattle.fb_laws.specs.Phases.{Loan, IsPhase}
 use Rattle.fb_window.specs.Bounding.{AreGreatest}
-use Rattle.fb_window.specs.Settling.{AreTurns, IsMerged, IsUnderWay, after_phase, lists_of}
+use Rattle.fb_window.specs.Settling.{AreLoans, IsMerged, IsUnderWay, after_phase, lists_of}
 use Rattle.fb_window.specs.Standing.{IsAt}
 use Rattle.fb_window.specs.declared.cores.CoreState.{CoreState}
 use Rattle.fb_window.specs.declared.cores.Settled.{Settled}
@@ -34,6 +34,7 @@ use Rattle.fb_sim.specs.declared.outcome.RunError.{RunError}
 use Rattle.fb_sim.specs.declared.outcome.RunError.TheVariants.{Refused, Memory, Write, BadOption, Failed}
 use Rattle.fb_sim.specs.declared.drive.Finish.{Finish}
 use Rattle.fb_sim.specs.declared.drive.Finish.TheVariants.{AtEnd, AtMark}
+use Rattle.fb_sim.specs.declared.held.Held.{Held}
 use Rattle.fb_sim.specs.declared.progress.Round.{Round}
 use Rattle.fb_sim.specs.declared.progress.Round.TheVariants.{Going, Ended, Stopped}
 use Rattle.fb_sim.specs.declared.tally.Tally.{Tally}
@@ -121,9 +122,9 @@ pub record IsPhaseAt (i : Inputs) (limit horizon cap : ℕ) (es fs : List (CoreS
   pub bounds : List ℕ
   pub greatest : AreGreatest (system_of i) limit horizon cap (core_of i limit es) bounds
   pub workers : ℕ → ℕ
-  pub turns : ℕ → Option (Turn (machine (system_of i) limit))
-  pub are_turns : AreTurns i limit horizon (core_of i limit es) bounds workers turns
-  pub phase : IsPhase (machine (system_of i) limit) turns fs
+  pub loans : ℕ → Option (Loan (machine (system_of i) limit))
+  pub are_loans : AreLoans i limit horizon (core_of i limit es) bounds workers loans
+  pub phase : IsPhase (machine (system_of i) limit) loans fs
 
 -- The core of the round is where these steps have led; or they have led to its stop.
 abbrev pub IsBy : (i : Inputs) (limit horizon : ℕ) (c : model_cores.Core (machine (system_of i) limit)) (ls : List Line) (ds : List (CoreStep (machine (system_of i) limit))) (round : Round)
@@ -158,15 +159,29 @@ FailsRound i o ls old new (Refused r) = ⊥
 FailsRound i o ls old new BadOption = ⊥
 FailsRound i o ls old new Failed = ⊥
 
--- Where these lines were handed out of the core c, some turns of single resources and a round hand out the next ones, and the writer gets their text, of this many bytes and this many lines.
-abbrev pub RoundsWithCounts : (i : Inputs) (o : Options) (c : model_cores.Core (machine (system_of i) o.steps)) (ls : List Line) → (old new : Option (List ℕ)) → Result (Round × Tally) RunError → Type 0
-RoundsWithCounts i o c ls old new (Ok (round, tally)) =
-    (out : List Line)
-    × IsAfter i o.steps o.horizon c (ls ++ out) round
-    × Appends old new (text_of i o.form out)
-    × (tally.bytes ≡ bounded (length (text_of i o.form out)))
-    × (tally.final_lines ≡ length out)
-RoundsWithCounts i o c ls old new (Err e) = FailsRound i o ls old new e
+-- Lines of the system that are held, and how many they are.
+pub record IsHeldOf (i : Inputs) (held : Held) : Type 0 where
+  pub belong : All (λ p. All (BelongsTo (system_of i)) p.items) held.lists.items
+  pub counted : held.count ≡ length (flat held.lists.items)
+  pub few : held.count < 10 ^ 12
+
+-- Some steps, each in its turn, led to the core. These lines were handed out of it, and then those that are held, whichever list in the order of the trace they become.
+pub record HoldsTo (i : Inputs) (limit horizon : ℕ) (core : CoreState) (held : Held) (ls : List Line) : Type 0 where
+  pub of : IsHeldOf i held
+  pub come : (all : Vec run.Line) → IsMerged held.lists.items all.items → HasCome i limit horizon core (ls ++ map (line_of (system_of i)) all.items)
+
+-- Where these lines were written, and others are held, some turns of single resources and a round write those that are held: the writer gets their text, of this many bytes and this many lines. The round holds the next ones.
+abbrev pub RoundsWithCounts : (i : Inputs) (o : Options) (core : CoreState) (held : Held) (ls : List Line) → HoldsTo i o.steps o.horizon core held ls → (old new : Option (List ℕ)) → Result (Round × Held × Tally) RunError → Type 0
+RoundsWithCounts i o core held ls holds old new (Ok (round, next, tally)) =
+    (all : Vec run.Line)
+    × (merged : IsMerged held.lists.items all.items)
+    × Appends old new (text_of i o.form (map (line_of (system_of i)) all.items))
+    × (tally.bytes ≡ bounded (length (text_of i o.form (map (line_of (system_of i)) all.items))))
+    × (tally.final_lines ≡ length all.items)
+    × IsHeldOf i next
+    × ((later : Vec run.Line) → IsMerged next.lists.items later.items
+    → IsAfter i o.steps o.horizon (core_of i o.steps (holds.come all merged).steps) ((ls ++ map (line_of (system_of i)) all.items) ++ map (line_of (system_of i)) later.items) round)
+RoundsWithCounts i o core held ls holds old new (Err e) = FailsRound i o ls old new e
 
 -- ---- A run
 
@@ -255,6 +270,15 @@ pub record HandsPart (i : Inputs) (form : Form) (lists : Lists) (old new : Optio
 -- Memory ran out before the first byte, or the writer failed.
 abbrev pub FailsToHandOut : (i : Inputs) (form : Form) (lists : Lists) (old new : Option (List ℕ)) → RunError → Type 0
 FailsToHandOut i form lists old new e = ((e ≡ Memory) × (new ≡ old)) ⊎ HandsPart i form lists old new e
+
+-- All lines of the lists too, where this was written before.
+abbrev pub HandsOutAfter : (i : Inputs) (form : Form) (lists : Lists) (old new : Option (List ℕ)) → (before after : Written) → Type 0
+HandsOutAfter i form lists old new before after =
+    (bytes : ℕ) × (lines : ℕ) × HandsOut i form lists old new bytes lines × (after ≡ record { bytes = bounded (before.bytes + bytes); lines = bounded (before.lines + lines) })
+
+-- An error instead, where this many bytes were written before.
+abbrev pub FailsAfter : (i : Inputs) (form : Form) (lists : Lists) (old new : Option (List ℕ)) → (before : ℕ) → RunError → Type 0
+FailsAfter i form lists old new before e = (f : RunError) × FailsToHandOut i form lists old new f × (e ≡ after_bytes before f)
 
 -- the round as it ends, and the lines to be written in it
 abbrev pub round_of : Settled → Round

@@ -1,19 +1,22 @@
 //! Rounds, one after another, up to the end.
 
-ghost use Rattle.std.specs.Prelude.{◌≡◌, ◌≤◌, List};
+ghost use Rattle.std.specs.Prelude.{◌≡◌, ◌≤◌, All, List, IfErr, IfOk};
 ghost use Rattle.fb_types.specs.States as model;
+ghost use Rattle.fb_system.specs.OfSystem.{BelongsTo};
 ghost use Rattle.fb_sim.specs.Serial.{AreWithin};
-ghost use Rattle.fb_sim.specs.Rounds.{HasCome, RunsOn, after_bytes, outcome_at};
+ghost use Rattle.fb_sim.specs.Rounds.{FailsAfter, HandsOutAfter, HasCome, RunsOn, after_bytes, outcome_at};
 
+use crate::held::{Held, Standing};
 use crate::options::Options;
 use crate::outcome::RunError;
 use crate::progress::Round;
 use crate::rounds::round_with_counts;
 use crate::tally::{RoundPlan, Written, first_window};
+use crate::work::Hands;
 use fb_phase::Gate;
 use fb_system::System;
 use fb_trace::Outcome;
-use fb_types::StopMark;
+use fb_types::{Form, StopMark};
 use fb_window::Core;
 use std::alloc::Global;
 use std::io::Write;
@@ -49,6 +52,25 @@ pub(crate) fn later(written: u128, error: RunError) -> RunError
     }
 }
 
+/// Writes the lines that are held where no round comes after, once this was written. It answers all that is written.
+pub(crate) fn write_held<W: Write>(
+    alloc: Global,
+    system: &System,
+    form: Form,
+    held: Held,
+    written: Written,
+    out: &mut W,
+) -> Result<Written, RunError>
+    requires { All (λ p. All (BelongsTo system.now) p.items) held.lists.items }
+    ensures whole { IfOk result (HandsOutAfter system.now form held.lists.items (W.contents out.old) (W.contents out.new) written) }
+    ensures failed { IfErr result (FailsAfter system.now form held.lists.items (W.contents out.old) (W.contents out.new) written.bytes) }
+{
+    match held.hand_out(alloc, system, form, out) {
+        Ok((bytes, lines)) => Ok(written.and(Written { bytes, lines })),
+        Err(error) => Err(later(written.bytes, error)),
+    }
+}
+
 /// Runs a core by rounds to the horizon, or to a stop, and writes all lines, but no last line. It answers what was
 /// written. The first round has all workers, and each other one as many as what the round before it did
 /// is worth. There is at most one round more than there are ticks below the horizon.
@@ -59,14 +81,15 @@ pub(crate) fn run_on<R: Threads + Wait + Sync, W: Write, P: Gate>(
     first: Core,
     options: Options,
     out: &mut W,
-    gate: &P,
+    hands: &Hands<'_, P>,
 ) -> Result<(Finish, Written), RunError>
     requires options { AreWithin options }
     requires come { (ls : List model.Line) × HasCome system.now options.steps options.horizon first ls }
     ensures { (ls : List model.Line) → HasCome system.now options.steps options.horizon first ls → RunsOn system.now options ls (W.contents out.old) (W.contents out.new) result }
 {
     system.facts();
-    let mut core = first;
+    let held = Held::none(alloc);
+    let mut standing = Standing { core: first, held };
     let mut written = Written { bytes: 0, lines: 0 };
     let mut workers = options.workers;
     let mut turns = 0;
@@ -78,16 +101,22 @@ pub(crate) fn run_on<R: Threads + Wait + Sync, W: Write, P: Gate>(
             turns,
             ticks,
         };
-        match round_with_counts(rt, alloc, system, core, plan, out, gate) {
-            Ok((round, tally)) => {
+        match round_with_counts(rt, alloc, system, standing, plan, out, hands) {
+            Ok((round, held, tally)) => {
                 written = written.with(&tally);
                 workers = tally.workers(options.workers);
                 turns = tally.turns();
                 ticks = tally.ticks(ticks);
                 match round {
-                    Round::Going(next) => core = next,
-                    Round::Ended(last) => return Ok((Finish::AtEnd(last), written)),
-                    Round::Stopped(mark) => return Ok((Finish::AtMark(mark), written)),
+                    Round::Going(core) => standing = Standing { core, held },
+                    Round::Ended(last) => {
+                        let all = write_held(alloc, system, options.form, held, written, out)?;
+                        return Ok((Finish::AtEnd(last), all));
+                    }
+                    Round::Stopped(mark) => {
+                        let all = write_held(alloc, system, options.form, held, written, out)?;
+                        return Ok((Finish::AtMark(mark), all));
+                    }
                 }
             }
             Err(error) => return Err(later(written.bytes, error)),

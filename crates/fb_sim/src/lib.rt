@@ -6,10 +6,11 @@
 //!
 //! Read in this order: `options` and `outcome`; `reading`, the steps before a run; `serial` with `one_agenda`, a run on
 //! one thread. A run with workers: `runs` with `trial`, `drive` and `rounds`; `pace`, `progress`, `tally`, `work`,
-//! `printing` and `weave`. Then `simulation` and `state`; `with_progress`, a run that reports its progress.
+//! `held`, `printing` and `weave`. Then `simulation` and `state`; `with_progress`, a run that reports its progress.
 #![tactic(auto)]
 
 mod drive;
+mod held;
 mod one_agenda;
 pub mod options;
 pub mod outcome;

@@ -1,35 +1,23 @@
 //! The lines of a round as text, which several threads make if there are many.
 
-ghost use Rattle.std.specs.Prelude.{◌≡◌, ◌++◌, ◌<◌, ◌≤◌, map, length, All, IfErr, IfOk};
+ghost use Rattle.std.specs.Prelude.{◌≡◌, ◌++◌, ◌≤◌, map, length, All, IfErr, IfOk};
 ghost use Rattle.std.specs.Io.KnownBytes.{Appends};
 ghost use Rattle.fb_system.specs.OfSystem.{BelongsTo};
 ghost use denote.Param.Send.{IsSync};
-ghost use Rattle.fb_trace.specs.Merging.{flat};
 ghost use Rattle.fb_trace.specs.Progress.{bounded};
-ghost use Rattle.fb_sim.specs.Rounds.{FailsToHandOut, HandsOut, WritesPartOf};
+ghost use Rattle.fb_sim.specs.Rounds.{WritesPartOf};
 ghost use Rattle.fb_sim.specs.Weaving.{IsWovenText, all_bytes};
 
 use crate::drive::later;
-use crate::options::Options;
 use crate::outcome::RunError;
-use crate::rounds::hand_out;
 use crate::weave::{divide, slices, woven_text};
 use fb_system::System;
-use fb_trace::{merge, write_front};
+use fb_trace::write_front;
 use fb_types::{Form, Line};
 use std::alloc::{AllocError, Global};
 use std::io::Write;
 use std::thread;
 use std::thread::Threads;
-
-/// One thread sorts and writes fewer lines than this before others have started.
-const MANY: usize = 4096;
-
-/// Fewer lines than this are sorted and written by one thread, also where they are at few ticks.
-const FEW: usize = 1024;
-
-/// A round gives fewer lines than this.
-const MOST: usize = 1_000_000_000_000;
 
 /// The text of the lines of lists in one part.
 fn one_text(
@@ -116,7 +104,7 @@ fn write_text<W: Write>(out: &mut W, text: &[u8]) -> Result<u128, RunError>
 }
 
 /// Writes texts, one after another, and answers how many bytes they have.
-fn write_texts<W: Write>(out: &mut W, texts: &[Vec<u8>]) -> Result<u128, RunError>
+pub(crate) fn write_texts<W: Write>(out: &mut W, texts: &[Vec<u8>]) -> Result<u128, RunError>
     ensures whole { IfOk result (λ n. Appends (W.contents out.old) (W.contents out.new) (all_bytes texts.now) × (n ≡ bounded (length (all_bytes texts.now)))) }
     ensures part { IfErr result (WritesPartOf (W.contents out.old) (W.contents out.new) (all_bytes texts.now)) }
 {
@@ -130,41 +118,8 @@ fn write_texts<W: Write>(out: &mut W, texts: &[Vec<u8>]) -> Result<u128, RunErro
     Ok(written)
 }
 
-/// How many lines are in the lists, up to the greatest `usize`.
-fn count_in(lists: &[Vec<Line>]) -> usize
-    ensures { result < MOST → result ≡ length (flat lists.now) }
-{
-    let mut count: usize = 0;
-    for list in lists {
-        count = count.saturating_add(list.len());
-    }
-    count
-}
-
-/// How many ticks the lines of a list reach over, where their ticks do not fall.
-fn ticks_in(list: &[Line]) -> u64 {
-    match (list.first(), list.last()) {
-        (Some(first), Some(last)) => last.key.tick.saturating_sub(first.key.tick),
-        _ => 0,
-    }
-}
-
-/// Whether this many lines are at few ticks: then looking at each list in each tick takes less time than sorting them.
-fn are_close(lists: &[Vec<Line>], count: usize) -> bool {
-    let mut ticks: u64 = 0;
-    for list in lists {
-        ticks = ticks.max(ticks_in(list.as_slice()));
-    }
-    ticks.saturating_mul(lists.len() as u64) <= (count as u64).saturating_mul(4)
-}
-
-/// Whether several threads make the text of this many lines.
-fn are_shared(lists: &[Vec<Line>], count: usize) -> bool {
-    count >= MANY || (count >= FEW && are_close(lists, count))
-}
-
 /// The text of lines in parts, one after another, each of which one of this many threads makes.
-fn texts_of<R: Threads + Sync>(
+pub(crate) fn texts_of<R: Threads + Sync>(
     rt: &R,
     alloc: Global,
     system: &System,
@@ -177,32 +132,4 @@ fn texts_of<R: Threads + Sync>(
 {
     let whole = slices(alloc, lists)?;
     texts_by(rt, alloc, system, form, whole.as_slice(), threads)
-}
-
-/// Writes the lines of lists, one for each resource, in the order of the trace. It answers how many bytes they have, and
-/// how many they are. Several threads make the text of many lines before the first byte is written, if there is memory
-/// for it.
-pub(crate) fn hand_out_apart<R: Threads + Sync, W: Write>(
-    rt: &R,
-    alloc: Global,
-    out: &mut W,
-    system: &System,
-    options: Options,
-    lists: Vec<Vec<Line>>,
-) -> Result<(u128, u128), RunError>
-    requires belong { All (λ p. All (BelongsTo system.now) p.items) lists.items }
-    ensures whole { IfOk result (λ r. HandsOut system.now options.form lists.items (W.contents out.old) (W.contents out.new) r.0 r.1) }
-    ensures failed { IfErr result (FailsToHandOut system.now options.form lists.items (W.contents out.old) (W.contents out.new)) }
-{
-    let Options { form, workers, .. } = options;
-    let count = count_in(&lists);
-    if workers > 1 && are_shared(&lists, count) && count < MOST {
-        if let Ok(texts) = texts_of(rt, alloc, system, form, &lists, workers as usize) {
-            let bytes = write_texts(out, texts.as_slice())?;
-            return Ok((bytes, count as u128));
-        }
-    }
-    let lines = merge(alloc, lists)?;
-    let bytes = hand_out(out, system, form, &lines)?;
-    Ok((bytes, lines.len() as u128))
 }

@@ -20,16 +20,18 @@ ghost use Rattle.fb_window.specs.Reached.{KeepHorizon};
 ghost use Rattle.fb_window.specs.Settling.{IsMerged, settled_of};
 ghost use Rattle.fb_sim.specs.Serial.{AreWithin};
 ghost use Rattle.fb_sim.specs.Rounds as spec;
-ghost use Rattle.fb_sim.specs.Rounds.{RoundsWithCounts, HasCome, HasWalked, IsHomeAgain, IsHomeOnce, IsOnItsWay, Rounds, WritesPartOf, lines_out};
+ghost use Rattle.fb_sim.specs.Rounds.{RoundsWithCounts, HasCome, HasWalked, HoldsTo, IsHeldOf, IsHomeAgain, IsHomeOnce, IsOnItsWay, Rounds, WritesPartOf, lines_out};
+ghost use Rattle.fb_sim.specs.Weaving.{IsWovenText, all_bytes};
 ghost use Rattle.fb_sim.specs.declared.outcome.RunError.TheVariants.{Memory};
 
+use crate::held::{Held, Standing};
 use crate::options::Options;
 use crate::outcome::RunError;
-use crate::printing::hand_out_apart;
+use crate::printing::write_texts;
 use crate::progress::Round;
 use crate::tally::{LONGEST_WINDOW, RoundPlan, Tally};
-use crate::work::Windows;
-use fb_phase::{Gate, run_all};
+use crate::work::{Hands, Windows};
+use fb_phase::{Crew, Gate, run_all};
 use fb_resource::WindowDone;
 use fb_system::System;
 use fb_trace::write_lines_with_count;
@@ -38,6 +40,7 @@ use fb_window::{Core, Job, Reach, Settled};
 use std::alloc::{AllocError, Global};
 use std::io::Write;
 use std::sync::Wait;
+use std::thread;
 use std::thread::Threads;
 
 /// How many of the jobs have something to do.
@@ -97,7 +100,7 @@ fn run_jobs<R: Threads + Wait + Sync, P: Gate>(
     alloc: Global,
     jobs: Vec<Job>,
     workers: usize,
-    gate: &P,
+    hands: &Hands<'_, P>,
 ) -> Result<Vec<WindowDone>, RunError>
     requires few_jobs { vec_len jobs ≤ 256 }
     requires some { 1 ≤ workers }
@@ -106,9 +109,9 @@ fn run_jobs<R: Threads + Wait + Sync, P: Gate>(
     ensures memory { IfErr result (λ e. e ≡ Memory) }
 {
     if workers == 1 {
-        return Ok(run_here(rt, alloc, jobs, gate)?);
+        return Ok(run_here(rt, alloc, jobs, hands.gate)?);
     }
-    Ok(run_all(rt, alloc, &Windows, jobs, workers, gate)?)
+    Ok(hands.run(rt, alloc, jobs, workers)?)
 }
 
 /// The core after the turns of single resources that are planned. What has become final meanwhile is handed out after
@@ -129,12 +132,36 @@ fn walked(alloc: Global, system: &System, core: Core, plan: RoundPlan) -> Result
 struct WindowResult {
     /// How far the run is.
     reach: Reach,
-    /// For each resource its lines that have become final.
-    finals: Vec<Vec<Line>>,
+    /// The lines that have become final.
+    finals: Held,
     /// How many resources had something to do.
     busy: usize,
     /// How many lines they gave.
     lines: usize,
+}
+
+impl WindowResult {
+    /// What a round gives that has written this many bytes, of this many lines.
+    fn after(self, bytes: u128, final_lines: u128) -> (Round, Held, Tally)
+        ensures round { (all : Vec Line) → result.0 ≡ spec.round_of (settled_of self.reach all) }
+        ensures held { result.1 ≡ self.finals }
+        ensures bytes { result.2.bytes ≡ bytes }
+        ensures lines { result.2.final_lines ≡ final_lines }
+    {
+        let WindowResult {
+            reach,
+            finals,
+            busy,
+            lines,
+        } = self;
+        let tally = Tally {
+            bytes,
+            busy,
+            lines,
+            final_lines,
+        };
+        (round_at(reach), finals, tally)
+    }
 }
 
 /// Runs each resource to its bound, with the workers, and puts all back together. A bound is at most this many ticks
@@ -146,15 +173,15 @@ fn window<R: Threads + Wait + Sync, P: Gate>(
     core: Core,
     options: Options,
     ticks: u64,
-    gate: &P,
+    hands: &Hands<'_, P>,
 ) -> Result<WindowResult, RunError>
     requires options { AreWithin options }
     requires ticks { 1 ≤ ticks }
     requires come { (ls : List model.Line) × IsOnItsWay system.now options.steps options.horizon core ls }
     ensures home { (ls : List model.Line) (way : IsOnItsWay system.now options.steps options.horizon core ls)
-        → IfOk result (λ r. (all : Vec Line) → IsMerged r.finals.items all.items
+        → IfOk result (λ r. (all : Vec Line) → IsMerged r.finals.lists.items all.items
         → IsHomeAgain system.now options.steps options.horizon (core_of system.now options.steps way.steps) ls (settled_of r.reach all)) }
-    ensures belong { IfOk result (λ r. All (λ p. All (BelongsTo system.now) p.items) r.finals.items) }
+    ensures held { IfOk result (λ r. IsHeldOf system.now r.finals) }
     ensures memory { IfErr result (λ e. e ≡ Memory) }
 {
     system.facts();
@@ -162,12 +189,12 @@ fn window<R: Threads + Wait + Sync, P: Gate>(
     let (away, jobs) = core.jobs(alloc, system, bounds)?;
     let busy = busy_in(jobs.as_slice());
     let workers = workers_for(busy, options.workers);
-    let dones = run_jobs(rt, alloc, jobs, workers, gate)?;
+    let dones = run_jobs(rt, alloc, jobs, workers, hands)?;
     let lines = lines_in(dones.as_slice());
     let (reach, finals) = away.settle_apart(alloc, system, dones)?;
     Ok(WindowResult {
         reach,
-        finals,
+        finals: Held::of(finals)?,
         busy,
         lines,
     })
@@ -224,38 +251,135 @@ pub(crate) fn hand_out<W: Write>(
     }
 }
 
-/// A round of a run, as planned, with what it has done.
+/// How many threads make the text of lines beside a window of a run with this many workers: mostly one, since a window
+/// with few workers takes at least as long.
+fn text_threads(workers: u64) -> usize {
+    (workers / 4).max(1) as usize
+}
+
+/// What a window starts from while the text of a round before it is made.
+#[derive(Drop)]
+struct Start {
+    standing: Standing,
+    plan: RoundPlan,
+}
+
+/// Makes the text of the lines that are held, on threads of its own, and beside it the window with a crew. It takes the
+/// gate and the crew by themselves: of a closure that holds a type with a lifetime, nothing is known but that it ends.
+fn window_of_crew<R: Threads + Wait + Sync, P: Gate>(
+    rt: &R,
+    alloc: Global,
+    system: &System,
+    start: Start,
+    gate: &P,
+    crew: &Crew<Windows>,
+) -> Result<(Vec<Vec<u8>>, WindowResult), RunError>
+    requires options { AreWithin start.plan.options }
+    requires ticks { 1 ≤ start.plan.ticks }
+    requires come { (ls : List model.Line) × IsOnItsWay system.now start.plan.options.steps start.plan.options.horizon start.standing.core ls }
+    requires held { IsHeldOf system.now start.standing.held }
+    ensures text { IfOk result (λ r. IsWovenText system.now start.plan.options.form (map (λ p. p.items) start.standing.held.lists.items) (all_bytes r.0.items)) }
+    ensures home { (ls : List model.Line) (way : IsOnItsWay system.now start.plan.options.steps start.plan.options.horizon start.standing.core ls)
+        → IfOk result (λ r. (all : Vec Line) → IsMerged r.1.finals.lists.items all.items
+        → IsHomeAgain system.now start.plan.options.steps start.plan.options.horizon (core_of system.now start.plan.options.steps way.steps) ls (settled_of r.1.reach all)) }
+    ensures held { IfOk result (λ r. IsHeldOf system.now r.1.finals) }
+    ensures memory { IfErr result (λ e. e ≡ Memory) }
+{
+    let Start { standing, plan } = start;
+    let Standing { core, held } = standing;
+    let RoundPlan { options, ticks, .. } = plan;
+    let form = options.form;
+    let threads = text_threads(options.workers);
+    let back = move || -> Result<Vec<Vec<u8>>, AllocError>
+        requires { All (λ p. All (BelongsTo system.now) p.items) held.lists.items }
+        ensures { IfOk result (λ v. IsWovenText system.entry.now form (map (λ p. p.items) held.lists.items) (all_bytes v.items)) }
+    { held.text(rt, alloc, system, form, threads) };
+    let front = move || -> Result<WindowResult, RunError>
+        requires { AreWithin options × (1 ≤ ticks) × ((ls : List model.Line) × IsOnItsWay system.now options.steps options.horizon core ls) }
+        ensures { ((ls : List model.Line) (way : IsOnItsWay system.entry.now options.steps options.horizon core ls)
+            → IfOk result (λ r. (all : Vec Line) → IsMerged r.finals.lists.items all.items
+            → IsHomeAgain system.entry.now options.steps options.horizon (core_of system.entry.now options.steps way.steps) ls (settled_of r.reach all)))
+            × IfOk result (λ r. IsHeldOf system.entry.now r.finals)
+            × IfErr result (λ e. e ≡ Memory) }
+    {
+        let hands = Hands::living(gate, crew, options.workers);
+        window(rt, alloc, system, core, options, ticks, &hands)
+    };
+    // The first closure gets a thread, and the second one runs here: so this thread calls the crew.
+    let (texts, result) = thread::join(rt, back, front);
+    let texts = texts?;
+    let result = result?;
+    Ok((texts, result))
+}
+
+/// Makes the text of the lines that are held, and the window: beside it if the run has a crew. Otherwise the window
+/// starts threads of its own, and as many make the text after it.
+fn window_beside<R: Threads + Wait + Sync, P: Gate>(
+    rt: &R,
+    alloc: Global,
+    system: &System,
+    standing: Standing,
+    plan: RoundPlan,
+    hands: &Hands<'_, P>,
+) -> Result<(Vec<Vec<u8>>, WindowResult), RunError>
+    requires options { AreWithin plan.options }
+    requires ticks { 1 ≤ plan.ticks }
+    requires come { (ls : List model.Line) × IsOnItsWay system.now plan.options.steps plan.options.horizon standing.core ls }
+    requires held { IsHeldOf system.now standing.held }
+    ensures text { IfOk result (λ r. IsWovenText system.now plan.options.form (map (λ p. p.items) standing.held.lists.items) (all_bytes r.0.items)) }
+    ensures home { (ls : List model.Line) (way : IsOnItsWay system.now plan.options.steps plan.options.horizon standing.core ls)
+        → IfOk result (λ r. (all : Vec Line) → IsMerged r.1.finals.lists.items all.items
+        → IsHomeAgain system.now plan.options.steps plan.options.horizon (core_of system.now plan.options.steps way.steps) ls (settled_of r.1.reach all)) }
+    ensures held { IfOk result (λ r. IsHeldOf system.now r.1.finals) }
+    ensures memory { IfErr result (λ e. e ≡ Memory) }
+{
+    match hands.crew {
+        Some(crew) => {
+            let start = Start { standing, plan };
+            window_of_crew(rt, alloc, system, start, hands.gate, crew)
+        }
+        None => {
+            let Standing { core, held } = standing;
+            let RoundPlan { options, ticks, .. } = plan;
+            let result = window(rt, alloc, system, core, options, ticks, hands)?;
+            let texts = held.text(rt, alloc, system, options.form, options.workers as usize)?;
+            Ok((texts, result))
+        }
+    }
+}
+
+/// A round of a run, as planned, with what it has done. It writes the lines that the round before held, and holds those
+/// that have become final in it. Where many are held, another thread makes their text beside its window. No byte is
+/// written before its window has ended, and no memory is allocated from the first byte to the last.
 pub(crate) fn round_with_counts<R: Threads + Wait + Sync, W: Write, P: Gate>(
     rt: &R,
     alloc: Global,
     system: &System,
-    core: Core,
+    standing: Standing,
     plan: RoundPlan,
     out: &mut W,
-    gate: &P,
-) -> Result<(Round, Tally), RunError>
+    hands: &Hands<'_, P>,
+) -> Result<(Round, Held, Tally), RunError>
     requires options { AreWithin plan.options }
     requires ticks { 1 ≤ plan.ticks }
-    requires come { (ls : List model.Line) × HasCome system.now plan.options.steps plan.options.horizon core ls }
-    ensures { (ls : List model.Line) (come : HasCome system.now plan.options.steps plan.options.horizon core ls)
-        → RoundsWithCounts system.now plan.options (core_of system.now plan.options.steps come.steps) ls (W.contents out.old) (W.contents out.new) result }
+    requires holds { (ws : List model.Line) × HoldsTo system.now plan.options.steps plan.options.horizon standing.core standing.held ws }
+    ensures { (ws : List model.Line) (holds : HoldsTo system.now plan.options.steps plan.options.horizon standing.core standing.held ws)
+        → RoundsWithCounts system.now plan.options standing.core standing.held ws holds (W.contents out.old) (W.contents out.new) result }
 {
     system.facts();
+    let Standing { core, held } = standing;
     let core = walked(alloc, system, core, plan)?;
-    let WindowResult {
-        reach,
-        finals,
-        busy,
-        lines,
-    } = window(rt, alloc, system, core, plan.options, plan.ticks, gate)?;
-    let (bytes, final_lines) = hand_out_apart(rt, alloc, out, system, plan.options, finals)?;
-    let tally = Tally {
-        bytes,
-        busy,
-        lines,
-        final_lines,
-    };
-    Ok((round_at(reach), tally))
+    let options = plan.options;
+    if held.is_shared(options.workers) {
+        let lines = held.count();
+        let standing = Standing { core, held };
+        let (texts, result) = window_beside(rt, alloc, system, standing, plan, hands)?;
+        let bytes = write_texts(out, texts.as_slice())?;
+        return Ok(result.after(bytes, lines as u128));
+    }
+    let result = window(rt, alloc, system, core, options, plan.ticks, hands)?;
+    let (bytes, lines) = held.hand_out(alloc, system, options.form, out)?;
+    Ok(result.after(bytes, lines))
 }
 
 /// One phase and one exchange: each resource that has not stopped runs to its greatest legal bound, at most 1,024 ticks

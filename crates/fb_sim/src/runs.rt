@@ -16,7 +16,8 @@ use crate::outcome::RunError;
 use crate::pace::{NoClock, threads_for};
 use crate::reading::open;
 use crate::trial::{choose, reserve_text, run_first, run_rest};
-use fb_phase::Gate;
+use crate::work::{Hands, Windows};
+use fb_phase::{Crew, Gate};
 use fb_resource::Resource;
 use fb_system::System;
 use fb_trace::{Outcome, write_last};
@@ -24,7 +25,7 @@ use fb_window::Core;
 use std::alloc::{AllocError, Global};
 use std::io::Write;
 use std::sync::Wait;
-use std::thread::Threads;
+use std::thread::{Threads, join_mut};
 use std::time::{Clock, CpuClock};
 
 /// This many bytes are as many as a round with workers frees on one thread, and more.
@@ -65,7 +66,38 @@ pub(crate) fn close<W: Write>(
     }
 }
 
-/// Runs an accepted system with several workers, and writes its trace.
+/// Runs an accepted system in rounds with these workers, or on one agenda, and writes its trace.
+fn run_rounds<R: Threads + Wait + Sync, W: Write, P: Gate, C: Clock + CpuClock>(
+    rt: &R,
+    alloc: Global,
+    system: &System,
+    options: Options,
+    out: &mut W,
+    hands: &Hands<'_, P>,
+    clock: &C,
+) -> Result<Outcome, RunError>
+    requires { AreWithin options }
+    ensures trace { (given : Given) → Declares given system.now → IfOk result (λ o. Writes given options (W.contents out.old) (W.contents out.new) (ending_of o)) }
+    ensures failed { (given : Given) → Declares given system.now → IfErr result (FailsRun given options (W.contents out.old) (W.contents out.new)) }
+{
+    let workers = hands.workers(options.workers);
+    let fewer = Options { workers, ..options };
+    let core = open_core(alloc, system, options.steps)?;
+    let mut text = Vec::new(alloc);
+    reserve_text(&mut text);
+    let (leg, begun, pace) = run_first(rt, alloc, system, core, fewer, &mut text, hands, clock)?;
+    let chosen = choose(alloc, system, options, leg, pace, clock)?;
+    let Some(leg) = chosen else {
+        return run_one_agenda(alloc, system, options, out);
+    };
+    let text = text.as_slice();
+    let (finish, written) = run_rest(rt, alloc, system, leg, begun, text, fewer, out, hands)?;
+    let end = outcome_of(finish, options.horizon);
+    close(out, system, end, written.bytes)?;
+    Ok(end)
+}
+
+/// Runs an accepted system with several workers, and writes its trace. They live until it has ended.
 fn run_workers<R: Threads + Wait + Sync, W: Write, P: Gate, C: Clock + CpuClock>(
     rt: &R,
     alloc: Global,
@@ -79,21 +111,24 @@ fn run_workers<R: Threads + Wait + Sync, W: Write, P: Gate, C: Clock + CpuClock>
     ensures trace { (given : Given) → Declares given system.now → IfOk result (λ o. Writes given options (W.contents out.old) (W.contents out.new) (ending_of o)) }
     ensures failed { (given : Given) → Declares given system.now → IfErr result (FailsRun given options (W.contents out.old) (W.contents out.new)) }
 {
-    let workers = threads_for(rt, options.workers);
-    let fewer = Options { workers, ..options };
-    let core = open_core(alloc, system, options.steps)?;
-    let mut text = Vec::new(alloc);
-    reserve_text(&mut text);
-    let (leg, begun, pace) = run_first(rt, alloc, system, core, fewer, &mut text, gate, clock)?;
-    let chosen = choose(alloc, system, options, leg, pace, clock)?;
-    let Some(leg) = chosen else {
-        return run_one_agenda(alloc, system, options, out);
-    };
-    let text = text.as_slice();
-    let (finish, written) = run_rest(rt, alloc, system, leg, begun, text, fewer, out, gate)?;
-    let end = outcome_of(finish, options.horizon);
-    close(out, system, end, written.bytes)?;
-    Ok(end)
+    let threads = threads_for(rt, options.workers);
+    let others = (threads - 1) as usize;
+    let crew = Crew::new(alloc);
+    let hands = Hands::living(gate, &crew, threads);
+    // The first closure gets a thread. If none can be started, it is called last, and ends at once.
+    let (_, ended) = join_mut(
+        rt,
+        &mut || crew.serve(rt, alloc, &Windows, gate, others),
+        &mut || -> Result<Outcome, RunError>
+            requires { AreWithin options }
+            ensures { (given : Given) → Declares given system.entry.now → IfOk result (λ o. Writes given options (W.contents out.entry.now) (W.contents out.exit.now) (ending_of o)) × IfErr result (FailsRun given options (W.contents out.entry.now) (W.contents out.exit.now)) }
+        {
+            let ended = run_rounds(rt, alloc, system, options, out, &hands, clock);
+            crew.dismiss();
+            ended
+        },
+    );
+    ended
 }
 
 /// Runs an accepted system with one worker or with several, and writes its trace. One resource leaves nothing to do for
@@ -121,11 +156,12 @@ fn run_system<R: Threads + Wait + Sync, W: Write, P: Gate, C: Clock + CpuClock>(
 ///
 /// One worker always takes the least event of all, and writes the lines piece by piece, without a gate: it runs as
 /// `run_serial` does. So does any number of workers if there is one resource. Otherwise several run in rounds: each
-/// round runs every resource as far as no message can reach it any more, then exchanges the messages, and then writes
-/// the lines that have become final. After a light round the run makes up to 256 turns of single resources, on the
-/// calling thread and without a gate. There are no more threads than processors, but two at least. The text of the
-/// first round is gathered in memory. No memory is allocated between the first byte of a piece or a round and its last.
-/// It waits for its workers, and for the gate where that waits. It reads no clock: `run_with_clock` does.
+/// round runs every resource as far as no message can reach it any more, and then exchanges the messages. The lines
+/// that have become final are written after the next round, beside which another thread makes the text of many. After a
+/// light round the run makes up to 256 turns of single resources, on the calling thread and without a gate. There are
+/// no more workers than processors, but two at least. The text of the first round is gathered in memory. No memory is
+/// allocated between the first byte of a piece or a round and its last. It waits for its workers, and for the gate
+/// where that waits. It reads no clock: `run_with_clock` does.
 ///
 /// # Errors
 /// `BadOption` before all else; then `Refused`, after which nothing was written; `Memory`, after which a beginning of

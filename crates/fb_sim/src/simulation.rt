@@ -12,6 +12,7 @@ use crate::reading::open;
 use crate::runs::{close, open_core};
 use crate::state::{SessionState, Stage};
 use crate::tally::Written;
+use crate::work::Hands;
 use fb_phase::Gate;
 use fb_system::System;
 use fb_trace::Outcome;
@@ -156,7 +157,8 @@ impl Simulation {
             workers: self.workers,
             form: self.form,
         };
-        let (finish, written) = run_on(rt, self.alloc, &self.system, core, options, out, gate)?;
+        let hands = Hands::started(gate);
+        let (finish, written) = run_on(rt, self.alloc, &self.system, core, options, out, &hands)?;
         match finish {
             Finish::AtEnd(core) => {
                 self.to = to;

@@ -92,7 +92,7 @@ pub(crate) struct RoundPlan {
 }
 
 impl Tally {
-    /// Whether its window had little to do.
+    /// Whether it was a light round: fewer than two resources had something to do, or they gave few lines.
     fn is_light(&self) -> bool {
         self.busy < 2 || self.lines < MANY_LINES
     }

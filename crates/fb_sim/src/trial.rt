@@ -1,11 +1,13 @@
 //! The first rounds of a run with workers, whose text waits in memory until it is known whether one agenda is quicker.
 
-ghost use Rattle.std.specs.Prelude.{◌≡◌, [], IfOk, IfErr, IfSome};
+ghost use Rattle.std.specs.Prelude.{◌≡◌, [], All, IfOk, IfErr, IfSome, Some};
+ghost use Rattle.fb_system.specs.OfSystem.{BelongsTo};
 ghost use Rattle.fb_sim.specs.Serial.{AreWithin};
-ghost use Rattle.fb_sim.specs.Rounds.{HasCome, IsLeg, RunsOn};
+ghost use Rattle.fb_sim.specs.Rounds.{HandsOutAfter, HasCome, IsLeg, RunsOn};
 ghost use Rattle.fb_sim.specs.declared.outcome.RunError.TheVariants.{Memory};
 
-use crate::drive::{Finish, later, run_on};
+use crate::drive::{Finish, later, run_on, write_held};
+use crate::held::{Held, Standing};
 use crate::one_agenda::is_quicker;
 use crate::options::Options;
 use crate::outcome::RunError;
@@ -13,9 +15,11 @@ use crate::pace::{Pace, RoundTrial};
 use crate::progress::Round;
 use crate::rounds::round_with_counts;
 use crate::tally::{RoundPlan, Written, first_window};
+use crate::work::Hands;
 use fb_phase::Gate;
 use fb_system::System;
 use fb_trace::write_front;
+use fb_types::Form;
 use fb_window::Core;
 use std::alloc::{AllocError, Global};
 use std::io::Write;
@@ -52,6 +56,26 @@ fn make_room(text: &mut Vec<u8>, more: usize)
     text.truncate(count);
 }
 
+/// Appends the text of the lines that are held, once this was written. It answers all that is written.
+fn put_held(
+    alloc: Global,
+    system: &System,
+    form: Form,
+    held: Held,
+    written: Written,
+    text: &mut Vec<u8>,
+) -> Result<Written, RunError>
+    requires { All (λ p. All (BelongsTo system.now) p.items) held.lists.items }
+    ensures whole { IfOk result (HandsOutAfter system.now form held.lists.items (Some text.old.items) (Some text.new.items) written) }
+    ensures memory { IfErr result (λ e. e ≡ Memory) }
+{
+    match write_held(alloc, system, form, held, written, text) {
+        Ok(all) => Ok(all),
+        // A writer into memory fails for memory alone.
+        Err(_) => Err(RunError::Memory),
+    }
+}
+
 /// Makes the first rounds of a run, one at least, as long as the trial takes. Their text goes into memory. The answer
 /// has what is written so, and what the rounds took, if the clock can be read.
 ///
@@ -64,7 +88,7 @@ pub(crate) fn run_first<R: Threads + Wait + Sync, P: Gate, C: Clock>(
     first: Core,
     options: Options,
     text: &mut Vec<u8>,
-    gate: &P,
+    hands: &Hands<'_, P>,
     clock: &C,
 ) -> Result<(Leg, Written, Option<Pace>), RunError>
     requires options { AreWithin options }
@@ -74,39 +98,51 @@ pub(crate) fn run_first<R: Threads + Wait + Sync, P: Gate, C: Clock>(
     ensures memory { IfErr result (λ e. e ≡ Memory) }
 {
     system.facts();
-    let mut core = first;
+    let held = Held::none(alloc);
+    let mut standing = Standing { core: first, held };
     let mut written = Written { bytes: 0, lines: 0 };
     let mut trial = RoundTrial::new();
     let mut workers = options.workers;
     let mut turns = 0;
     let mut ticks = first_window(system.count());
+    // The first round starts threads of its own while those of the crew begin.
+    let mut crew = None;
     for _ in 0..options.horizon + 1 {
         let plan = RoundPlan {
             options: Options { workers, ..options },
             turns,
             ticks,
         };
+        let now = Hands {
+            gate: hands.gate,
+            crew,
+            threads: hands.threads,
+        };
         trial.begin(clock);
-        match round_with_counts(rt, alloc, system, core, plan, text, gate) {
-            Ok((round, tally)) => {
+        match round_with_counts(rt, alloc, system, standing, plan, text, &now) {
+            Ok((round, held, tally)) => {
                 written = written.with(&tally);
                 workers = tally.workers(options.workers);
                 turns = tally.turns();
                 ticks = tally.ticks(ticks);
                 let is_over = trial.count(clock, tally.final_lines.max(tally.lines as u128));
                 match round {
-                    Round::Going(next) => {
+                    Round::Going(core) => {
                         if is_over {
-                            return Ok((Leg::Going(next), written, trial.pace()));
+                            let all = put_held(alloc, system, options.form, held, written, text)?;
+                            return Ok((Leg::Going(core), all, trial.pace()));
                         }
                         make_room(text, tally.room());
-                        core = next;
+                        standing = Standing { core, held };
+                        crew = hands.crew;
                     }
                     Round::Ended(last) => {
-                        return Ok((Leg::Over(Finish::AtEnd(last)), written, None));
+                        let all = put_held(alloc, system, options.form, held, written, text)?;
+                        return Ok((Leg::Over(Finish::AtEnd(last)), all, None));
                     }
                     Round::Stopped(mark) => {
-                        return Ok((Leg::Over(Finish::AtMark(mark)), written, None));
+                        let all = put_held(alloc, system, options.form, held, written, text)?;
+                        return Ok((Leg::Over(Finish::AtMark(mark)), all, None));
                     }
                 }
             }
@@ -158,7 +194,7 @@ pub(crate) fn run_rest<R: Threads + Wait + Sync, W: Write, P: Gate>(
     text: &[u8],
     options: Options,
     out: &mut W,
-    gate: &P,
+    hands: &Hands<'_, P>,
 ) -> Result<(Finish, Written), RunError>
     requires options { AreWithin options }
     requires leg { IsLeg system.now options leg begun text.now }
@@ -171,7 +207,7 @@ pub(crate) fn run_rest<R: Threads + Wait + Sync, W: Write, P: Gate>(
     }
     match leg {
         Leg::Over(finish) => Ok((finish, begun)),
-        Leg::Going(core) => match run_on(rt, alloc, system, core, options, out, gate) {
+        Leg::Going(core) => match run_on(rt, alloc, system, core, options, out, hands) {
             Ok((finish, written)) => Ok((finish, begun.and(written))),
             Err(error) => Err(later(begun.bytes, error)),
         },

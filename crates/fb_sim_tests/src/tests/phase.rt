@@ -2,13 +2,13 @@
 ghost use Rattle.std.specs.Prelude.{◌≡◌, ◌*◌, ◌≤◌};
 
 use fb_board::{Deal, MAX_JOBS, MAX_SEATS};
-use fb_phase::{Gate, Work, run_all};
+use fb_phase::{Crew, Gate, OpenGate, Work, run_all};
 use std::alloc::Global;
 use std::process::Abort;
 use std::sync::Wait;
 use std::sync::atomic::Ordering::SeqCst;
 use std::sync::atomic::{AtomicBool, AtomicU64};
-use std::thread::Threads;
+use std::thread::{Threads, join};
 
 /// A digit of a number to base 16 for each of the first ten numbers of jobs.
 pub static DIGITS: [u64; 10] = [
@@ -166,4 +166,67 @@ fn squares_come_in_order(rt: HostRuntime) {
 #[test]
 fn two_workers_draw_as_they_become_free(rt: HostRuntime) {
     expect_squares(&rt, rt.alloc(), (10, 2, true));
+}
+
+/// Numbers are squared, and nothing is seen of it.
+struct Plain;
+
+impl Deal for Plain {
+    ghost use Rattle.std.specs.Prelude.{◌≡◌, ◌*◌};
+
+    type Job = u32;
+
+    type Done = u64;
+
+    ghost does = { λ job done. done ≡ job * job };
+}
+
+impl Work for Plain {
+    fn run(&self, _alloc: Global, job: u32) -> u64 {
+        u64::from(job) * u64::from(job)
+    }
+}
+
+/// The numbers below a count are squared in order by this many workers, of a crew that has not ended.
+fn expect_from_crew<R: Abort + Threads + Wait + Sync>(
+    rt: &R,
+    alloc: Global,
+    crew: &Crew<Plain>,
+    (count, workers): (u32, usize),
+) {
+    let mut jobs = Vec::new(alloc);
+    for job in 0..count {
+        jobs.push(job).expect(rt, "memory");
+    }
+    assert!(rt; jobs.len() <= MAX_JOBS && 1 <= workers && workers <= MAX_SEATS);
+    let Ok(squares) = crew.run_all(rt, alloc, &Plain, jobs, workers, &OpenGate) else {
+        panic!(rt; "memory");
+    };
+    assert!(rt; squares.len() == count as usize);
+    let (mut expected, mut odd): (u64, u64) = (0, 1);
+    for square in squares.iter() {
+        assert!(rt; *square == expected);
+        expected = expected.wrapping_add(odd);
+        odd = odd.wrapping_add(2);
+    }
+}
+
+/// A crew of three threads runs list after list. When they have ended, the calling thread does all jobs.
+#[test]
+fn squares_come_in_order_from_a_crew(rt: HostRuntime) {
+    let alloc = rt.alloc();
+    let crew: Crew<Plain> = Crew::new(alloc);
+    join(
+        &rt,
+        || crew.serve(&rt, alloc, &Plain, &OpenGate, 3),
+        || {
+            for (count, workers, _) in &CASES {
+                expect_from_crew(&rt, alloc, &crew, (*count, *workers));
+            }
+            crew.dismiss();
+        },
+    );
+    for (count, workers, _) in &CASES {
+        expect_from_crew(&rt, alloc, &crew, (*count, *workers));
+    }
 }

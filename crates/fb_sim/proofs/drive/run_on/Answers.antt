@@ -1,6 +1,8 @@
 use Rattle.std.proofs.Common.{arith}
 use Rattle.fb_laws.specs.Sound.{AreGood}
-use Rattle.fb_sim.proofs.RunIs.{came_early, came_first, came_more, came_end, came_stop, came_failed}
+use Rattle.fb_sim.specs.Rounds.{RunsOn}
+use Rattle.fb_sim.specs.declared.progress.Round.TheVariants.{Ended, Stopped}
+use Rattle.fb_sim.proofs.RunIs.{came_early, came_failed, came_first, came_last, came_last_failed, came_more, err_passed, ran_to_end, ran_to_mark}
 use Rattle.fb_sim.proofs.drive.run_on.Goals as goal
 
 pub loop-init : goal.loop-init
@@ -10,7 +12,7 @@ loop-init g c = record {
   some_ticks = omega arith;
   few_ticks = omega arith;
   early = omega arith;
-  came = λ ls h. came_first c.args.system.now c.args.options ls c.args.first _ h;
+  came = λ ls h. came_first c.args.system.now c.args.options ls c.args.first c.none-held.result _ c.none-held.ensures.lists c.none-held.ensures.count h;
 }
 
 pub round_with_counts-requires-clause-options : goal.round_with_counts-requires-clause-options
@@ -25,10 +27,10 @@ round_with_counts-requires-clause-options g c κs w =
       workers_most = c.loop.invariant.few;
     }
 
-pub round_with_counts-requires-clause-come : goal.round_with_counts-requires-clause-come
-round_with_counts-requires-clause-come g c κs w =
+pub round_with_counts-requires-clause-holds : goal.round_with_counts-requires-clause-holds
+round_with_counts-requires-clause-holds g c κs w =
     let came = c.loop.invariant.came c.requires.come.0 c.requires.come.1 in
-    (_, came.come)
+    (_, came.holds)
 
 -- one round more
 pub loop-preserved : goal.loop-preserved
@@ -39,29 +41,67 @@ loop-preserved g c = record {
   few_ticks = c.ticks-ticks.ensures.few;
   early =
       let came = c.loop.invariant.came c.requires.come.0 c.requires.come.1 in
-      let early = came_early c.args.system.now c.args.options c.requires.come.0 c.loop.core _ _ _ c.loop.written c.loop.counter came c.in-Going.next c.in-Ok.tally (rw c.in-Going.is at c.in-Ok.ensures _ came.come) in
+      let early =
+      came_early c.args.system.now c.args.options c.requires.come.0 c.loop.standing.core c.loop.standing.held _ _ _ c.loop.written c.loop.counter came c.in-Going.core c.in-Ok.held c.in-Ok.tally
+      (rw c.in-Going.is at c.in-Ok.ensures _ came.holds) c.args.alloc in
       omega (arith, early);
   came =
       λ ls h.
       let came = c.loop.invariant.came ls h in
       rw c.with-written.ensures
-      (came_more c.args.system.now c.args.options ls c.loop.core _ _ _ c.loop.written c.loop.counter came c.in-Going.next c.in-Ok.tally (rw c.in-Going.is at c.in-Ok.ensures _ came.come));
+      (came_more c.args.system.now c.args.options ls c.loop.standing.core c.loop.standing.held _ _ _ c.loop.written c.loop.counter came c.in-Going.core c.in-Ok.held c.in-Ok.tally
+      (rw c.in-Going.is at c.in-Ok.ensures _ came.holds));
 }
-
-pub returns-in-Ended : goal.returns-in-Ended
-returns-in-Ended g c ls h =
-    let came = c.loop.invariant.came ls h in
-    rw c.with-written.ensures
-    (came_end c.args.system.now c.args.options ls c.loop.core _ _ _ c.loop.written c.loop.counter came c.in-Ended.last c.in-Ok.tally (rw c.in-Ended.is at c.in-Ok.ensures _ came.come))
-
-pub returns-in-Stopped : goal.returns-in-Stopped
-returns-in-Stopped g c ls h =
-    let came = c.loop.invariant.came ls h in
-    rw c.with-written.ensures
-    (came_stop c.args.system.now c.args.options ls c.loop.core _ _ _ c.loop.written c.loop.counter came c.in-Stopped.mark c.in-Ok.tally (rw c.in-Stopped.is at c.in-Ok.ensures _ came.come))
 
 pub returns-in-Err : goal.returns-in-Err
 returns-in-Err g c ls h =
     let came = c.loop.invariant.came ls h in
     let good : AreGood c.args.system.now = record { accepted = c.facts.ensures.accepted; limits = c.facts.ensures.limits } in
-    rw c.later.ensures (came_failed c.args.system.now c.args.options ls c.loop.core _ _ _ c.loop.written c.loop.counter came good c.loop.workers c.in-Err.error (c.in-Err.ensures _ came.come))
+    rw c.later.ensures
+    (came_failed c.args.system.now c.args.options ls c.loop.standing.core c.loop.standing.held _ _ _ c.loop.written c.loop.counter came good c.args.alloc c.loop.workers c.in-Err.error (c.in-Err.ensures _ came.holds))
+
+-- ---- The last lines
+
+pub write_held-requires : goal.write_held-requires
+write_held-requires g c =
+    let came = c.loop.invariant.came c.requires.come.0 c.requires.come.1 in
+    let round = c.in-Ok.ensures _ came.holds in
+    round.5.belong
+
+pub returns-in_err-all-in-Ended : goal.returns-in_err-all-in-Ended
+returns-in_err-all-in-Ended g c ls h =
+    let came = c.loop.invariant.came ls h in
+    let e = c.in_err-all-in-Ended.field-0.0 in
+    let good : AreGood c.args.system.now = record { accepted = c.facts.ensures.accepted; limits = c.facts.ensures.limits } in
+    err_passed (RunsOn c.args.system.now c.args.options ls (g.W.Write.contents c.args.out.now) (g.W.Write.contents c.write_held.new.out)) _ e c.from_residual.ensures.1
+    (came_last_failed c.args.system.now c.args.options ls c.loop.standing.core c.loop.standing.held _ _ (g.W.Write.contents c.round_with_counts.new.out) c.loop.written c.loop.counter came (Ended c.in-Ended.last) c.in-Ok.held c.in-Ok.tally
+    (rw c.in-Ended.is at c.in-Ok.ensures _ came.holds) good _ e (rw c.with-written.ensures at c.in_err-all-in-Ended.ensures.failed))
+
+pub returns-in-Ended : goal.returns-in-Ended
+returns-in-Ended g c ls h =
+    let came = c.loop.invariant.came ls h in
+    ran_to_end c.args.system.now c.args.options ls c.in-Ended.last _ _ _
+    (came_last c.args.system.now c.args.options ls c.loop.standing.core c.loop.standing.held _ _ (g.W.Write.contents c.round_with_counts.new.out) c.loop.written c.loop.counter came (Ended c.in-Ended.last) c.in-Ok.held c.in-Ok.tally
+    (rw c.in-Ended.is at c.in-Ok.ensures _ came.holds) _ _ (rw c.with-written.ensures at c.in_ok-all-in-Ended.ensures.whole))
+
+pub write_held-requires-in-Stopped : goal.write_held-requires-in-Stopped
+write_held-requires-in-Stopped g c =
+    let came = c.loop.invariant.came c.requires.come.0 c.requires.come.1 in
+    let round = c.in-Ok.ensures _ came.holds in
+    round.5.belong
+
+pub returns-in_err-all-in-Stopped : goal.returns-in_err-all-in-Stopped
+returns-in_err-all-in-Stopped g c ls h =
+    let came = c.loop.invariant.came ls h in
+    let e = c.in_err-all-in-Stopped.field-0.0 in
+    let good : AreGood c.args.system.now = record { accepted = c.facts.ensures.accepted; limits = c.facts.ensures.limits } in
+    err_passed (RunsOn c.args.system.now c.args.options ls (g.W.Write.contents c.args.out.now) (g.W.Write.contents c.write_held-in-Stopped.new.out)) _ e c.from_residual-in_err-all-in-Stopped.ensures.1
+    (came_last_failed c.args.system.now c.args.options ls c.loop.standing.core c.loop.standing.held _ _ (g.W.Write.contents c.round_with_counts.new.out) c.loop.written c.loop.counter came (Stopped c.in-Stopped.mark) c.in-Ok.held c.in-Ok.tally
+    (rw c.in-Stopped.is at c.in-Ok.ensures _ came.holds) good _ e (rw c.with-written.ensures at c.in_err-all-in-Stopped.ensures.failed))
+
+pub returns-in-Stopped : goal.returns-in-Stopped
+returns-in-Stopped g c ls h =
+    let came = c.loop.invariant.came ls h in
+    ran_to_mark c.args.system.now c.args.options ls c.in-Stopped.mark _ _ _
+    (came_last c.args.system.now c.args.options ls c.loop.standing.core c.loop.standing.held _ _ (g.W.Write.contents c.round_with_counts.new.out) c.loop.written c.loop.counter came (Stopped c.in-Stopped.mark) c.in-Ok.held c.in-Ok.tally
+    (rw c.in-Stopped.is at c.in-Ok.ensures _ came.holds) _ _ (rw c.with-written.ensures at c.in_ok-all-in-Stopped.ensures.whole))

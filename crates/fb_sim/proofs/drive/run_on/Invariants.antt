@@ -12,5 +12,5 @@ invariant-loop g l = record {
   few_ticks : l.ticks ≤ 1024;
   early : l.counter ≤ l.options.horizon;
   came : (ls : List Line) → HasCome l.system l.options.steps l.options.horizon l.fn.first ls
-      → Came l.system l.options ls l.core (g.W.Write.contents l.initial.out) (g.W.Write.contents l.out) l.written l.counter;
+      → Came l.system l.options ls l.standing.core l.standing.held (g.W.Write.contents l.initial.out) (g.W.Write.contents l.out) l.written l.counter;
 }

@@ -1,11 +1,13 @@
-use Rattle.std.proofs.Common.{ℕ, All, subst, sym, ◌∙◌}
+use Rattle.std.proofs.Common.{ℕ, All, length, ap, subst, sym, ◌∙◌}
 use Rattle.std.specs.Global.{Vec}
 use Rattle.fb_types.specs.Headline.{Inputs, system_of}
 use Rattle.fb_types.specs.declared.run.Line.{Line}
 use Rattle.fb_system.specs.Lines.{BelongsTo}
+use Rattle.fb_trace.specs.Merging.{flat}
 use Rattle.fb_window.specs.Leaving.{AreLegal}
 use Rattle.fb_window.specs.Reached.{KeepHorizon}
 use Rattle.fb_window.specs.Reaching.{OfEachCore}
+use Rattle.fb_window.specs.Settling.{IsMerged}
 use Rattle.fb_sim.proofs.WindowIs.{are_done, is_home, keep}
 use Rattle.fb_sim.proofs.rounds.window.Goals as goal
 
@@ -38,12 +40,20 @@ settle_apart-requires-clause-done g c =
 pub returns-clause-home : goal.returns-clause-home
 returns-clause-home g c ls h =
     let kept = c.in_ok-away.ensures.kept in
+    let same = c.in_ok-of.ensures.lists in
     λ all m.
     is_home c.args.system.now c.args.options.steps c.args.options.horizon c.args.core ls h c.bounds-bounds.result.all _ kept.0 kept.1 kept.3 c.in_ok-away.ensures.away _
     (record { accepted = c.facts.ensures.accepted; limits = c.facts.ensures.limits }) (kept.2 ∙ c.bounds-bounds.ensures.horizon) c.bounds-bounds.ensures.legal _ c.bounds-bounds.ensures.bounds
-    (c.in_ok-reach.ensures.settles all m)
+    (c.in_ok-reach.ensures.settles all (subst (λ (v : Vec (Vec Line)). IsMerged v.items all.items) same m))
 
-pub returns-clause-belong : goal.returns-clause-belong
-returns-clause-belong g c =
+pub returns-clause-held : goal.returns-clause-held
+returns-clause-held g c =
     let kept = c.in_ok-away.ensures.kept in
-    subst (λ (i : Inputs). All (λ (p : Vec Line). All (BelongsTo (system_of i)) p.items) c.in_ok-reach.finals.items) (kept.0 ∙ c.requires.come.1.of.inputs) c.in_ok-reach.ensures.belong
+    let same = c.in_ok-of.ensures.lists in
+    let belong : All (λ (p : Vec Line). All (BelongsTo (system_of c.args.system.now)) p.items) c.in_ok-reach.finals.items =
+    subst (λ (i : Inputs). All (λ (p : Vec Line). All (BelongsTo (system_of i)) p.items) c.in_ok-reach.finals.items) (kept.0 ∙ c.requires.come.1.of.inputs) c.in_ok-reach.ensures.belong in
+    record {
+      belong = subst (λ (v : Vec (Vec Line)). All (λ (p : Vec Line). All (BelongsTo (system_of c.args.system.now)) p.items) v.items) (sym same) belong;
+      counted = c.in_ok-of.ensures.count ∙ ap (λ (v : Vec (Vec Line)). length (flat v.items)) (sym same);
+      few = c.in_ok-of.ensures.few;
+    }

@@ -1,7 +1,8 @@
 use Rattle.std.proofs.Common.{◌≡◌, [], Some, arith}
 use Rattle.fb_sim.proofs.FirstRounds.{leg_going, leg_over}
-use Rattle.fb_sim.proofs.RunIs.{came_early, came_first, came_more, came_end, came_stop}
+use Rattle.fb_sim.proofs.RunIs.{came_early, came_first, came_last, came_more, ran_to_end, ran_to_mark}
 use Rattle.fb_sim.specs.declared.drive.Finish.TheVariants.{AtEnd, AtMark}
+use Rattle.fb_sim.specs.declared.progress.Round.TheVariants.{Going, Ended, Stopped}
 use Rattle.fb_sim.proofs.trial.run_first.Goals as goal
 
 pub loop-init : goal.loop-init
@@ -11,7 +12,7 @@ loop-init g c = record {
   some_ticks = omega arith;
   few_ticks = omega arith;
   early = omega arith;
-  came = came_first c.args.system.now c.args.options [] c.args.first _ c.requires.come;
+  came = came_first c.args.system.now c.args.options [] c.args.first c.none-held.result _ c.none-held.ensures.lists c.none-held.ensures.count c.requires.come;
 }
 
 pub round_with_counts-requires-clause-options : goal.round_with_counts-requires-clause-options
@@ -26,8 +27,8 @@ round_with_counts-requires-clause-options g c κs w =
       workers_most = c.loop.invariant.few;
     }
 
-pub round_with_counts-requires-clause-come : goal.round_with_counts-requires-clause-come
-round_with_counts-requires-clause-come g c κs w = (_, c.loop.invariant.came.come)
+pub round_with_counts-requires-clause-holds : goal.round_with_counts-requires-clause-holds
+round_with_counts-requires-clause-holds g c κs w = (_, c.loop.invariant.came.holds)
 
 -- one round more
 pub loop-preserved : goal.loop-preserved
@@ -38,33 +39,59 @@ loop-preserved g c = record {
   few_ticks = c.ticks-ticks.ensures.few;
   early =
       let came = c.loop.invariant.came in
-      let early = came_early c.args.system.now c.args.options [] c.loop.core _ _ (Some c.round_with_counts.new.out.items) c.loop.written c.loop.counter came c.in-Going.next c.in-Ok.tally (rw c.in-Going.is at c.in-Ok.ensures _ came.come) in
+      let early =
+      came_early c.args.system.now c.args.options [] c.loop.standing.core c.loop.standing.held _ _ (Some c.round_with_counts.new.out.items) c.loop.written c.loop.counter came c.in-Going.core c.in-Ok.held c.in-Ok.tally
+      (rw c.in-Going.is at c.in-Ok.ensures _ came.holds) c.args.alloc in
       omega (arith, early);
   came =
       let came = c.loop.invariant.came in
       let text : c.make_room.new.text.items ≡ c.round_with_counts.new.out.items = c.make_room.ensures in
       rw text
       (rw c.with-written.ensures
-      (came_more c.args.system.now c.args.options [] c.loop.core _ _ (Some c.round_with_counts.new.out.items) c.loop.written c.loop.counter came c.in-Going.next c.in-Ok.tally (rw c.in-Going.is at c.in-Ok.ensures _ came.come)));
+      (came_more c.args.system.now c.args.options [] c.loop.standing.core c.loop.standing.held _ _ (Some c.round_with_counts.new.out.items) c.loop.written c.loop.counter came c.in-Going.core c.in-Ok.held c.in-Ok.tally
+      (rw c.in-Going.is at c.in-Ok.ensures _ came.holds)));
 }
 
-pub returns-in-Ended-clause-leg : goal.returns-in-Ended-clause-leg
-returns-in-Ended-clause-leg g c =
-    let came = c.loop.invariant.came in
-    rw c.with-written.ensures
-    (leg_over c.args.system.now c.args.options (AtEnd c.in-Ended.last) _ _ _ c.requires.text
-    (came_end c.args.system.now c.args.options [] c.loop.core _ _ (Some c.round_with_counts.new.out.items) c.loop.written c.loop.counter came c.in-Ended.last c.in-Ok.tally (rw c.in-Ended.is at c.in-Ok.ensures _ came.come)))
+-- ---- The last lines
 
-pub returns-in-Stopped-clause-leg : goal.returns-in-Stopped-clause-leg
-returns-in-Stopped-clause-leg g c =
+pub put_held-requires : goal.put_held-requires
+put_held-requires g c =
     let came = c.loop.invariant.came in
-    rw c.with-written.ensures
-    (leg_over c.args.system.now c.args.options (AtMark c.in-Stopped.mark) _ _ _ c.requires.text
-    (came_stop c.args.system.now c.args.options [] c.loop.core _ _ (Some c.round_with_counts.new.out.items) c.loop.written c.loop.counter came c.in-Stopped.mark c.in-Ok.tally (rw c.in-Stopped.is at c.in-Ok.ensures _ came.come)))
+    let round = c.in-Ok.ensures _ came.holds in
+    round.5.belong
 
 pub returns-then-is_over-clause-leg : goal.returns-then-is_over-clause-leg
 returns-then-is_over-clause-leg g c =
     let came = c.loop.invariant.came in
-    rw c.with-written.ensures
-    (leg_going c.args.system.now c.args.options c.in-Going.next _ _ _ _ c.requires.text
-    (came_more c.args.system.now c.args.options [] c.loop.core _ _ (Some c.round_with_counts.new.out.items) c.loop.written c.loop.counter came c.in-Going.next c.in-Ok.tally (rw c.in-Going.is at c.in-Ok.ensures _ came.come)))
+    let last =
+    came_last c.args.system.now c.args.options [] c.loop.standing.core c.loop.standing.held _ _ (Some c.round_with_counts.new.out.items) c.loop.written c.loop.counter came (Going c.in-Going.core) c.in-Ok.held c.in-Ok.tally
+    (rw c.in-Going.is at c.in-Ok.ensures _ came.holds) _ _ (rw c.with-written.ensures at c.in_ok-all-in-Going.ensures.whole) in
+    leg_going c.args.system.now c.args.options c.in-Going.core _ _ _ c.requires.text last
+
+pub put_held-requires-in-Ended : goal.put_held-requires-in-Ended
+put_held-requires-in-Ended g c =
+    let came = c.loop.invariant.came in
+    let round = c.in-Ok.ensures _ came.holds in
+    round.5.belong
+
+pub returns-in-Ended-clause-leg : goal.returns-in-Ended-clause-leg
+returns-in-Ended-clause-leg g c =
+    let came = c.loop.invariant.came in
+    let last =
+    came_last c.args.system.now c.args.options [] c.loop.standing.core c.loop.standing.held _ _ (Some c.round_with_counts.new.out.items) c.loop.written c.loop.counter came (Ended c.in-Ended.last) c.in-Ok.held c.in-Ok.tally
+    (rw c.in-Ended.is at c.in-Ok.ensures _ came.holds) _ _ (rw c.with-written.ensures at c.in_ok-all-in-Ended.ensures.whole) in
+    leg_over c.args.system.now c.args.options (AtEnd c.in-Ended.last) _ _ _ c.requires.text (ran_to_end c.args.system.now c.args.options [] c.in-Ended.last _ _ _ last)
+
+pub put_held-requires-in-Stopped : goal.put_held-requires-in-Stopped
+put_held-requires-in-Stopped g c =
+    let came = c.loop.invariant.came in
+    let round = c.in-Ok.ensures _ came.holds in
+    round.5.belong
+
+pub returns-in-Stopped-clause-leg : goal.returns-in-Stopped-clause-leg
+returns-in-Stopped-clause-leg g c =
+    let came = c.loop.invariant.came in
+    let last =
+    came_last c.args.system.now c.args.options [] c.loop.standing.core c.loop.standing.held _ _ (Some c.round_with_counts.new.out.items) c.loop.written c.loop.counter came (Stopped c.in-Stopped.mark) c.in-Ok.held c.in-Ok.tally
+    (rw c.in-Stopped.is at c.in-Ok.ensures _ came.holds) _ _ (rw c.with-written.ensures at c.in_ok-all-in-Stopped.ensures.whole) in
+    leg_over c.args.system.now c.args.options (AtMark c.in-Stopped.mark) _ _ _ c.requires.text (ran_to_mark c.args.system.now c.args.options [] c.in-Stopped.mark _ _ _ last)

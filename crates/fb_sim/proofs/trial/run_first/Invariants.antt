@@ -9,5 +9,5 @@ invariant-loop g l = record {
   some_ticks : 1 ≤ l.ticks;
   few_ticks : l.ticks ≤ 1024;
   early : l.counter ≤ l.options.horizon;
-  came : Came l.system l.options [] l.core (Some l.initial.text.items) (Some l.text.items) l.written l.counter;
+  came : Came l.system l.options [] l.standing.core l.standing.held (Some l.initial.text.items) (Some l.text.items) l.written l.counter;
 }

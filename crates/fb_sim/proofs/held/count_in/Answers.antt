@@ -2,7 +2,7 @@ use Rattle.std.proofs.Common.{◌≡◌, ◌+◌, ◌++◌, [], ◌∷◌, lengt
 use Rattle.std.proofs.lemmas.List.{length-append, take_more}
 use Rattle.fb_trace.specs.Merging.{flat}
 use Rattle.fb_trace.proofs.Together.{flat_snoc}
-use Rattle.fb_sim.proofs.printing.count_in.Goals as goal
+use Rattle.fb_sim.proofs.held.count_in.Goals as goal
 
 pub loop-list-preserved : goal.loop-list-preserved
 loop-list-preserved c = λ less.

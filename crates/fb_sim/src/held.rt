@@ -1,0 +1,158 @@
+//! Lines that have become final and are not written yet.
+
+ghost use Rattle.std.specs.Prelude.{◌≡◌, ◌<◌, ◌^◌, [], List, map, length, All, IfErr, IfOk};
+ghost use Rattle.fb_system.specs.OfSystem.{BelongsTo};
+ghost use Rattle.fb_trace.specs.Merging.{flat};
+ghost use Rattle.fb_sim.specs.Rounds.{FailsToHandOut, HandsOut, IsHeldOf};
+ghost use Rattle.fb_sim.specs.Weaving.{IsWovenText, all_bytes};
+ghost use Rattle.fb_sim.specs.declared.outcome.RunError.TheVariants.{Memory};
+
+use crate::outcome::RunError;
+use crate::printing::texts_of;
+use crate::rounds::hand_out;
+use fb_system::System;
+use fb_trace::merge;
+use fb_types::{Form, Line};
+use fb_window::Core;
+use std::alloc::{AllocError, Global};
+use std::io::Write;
+use std::thread::Threads;
+
+/// The text of fewer lines than this is made before a thread has started.
+const MANY: usize = 4096;
+
+/// The text of fewer lines than this is made by this thread, also where they are at few ticks.
+const FEW: usize = 1024;
+
+/// No memory has this many lines.
+const MOST: usize = 1_000_000_000_000;
+
+/// How many lines are in the lists, up to the greatest `usize`.
+fn count_in(lists: &[Vec<Line>]) -> usize
+    ensures { result < MOST → result ≡ length (flat lists.now) }
+{
+    let mut count: usize = 0;
+    for list in lists {
+        count = count.saturating_add(list.len());
+    }
+    count
+}
+
+/// How many ticks the lines of a list reach over, where their ticks do not fall.
+fn ticks_in(list: &[Line]) -> u64 {
+    match (list.first(), list.last()) {
+        (Some(first), Some(last)) => last.key.tick.saturating_sub(first.key.tick),
+        _ => 0,
+    }
+}
+
+/// Whether this many lines are at few ticks: then looking at each list in each tick takes less time than sorting them.
+fn are_close(lists: &[Vec<Line>], count: usize) -> bool {
+    let mut ticks: u64 = 0;
+    for list in lists {
+        ticks = ticks.max(ticks_in(list.as_slice()));
+    }
+    ticks.saturating_mul(lists.len() as u64) <= (count as u64).saturating_mul(4)
+}
+
+/// Whether other threads make the text of this many lines.
+fn are_many(lists: &[Vec<Line>], count: usize) -> bool {
+    count >= MANY || (count >= FEW && are_close(lists, count))
+}
+
+/// Lines that have become final and are not written yet: the next round writes them.
+#[derive(Drop)]
+pub(crate) struct Held {
+    /// For each resource its lines.
+    lists: Vec<Vec<Line>>,
+    /// How many lines they are.
+    count: usize,
+}
+
+impl Held {
+    /// No lines.
+    pub(crate) fn none(alloc: Global) -> Held
+        ensures lists { result.lists.items ≡ [] }
+        ensures count { result.count ≡ 0 }
+    {
+        Held {
+            lists: Vec::new(alloc),
+            count: 0,
+        }
+    }
+
+    /// The lines of lists, one for each resource.
+    ///
+    /// # Errors
+    /// `Memory` if there are 10^12 lines.
+    pub(crate) fn of(lists: Vec<Vec<Line>>) -> Result<Held, RunError>
+        ensures lists { IfOk result (λ h. h.lists ≡ lists) }
+        ensures count { IfOk result (λ h. h.count ≡ length (flat lists.items)) }
+        ensures few { IfOk result (λ h. h.count < 10 ^ 12) }
+        ensures memory { IfErr result (λ e. e ≡ Memory) }
+    {
+        let count = count_in(&lists);
+        if count >= MOST {
+            return Err(RunError::Memory);
+        }
+        Ok(Held { lists, count })
+    }
+
+    /// How many lines they are.
+    pub(crate) fn count(&self) -> usize
+        ensures { result ≡ self.now.count }
+    {
+        self.count
+    }
+
+    /// Whether another thread makes their text, where a run has this many workers.
+    pub(crate) fn is_shared(&self, workers: u64) -> bool {
+        workers > 1 && are_many(&self.lists, self.count)
+    }
+
+    /// Their text in parts, one after another, each of which one of this many threads makes.
+    ///
+    /// # Errors
+    /// When memory runs out.
+    pub(crate) fn text<R: Threads + Sync>(
+        self,
+        rt: &R,
+        alloc: Global,
+        system: &System,
+        form: Form,
+        threads: usize,
+    ) -> Result<Vec<Vec<u8>>, AllocError>
+        requires { All (λ p. All (BelongsTo system.now) p.items) self.lists.items }
+        ensures { IfOk result (λ v. IsWovenText system.now form (map (λ p. p.items) self.lists.items) (all_bytes v.items)) }
+    {
+        texts_of(rt, alloc, system, form, &self.lists, threads)
+    }
+
+    /// Writes them in the order of the trace. It answers how many bytes they have, and how many they are.
+    ///
+    /// # Errors
+    /// `Memory`, after which nothing was written; and `Write` with the count of the bytes written.
+    pub(crate) fn hand_out<W: Write>(
+        self,
+        alloc: Global,
+        system: &System,
+        form: Form,
+        out: &mut W,
+    ) -> Result<(u128, u128), RunError>
+        requires { All (λ p. All (BelongsTo system.now) p.items) self.lists.items }
+        ensures whole { IfOk result (λ r. HandsOut system.now form self.lists.items (W.contents out.old) (W.contents out.new) r.0 r.1) }
+        ensures failed { IfErr result (FailsToHandOut system.now form self.lists.items (W.contents out.old) (W.contents out.new)) }
+    {
+        let lines = merge(alloc, self.lists)?;
+        let bytes = hand_out(out, system, form, &lines)?;
+        Ok((bytes, lines.len() as u128))
+    }
+}
+
+/// Where a run is between two rounds.
+#[derive(Drop)]
+pub(crate) struct Standing {
+    pub core: Core,
+    /// The lines that have become final in the round before.
+    pub held: Held,
+}
