@@ -34,7 +34,7 @@ adds_both P Q a b c first second = record {
       );
 }
 
--- .. by another wording of what holds
+-- flags that are set for one condition are set for an equivalent one
 pub adds_by : (P Q : ℕ → ℕ → Type 0) (a b : Table) → AddsFlags P a b → ((i k : ℕ) → P i k → Q i k) → ((i k : ℕ) → Q i k → P i k) → AddsFlags Q a b
 adds_by P Q a b adds there back = record {
   rows = adds.rows;

@@ -6,11 +6,11 @@ use Rattle.fb_coverage.specs.declared.share.Share.{Share}
 abbrev pub capped : ℕ → ℕ
 capped n = min n (2 ^ 64 - 1)
 
--- .. with the flags of a thing
+-- a share with the flags of one thing added
 abbrev pub with_row : Share → List Bool → Share
 with_row s flags = record { covered = capped (s.covered + count_by (λ b. b) flags); all = capped (s.all + length flags) }
 
--- .. of all things of a table
+-- a share with the flags of all things of a table added
 abbrev pub with_rows : Share → List (List Bool) → Share
 with_rows s [] = s
 with_rows s (r ∷ rs) = with_rows (with_row s r) rs

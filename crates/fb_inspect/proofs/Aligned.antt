@@ -108,7 +108,7 @@ module _ (i : Inputs) (accepted : AreAccepted i) (names : HasNames (system_of i)
         let next = next_is line rest text _ alone (line_one sys form m names own) parts in
         record { back = m ∷ ms; of = of; lines = refl; rise = rise; last = refl; next = record { line = own; is = next.0 }; forms = λ b cs e. absurd (no_line b cs e) }
 
-    -- .. or another one is read
+    -- The lines in a form are aligned with those of the trace.
     pub aligned :
         (ls bs : List run.Line) (tick : ℕ) → All (IsLineOf sys) ls → All (IsLineOf sys) bs → RiseFrom tick ls
         → lines_text form sys (map (line_of sys) ls) ++ last_line sys end ≡ lines_text f sys (map (line_of sys) bs) ++ (line ++ rest) → IsAligned form f ls bs tick end line rest

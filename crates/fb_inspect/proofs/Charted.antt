@@ -141,7 +141,7 @@ module _ (x : ChartTaking) where
     alone = goes.alone;
   }
 
-  -- .. and where a reason ends it
+  -- an action that a reason ends, as the first of those that are left
   pub acts_end :
       (t : BasicType) (a : Action) (others : List Action) (p m : Position) (r : Reason) (b c : Trail) (l k : Option (List ℕ))
       → ChartGoes x (Acting t (a ∷ [])) p (Some r) m b c l k → ChartGoes x (Acting t (a ∷ others)) p (Some r) m b c l k
@@ -277,7 +277,7 @@ module _ (x : ChartTaking) (present : Option Name) where
         alone = alone_from b c d l k line goes.alone;
       }
 
-  -- .. and all actions of its target were performed
+  -- a transition cleared, and all actions of its target were performed
   pub link_went :
       (y : Transition) (target : Name) (left : ℕ) (p m q : Position) (b c d : Trail) (l k : Option (List ℕ)) → trial_at own_type present p ≡ Clears target left
       → first_true (leaving own_type p.state) present p.vars ≡ Some y → IsAside b c

@@ -92,7 +92,7 @@ emits_none sys form line b l = record {
   alone = λ alone. alone;
 }
 
--- .. and one more
+-- one more emission was gone through
 pub emits_one :
     (sys : System) (form : Form) (line : Line) (es : List run.Emission) (e : run.Emission) (y : Line) (b c d : Trail) (l k j : Option (List ℕ)) → EmitsGo sys form line es b c l k → IsEmission y line e
     → Goes sys form line.key.tick (y ∷ []) (shown_text c.is_shown (line_text form sys (line_of sys y))) c d k j → StaysAlone c.reading d.reading k j

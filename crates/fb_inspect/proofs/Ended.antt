@@ -96,7 +96,7 @@ module _ (i : Inputs) (form : Form) (only : List Name) (steps : ℕ) (first : Ma
               (Appends-trans old mid new complete.gone.sent (walk.trail.page.text.items ++ walk.trail.reading.line.items) complete.gone.got finished.got);
         })
 
-    -- .. and marked
+    -- all was marked
     pub complete_covered : IsAtEnd remaining → IfSome input (λ text. IsCovered i only steps text first walk.trail.marks)
     unfolding inspected_as
     complete_covered over =
@@ -108,7 +108,7 @@ module _ (i : Inputs) (form : Form) (only : List Name) (steps : ℕ) (first : Ma
           ports = complete.marked.ports;
         })
 
-    -- .. or a part of it
+    -- a part was written
     pub complete_part : (new : Option (List ℕ)) → SendsPart walk mid new → ShowsFront its_system only steps old new
     complete_part new part = record {
       form = form;
@@ -156,7 +156,7 @@ module _ (i : Inputs) (form : Form) (only : List Name) (steps : ℕ) (first : Ma
               (Appends-trans old mid new off.sent (walk.trail.page.text.items ++ cut_note) off.got finished.got);
         })
 
-    -- .. and marked
+    -- all was marked
     pub severed_covered : IfSome input (λ text. IsCutCovered i only text first walk.trail.marks)
     unfolding cut_inspected
     severed_covered =
@@ -168,7 +168,7 @@ module _ (i : Inputs) (form : Form) (only : List Name) (steps : ℕ) (first : Ma
           ports = off.marked.ports;
         })
 
-    -- .. or a part of it
+    -- a part was written
     pub severed_part : (new : Option (List ℕ)) → SendsCutPart walk mid new → ShowsFront its_system only steps old new
     severed_part new part = record {
       form = form;
@@ -206,7 +206,7 @@ module _ (i : Inputs) (form : Form) (only : List Name) (steps : ℕ) (first : Ma
     marked = record { charts = ap (λ (m : Marks). m.charts) same; ports = ap (λ (m : Marks). m.ports) same };
   }
 
--- .. and nothing more is covered then
+-- such a trace covers no more than before
 pub severed_covers :
     (may : Cut) (i : Inputs) (only : List Name) (steps : ℕ) (input remaining : Option (List ℕ)) (line : List ℕ) (marks : Marks) → may ≡ cut.Allowed → Consumes input remaining line
     → IsFirstLine line input → is_unended line ≡ true → IfSome input (λ text. Covers may i steps text marks marks CutOff)
@@ -284,7 +284,7 @@ front_gone sys form only steps walk takings input remaining old new gone = recor
   appended = gone.got;
 }
 
--- .. where a part of what waits was sent after it
+-- the same, where a part of what waits was sent after it
 pub front_flush :
     (sys : System) (form : Form) (only : List Name) (steps : ℕ) (walk : Walk) (takings : List Taking) (input remaining old mid new : Option (List ℕ)) (e : InspectError)
     → IsGone sys form only steps walk takings input remaining old mid → IsCutShort mid new walk.trail.page e → ShowsFront sys only steps old new
@@ -305,7 +305,7 @@ front_flush sys form only steps walk takings input remaining old mid new (Write 
   appended = Appends-trans old mid new gone.sent short.sent gone.got short.got;
 }
 
--- .. where nothing was gone through
+-- The writer got nothing, since nothing was gone through.
 pub front_none : (sys : System) (only : List Name) (steps : ℕ) (old : Option (List ℕ)) → ShowsFront sys only steps old old
 front_none sys only steps old = record {
   form = One;

@@ -79,7 +79,7 @@ part_sent sys end x page old new (Write n) whole short = record {
   );
 }
 
--- .. where the trace is cut off
+-- nothing is a part of the dump of a trace that is cut off
 pub none_cut_sent : (sys : System) (x : StateWave) (old : Option (List ℕ)) → SendsCutPart sys x old old
 none_cut_sent sys x old = record {
   part = [];
@@ -130,7 +130,7 @@ module _ (sys : System) (form : Form) (steps : ℕ) where
         got = waved.got;
       }
 
-  -- .. where a part of what waits was sent after it
+  -- the same, where a part of what waits was sent after it
   pub front_flush :
       (x : StateWave) (input remaining old mid new : Option (List ℕ)) (e : InspectError) → HasWaved sys form steps x input remaining old mid → IsCutShort mid new x.page e
       → WritesFront sys steps old new
@@ -190,7 +190,7 @@ module _ (sys : System) (form : Form) (steps : ℕ) where
         by (Some t) (Some u) read over =
             shown t (read ∙ ap (λ (v : List ℕ). (L ++ whole.line) ++ v) over ∙ append-nil (L ++ whole.line) ∙ ap (λ (v : List ℕ). L ++ v) whole.last.is)
 
-    -- .. or a part of it
+    -- a part was written
     pub whole_part : (new : Option (List ℕ)) → SendsPart sys end x mid new → WritesFront sys steps old new
     whole_part new part =
         let waved = whole.waved in
@@ -227,7 +227,7 @@ module _ (sys : System) (form : Form) (steps : ℕ) where
           got = subst (Appends old new) (finished.whole off.takings off.untaken off.sent off.shown) (Appends-trans old mid new off.sent finished.rest off.got finished.got);
         })
 
-    -- .. or a part of it
+    -- a part was written
     pub cut_part : (new : Option (List ℕ)) → SendsCutPart sys x mid new → WritesFront sys steps old new
     cut_part new part =
         let all = part.whole off.takings off.untaken off.sent off.shown in
@@ -264,7 +264,7 @@ module _ (sys : System) (form : Form) (steps : ℕ) where
     shown = shows_untaken_none sys [] x.page.text.items x.dump begins.shown;
   }
 
--- .. where nothing was gone through
+-- The writer got nothing, since nothing was gone through.
 pub front_none : (sys : System) (steps : ℕ) (old : Option (List ℕ)) → WritesFront sys steps old old
 front_none sys steps old = record {
   takings = [];

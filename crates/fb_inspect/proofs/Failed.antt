@@ -42,7 +42,7 @@ untaken_chart sys k t look left line old new n kind untaken same number = record
       cc;
 }
 
--- .. or with which the timer of an event block does not go off
+-- the line of a timer of an event block that does not go off
 pub not_due : (sys : System) (k : Option Kind) (kind : EventKind) (look : Look) (left : ℕ) (line : Line) (old new : Reading) (n : ℕ) → k ≡ Some (Event kind) → line.taken ≡ false
     → IsNotDue sys kind (look.blocks (path_at sys line.instance)) line old new n → IsNoTaking (IsTakingAt left look k) sys line old new n
 not_due sys k kind look left line old new n is untaken due = record {
@@ -173,7 +173,7 @@ chart_fails x look c d left steps a y z l k j n taking is passed fails =
     } in
     taking_fails (IsTakingAt left look (sys.kind path)) sys x.fixed.form line it end.emitted a y z l k j n (subst (λ (o : Option Kind). IsTakingAt left look o it) (sym taking.kind) is_taking) refl refl passed fails.fails
 
--- .. and of an event block
+-- the reaction of an event block
 pub block_fails :
     (sys : System) (form : Form) (look : Look) (left : ℕ) (line : Line) (kind : EventKind) (a y z : Reading) (l k j : Option (List ℕ)) (n : ℕ) → sys.kind (path_at sys line.instance) ≡ Some (Event kind) → line.taken ≡ true
     → HasRead sys form line.key.tick (line ∷ []) a y l k

@@ -157,7 +157,7 @@ module _ (sys : System) (limit : ℕ) (within : limit ≤ most) (there : AreTher
   some_taking : (x : Taking) (xs : List Taking) → [] ≡ x ∷ xs → ⊥
   some_taking x xs e = cc
 
-  -- .. that goes on before others
+  -- one more taking before others leaves the last one apart
   apart_more :
       (t r : ℕ) (x : Taking) (before last : List Taking) → IsApart t r before last → (before ≡ [] → last ≡ [] → x.first.key.tick ≡ t → x.first.key.resource ≡ r → ⊥) → IsApart t r (x ∷ before) last
   apart_more t r x before last rest mine none [] z e tick resource =
@@ -253,7 +253,7 @@ module _ (sys : System) (limit : ℕ) (within : limit ≤ most) (there : AreTher
         subst (λ (j : Key). IsTakingWith sys near (left_at limit j.tick (near.steps j.resource)) x) (sym taking.key_is)
         (subst (λ (n : ℕ). IsTakingWith sys near n x) (sym enough) (subst (λ (j : Key). j.tick ≤ 10 ^ 12) (sym taking.key_is) early, taking.is_taking))
 
-    -- .. ends a row, if no step is left after it
+    -- the taking ends a row, if no step is left after it
     near_row : (f : Near) → RunsOut limit k.tick k.resource near (f.0 ∷ []) → IsRow look (o.lines ++ []) (AtStop k.tick k.resource Steps)
     near_row f out =
         record {
@@ -289,7 +289,7 @@ module _ (sys : System) (limit : ℕ) (within : limit ≤ most) (there : AreTher
     exact_row : o.stop ≡ None → o.left ≡ 0 → IsRow look (o.lines ++ []) (AtStop k.tick k.resource Steps)
     exact_row on none = let f = near_found in near_row f (inr (f.1.stop_is ∙ on, left_after_it f ∙ ap (λ (n : ℕ). n + 0) none))
 
-    -- .. or another reason stops it
+    -- a reason other than the steps ends the reaction
     abbrev Found : Type 0
     Found = (x : Taking) × IsTakingOf sys k (path_of e) left more look (due_before look e) o x
 

@@ -126,7 +126,7 @@ module _ (sys : System) (form : Form) (names : HasNames sys) (first : Line) wher
   front_alone line left last rest alone (inr (same, none)) =
       same ∙ alone ∙ ap (λ (t : List ℕ). take_through 10 (t ++ rest)) (sym same) ∙ ap (λ (t : List ℕ). take_through 10 (line ++ (t ++ rest))) (sym none)
 
-  -- .. and says of an end only where that is the line after all rows
+  -- such a line is an end only if it is the one after all rows
   pub front_end : (line left last rest : List ℕ) (end : Ending) → IsFront sys form first line left last rest → line ≡ last_line sys end → last ≡ last_line sys end
   front_end line left last rest end (inl r) is = absurd (line_not_last sys form r.row end r.own.line (sym r.is ∙ is))
   front_end line left last rest end (inr (same, none)) is = sym same ∙ is

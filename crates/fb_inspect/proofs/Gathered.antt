@@ -57,7 +57,7 @@ module _ (sys : System) (form : Form) (first : Line) where
     alone = alone_of input mid remaining text last are.read read one;
   }
 
-  -- .. is cut off
+  -- the last line has no end, so the trace is cut off after the rows
   pub rows_cut :
       (rows : List Line) (text last : List ℕ) (input remaining : Option (List ℕ)) → AreGathered sys form first rows text last input remaining → is_unended last ≡ true
       → AreCutOff sys form first rows text input

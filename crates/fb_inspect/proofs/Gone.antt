@@ -138,7 +138,7 @@ module _ (sys : System) (form : Form) (only : List Name) (steps : ℕ) where
     next = next_line sys form 0 walk.trail.reading.line.items walk.trail.reading.next starts.next;
   }
 
-  -- .. and nothing is marked
+  -- before the first line nothing is marked
   pub covered_none :
       (types : List BlockType) (walk : Walk) (input remaining old : Option (List ℕ)) → Starts sys form only walk → Consumes input remaining walk.trail.reading.line.items
       → HasCovered types walk.trail.marks sys form only steps walk input remaining old old

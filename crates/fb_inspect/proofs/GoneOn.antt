@@ -99,7 +99,7 @@ pub record IsReady (w : StateWave) (was : Walk) : Type 0 where
   pub none : was.trail.passed.lines.items ≡ []
   pub lost : was.trail.marks.charts.lost ≡ false
 
--- .. by what is done to it
+-- a walk whose passed lines and lost event are set back is ready
 pub ready_of :
     (w : StateWave) (t : Trail) → w.walk.trail.passed.are_kept ≡ true → t.passed.lines.items ≡ []
     → t
@@ -200,7 +200,7 @@ module _ (types : List BlockType) (sys : System) (form : Form) (steps : ℕ) (w 
               (subst (λ (v : Walk). IsNext sys form line.key.tick v.trail.reading.line.items v.trail.reading.next) (sym own) goes.next);
         }
 
-    -- .. or it ends, since a reason other than the steps stops the resource
+    -- the trace ends, since a reason other than the steps stops the resource
     gone_stopped :
         (line : Line) (end : Outcome) → next.Event line ≡ was.trail.reading.next → IsStopped types sys form seen line end was now r rest → IsLast sys now.trail.reading.line.items end
         → IsAfter line.key.tick end → IsWhole sys form steps done end known rest old mid
@@ -220,7 +220,7 @@ module _ (types : List BlockType) (sys : System) (form : Form) (steps : ℕ) (w 
           after = subst (λ (t : ℕ). IsAfter t end) (sym (last_is sys form steps w done xs line (Some x.reason) most seen known r rest old mid have.waved later takes)) after;
         }
 
-    -- .. or since that has used up its steps
+    -- the trace ends, since the resource has used up its steps
     gone_used :
         (line : Line) (end : Outcome) → next.Event line ≡ was.trail.reading.next → IsUsedUp types sys form steps seen line end was now r rest → IsLast sys now.trail.reading.line.items end
         → IsAfter line.key.tick end → IsWhole sys form steps done end known rest old mid

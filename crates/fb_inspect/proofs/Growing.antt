@@ -225,7 +225,7 @@ shows_all sys xs sent old mid new end x t put ended =
     group : (s o c e : List ℕ) → s ++ ((o ++ c) ++ e) ≡ ((s ++ o) ++ c) ++ e
     group s o c e = simp append_assoc
 
--- .. and without the end, whatever end comes
+-- what is shown is the front of the whole text, whatever end comes
 pub shows_front :
     (sys : System) (xs : List Taken) (shown : List ℕ) (end : Ending) (x : PortDump) → Shows sys xs shown x → (rest : List ℕ) × (shown ++ rest ≡ state_dump true sys xs end)
 shows_front sys xs shown end x t =
@@ -284,7 +284,7 @@ shows_cut sys xs us sent old mid new x t put ended =
     group : (s o c e : List ℕ) → s ++ ((o ++ c) ++ e) ≡ ((s ++ o) ++ c) ++ e
     group s o c e = simp append_assoc
 
--- .. and without that, whatever came
+-- what is shown is the front of the whole text of a trace that is cut off
 pub shows_cut_front :
     (sys : System) (xs : List Taken) (us : List Line) (shown : List ℕ) (x : PortDump) → ShowsUntaken sys xs us shown x → (rest : List ℕ) × (shown ++ rest ≡ cut_dump true sys xs us)
 shows_cut_front sys xs us shown x t =

@@ -56,7 +56,7 @@ module _ {X : Type 0} (P : X → ℕ → ℕ → Type 0) where
   adds_more x xs a b c first rest =
       adds_by (λ i k. P x i k ⊎ Some_of xs i k) (Some_of (x ∷ xs)) a c (adds_both (P x) (Some_of xs) a b c first rest) (some_there x xs) (some_back x xs)
 
-  -- .. and those of two lists
+  -- the flags of one list and those of another
   adds_append : (xs ys : List X) (a b c : Table) → AddsFlags (Some_of xs) a b → AddsFlags (Some_of ys) b c → AddsFlags (Some_of (xs ++ ys)) a c
   adds_append xs ys a b c first second =
       adds_by (λ i k. Some_of xs i k ⊎ Some_of ys i k) (Some_of (xs ++ ys)) a c (adds_both (Some_of xs) (Some_of ys) a b c first second)

@@ -25,11 +25,11 @@ module _ (sys : System) (form : Form) (tick : ℕ) (text : List ℕ) where
     λ other can after e. early (after_once sys tick tick end other refl last.can can (sym last.is ∙ e) after),
   )
 
-  -- .. or none of the system
+  -- the text is no line and no end of the system
   pub none_there : IsNoLast sys text → IsNoTextOf sys form text → IsNoLineFrom sys form tick text × IsNoEndFrom sys tick text
   none_there no_end no_line = (λ l is later. no_line l is, λ other can after e. no_end other can e)
 
--- .. or its tick is too early
+-- the line has an earlier tick
 pub line_early :
     (t : PortTable) (form : Form) (tick : ℕ) (text : List ℕ) (l : Line) → IsTextOf (system_of t.system.now) form l text → l.key.tick < tick → IsNoLast (system_of t.system.now) text
     → HasNames (system_of t.system.now) → IsNoLineFrom (system_of t.system.now) form tick text × IsNoEndFrom (system_of t.system.now) tick text

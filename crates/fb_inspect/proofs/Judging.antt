@@ -80,13 +80,13 @@ module _ (sys : System) (form : Form) (steps : ℕ) (w : Walk) (a : Ahead) (rest
     wrong = wrong;
   }
 
-  -- .. where it is none
+  -- the next line is none of the system
   pub bad_line : next.Bad ≡ w.trail.reading.next → IsWrongLine sys steps w.trail.reading.number text
   bad_line is =
       let none = (subst (λ (n : Next). IsNext sys form (last_tick 0 stands.lines) w.trail.reading.line.items n) (sym is) well.on.next) names in
       wrong_line (inl (inl (refl, record { no_taking = λ m at plain later x first taking. none.0 m at later; no_end = none.1 })))
 
-  -- .. or an end that may not come there
+  -- the next line is an end that may not come there
   module _ (end : Outcome) (is : next.End end ≡ w.trail.reading.next) (other : IsEndOf sys (ending_of end) → MayEnd sys steps (last_look (opening_look sys) well.takings) (ending_of end) → ⊥) where
     here : IsNext sys form (last_tick 0 stands.lines) w.trail.reading.line.items (next.End end)
     here = subst (λ (n : Next). IsNext sys form (last_tick 0 stands.lines) w.trail.reading.line.items n) (sym is) well.on.next
@@ -95,7 +95,7 @@ module _ (sys : System) (form : Form) (steps : ℕ) (w : Walk) (a : Ahead) (rest
     nothing =
         wrong_line (inl (inr (inl (refl, record { end = ending_of end; can = here.0.can; is = here.0.is; other = other here.0.can; near = stands.near }))))
 
-    -- .. since a resource had used too many steps before
+    -- the run ends for its steps, but a resource had used too many before
     many : (m : StopMark) → end ≡ Stop m → m.reason ≡ Steps → (k : ℕ) (event : List ℕ) → Watches sys form steps well.takings k event true → IsWrongLine sys steps k text
     many m end_is reason k event watched =
         let stop_is : ending_of end ≡ AtStop m.tick m.resource Steps = ap ending_of end_is ∙ ap (AtStop m.tick m.resource) reason in

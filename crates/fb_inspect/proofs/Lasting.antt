@@ -74,7 +74,7 @@ module _ (t : PortTable) (form : Form) (takings : List Taking) (w : Walk) (a : A
   pub last_limit : (n : ℕ) → n ≡ w.trail.reading.number → (KeepsLimit steps line.key.tick line.key.resource look → ⊥) → IsWrongLine sys steps n text
   last_limit n number over = wrong_here t form takings w a line rest text at steps n number (inr (inl (line, soon, inl (refl, over))))
 
-  -- .. or some resource had in some tick
+  -- some resource had used more than the steps in some tick
   pub last_kept :
       (e : Bool) (k : ℕ) (event : List ℕ) → Watches sys form steps takings k event e → (KeepSteps sys steps look → ⊥) → (error : InspectError) → (e ≡ true → error ≡ Refused k)
       → OfRefusal (λ n. IsWrongLine sys steps n text) error

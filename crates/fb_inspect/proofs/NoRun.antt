@@ -60,7 +60,7 @@ parted_at sys (b ∷ bs) (a ∷ A) B e =
       second_are = rest.second_are;
     }
 
--- .. of which each is a line of the system
+-- what holds of all of two lists holds of those of each
 all_first : (P : run.Line → Type 0) (xs ys zs : List run.Line) → zs ≡ xs ++ ys → All P zs → All P xs
 all_first P [] ys zs e h = All-nil P
 all_first P (x ∷ xs) ys zs e h =
@@ -142,7 +142,7 @@ module _ (i : Inputs) (accepted : AreAccepted i) (names : HasNames (system_of i)
       by [] none next = record { none = none; is = next.0; nothing_more = next.1 }
       by (m ∷ more) some next = absurd (line_not_last sys F m e next.line (sym next.is ∙ says))
 
-  -- .. and those of the rest of the run, where no line is left
+  -- where no line is left, the text has all lines of the run
   none_left : (f : Form) (bs : List run.Line) (line rest : List ℕ) (al : Aligned f bs line rest) → al.back ≡ [] → all_lines rows ≡ shown_lines F (map (line_of sys) bs)
   none_left f bs line rest al none = lines_so f bs line rest al ∙ ap (λ (ls : List run.Line). shown_lines F (map (line_of sys) bs) ++ map view ls) none ∙ append-nil (shown_lines F (map (line_of sys) bs))
 

@@ -136,15 +136,15 @@ module _ (t : PortTable) (form : Form) (text : List ℕ) (line : Line) (e : Emis
         values = one.values ∙ em.values;
       })
 
-  -- .. or the last one
+  -- the next line is the last one
   pub other_end : (end : Outcome) → IsLast sys text end → Other
   other_end end last m other same = line_not_last sys form m (ending_of end) other.line (sym other.is ∙ last.is)
 
-  -- .. or none of the system
+  -- the next line is none of the system
   pub other_none : IsNoLineFrom sys form line.key.tick text → Other
   other_none none m other same = none m other (subst (λ (k : Key). line.key.tick ≤ k.tick) (sym (ap (λ (n : model.Line). n.key) same)) (omega arith))
 
-  -- .. or any that is not that of the emission
+  -- the next line is any that is not that of the emission
   pub other_next :
       IsEmissionOf its e → e.event < 2 ^ 32 → (n : Next) → IsNext sys form line.key.tick text n → ((l : Line) → n ≡ next.Event l → IsEmission l line e → ⊥) → Other
   other_next fit small (next.Event l) is differs = other_event fit small l is.0 is.2 (differs l refl)

@@ -92,7 +92,7 @@ after_once sys Two l m is other e =
 
 -- ---- Lines
 
--- .. where ports that are written alike are one
+-- A text is that of one line, if ports that are written alike are one.
 pub line_once_by :
     (sys : System) → HasNames sys → ((p q : Port) → IsPortOf sys p → IsPortOf sys q → port_text sys p ≡ port_text sys q → p ≡ q) → (form : Form) (l m : Line) (text : List ℕ)
     → IsTextOf sys form l text → IsTextOf sys form m text → IsSameLine form l m

@@ -49,7 +49,7 @@ module _ (types : List BlockType) (sys : System) (form : Form) (steps : ℕ) (lo
     next = here;
   }
 
-  -- .. and its resource stops
+  -- the event is taken with the greatest limit, and its resource stops
   pub free_ends :
       (old new : Walk) (remaining rest : Option (List ℕ)) (limit : ℕ) (stop : Option Reason) (r : Reason) (end : Outcome) → limit ≡ most → stop ≡ Some r → (r ≡ Steps → ⊥)
       → WalkTakes types sys form limit look line stop old new remaining rest → IsNext sys form line.key.tick new.trail.reading.line.items new.trail.reading.next
@@ -69,7 +69,7 @@ module _ (types : List BlockType) (sys : System) (form : Form) (steps : ℕ) (lo
         after = at.1;
       }
 
-  -- .. or runs out of these steps
+  -- the event is taken with the limit of the run, and its resource runs out of steps
   pub limited_ends :
       (old between new : Walk) (remaining rest : Option (List ℕ)) (stop : Option Reason) (end : Outcome) → KeepSteps sys steps look → between.shown ≡ old.shown → between.trail ≡ old.trail → between.blocks ≡ old.blocks
       → IsLookOf sys old.blocks.items old.steps.items look → HasLimited steps line.key old.steps.items between.steps.items
@@ -105,7 +105,7 @@ module _ (types : List BlockType) (sys : System) (form : Form) (steps : ℕ) (lo
       by own (inl stopped) = inl (own.stop_is ∙ stopped)
       by own (inr (on, used)) = inr (own.stop_is ∙ on, used)
 
-  -- .. where the line is kept before it, and a note is made after it
+  -- a step for which the line is kept before it, and a note is made after it
   pub line_watched :
       (old new : Walk) (a b c d : Ahead) (remaining : Option (List ℕ)) (step : Step) → b.text ≡ a.text → d.text ≡ c.text → d.rows ≡ c.rows
       → LineGoes types sys form steps look line old new c (unread b remaining) (unread c remaining) step
@@ -181,7 +181,7 @@ module _ (types : List BlockType) (sys : System) (form : Form) (steps : ℕ) (lo
     line_next ahead (Ended end) goes = ends_next end goes
     line_next ahead CutOff goes = goes
 
--- .. with any answer that is not a cut
+-- a step from the next line, whatever comes but a cut
 pub step_over :
     (types : List BlockType) (sys : System) (form : Form) (steps : ℕ) (look : Look) (old new : Walk) (line : Line) (ahead : Ahead) (remaining rest : Option (List ℕ)) (step : Step)
     → next.Event line ≡ old.trail.reading.next → (step ≡ CutOff → ⊥) → LineGoes types sys form steps look line old new ahead remaining rest step

@@ -18,7 +18,7 @@ use Rattle.fb_inspect.specs.Notes.{lost_if}
 pub moved_at : (t : BasicType) (i j : ℕ) (f g : List Slot) (left k : ℕ) → j ≡ i → g ≡ f → index t j g k [] ≡ record (index t i f left []) { left = k }
 moved_at t i j f g left k same frame = ap (λ (n : ℕ). index t n g k []) same ∙ ap (λ (s : List Slot). index t i s k []) frame
 
--- .. and another state was entered
+-- another state was entered
 pub entered_at :
     (t : BasicType) (i j : ℕ) (f g : List Slot) (left k : ℕ) (target : Name) → state_at t j ≡ target → g ≡ f
     → index t j g k [] ≡ record (index t i f left []) { state = target; left = k }

@@ -81,7 +81,7 @@ module _ (vs : List Variable) (ns : List Name) where
       ∙ ap (λ (b : Bool). (if b then v else vars h.0.name) ∷ []) (same_name-itself h.0.name))
   sampled_are (v ∷ (w ∷ rest)) inputs vars (inr h) counted are = absurd (omega (arith, ap length h.2))
 
-  -- .. and values of their types
+  -- sampled inputs hold values of their types
   pub sampled_fit :
       (values inputs : List Value) (indexes : List ℕ) → AllOrNone vs ns → AreIndexes vs ns indexes → fit_each (map (type_at vs) indexes) values ≡ true
       → length values ≡ length ns → FitTheirTypes vs inputs → FitTheirTypes vs (inputs_after inputs values)

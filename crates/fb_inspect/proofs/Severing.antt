@@ -71,7 +71,7 @@ alone_of None mid (Some rest) text last read more one = inl refl
 alone_of (Some t) None (Some rest) text last read more one = absurd read
 alone_of (Some t) (Some m) (Some rest) text last read more one = inr (one ∙ ap (take_through 10) more)
 
--- .. is cut off
+-- the line that was read last has no end, so the text is cut off after what comes before it
 pub cut_rest :
     (input remaining : Option (List ℕ)) (text last : List ℕ) → Consumes input remaining (text ++ last)
     → IfSome remaining (λ rest. (input ≡ None) ⊎ (last ≡ take_through 10 (last ++ rest))) → is_unended last ≡ true → IfSome input (λ whole. IsCutAfter whole text)

@@ -61,7 +61,7 @@ module _ (sys : System) (limit n : ℕ) (look after : Look) (k : Key) (steps : a
           subst (λ (l : Left). most ≤ l.least + limit) (sym (own_is r e)) now
       by (inr e) = subst (λ (l : Left). most ≤ l.least + limit) (sym (other_is r e)) (kept r small)
 
-  -- .. and they were before
+  -- the steps were kept before the taking
   keep_back : KeepSteps sys limit after → KeepSteps sys limit look
   keep_back kept r small = by (cases_eq r k.resource)
     where
@@ -94,7 +94,7 @@ steps_after left look (Some (Event k)) x (inl h) = (left, ap (λ (l : Look). l.s
 steps_after left look (Some (Event k)) x (inr h) = (left, ap (λ (l : Look). l.steps) h.is.2)
 steps_after left look (Some (Composite c)) x h = (left, ap (λ (l : Look). l.steps) h.is)
 
--- .. and after one that is not of a basic block, which goes on
+-- a taking of a block that is not basic goes on, and uses no steps of its own
 pub plain_after :
     (left : ℕ) (look : Look) (k : Option Kind) (x : Taking) → ((t : BasicType) → k ≡ Some (Basic t) → ⊥) → IsTakingAt left look k x
     → (x.stop ≡ None) × (x.after.steps ≡ (with_left x.first.key left look).steps)

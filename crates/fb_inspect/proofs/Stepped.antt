@@ -142,7 +142,7 @@ module _ (sys : System) (steps : ℕ) (xs : List Taking) (chain : AreTakings sys
       judged = (is_taking, nothing x.stop, tt);
     }
 
-    -- .. and runs out of them
+    -- the last one runs out of these steps, so the run ends there
     pub ends_used :
         KeepSteps sys steps last_seen → KeepsLimit steps line.key.tick line.key.resource last_seen → IsTaking sys steps (limited steps line.key.tick line.key.resource last_seen) x
         → RunsOut steps line.key.tick line.key.resource (limited steps line.key.tick line.key.resource last_seen) (x ∷ [])
@@ -428,7 +428,7 @@ module _ (types : List BlockType) (first : Marks) (sys : System) (form : Form) (
           marked = marks_are;
         }
 
-        -- .. and a reason other than the steps stops its resource
+        -- one more event is taken, and a reason other than the steps stops its resource
         pub stopped_on :
             (r : Reason) → stop ≡ Some r → (r ≡ Steps → ⊥) → done.trail.reading.next ≡ next.End (Stop (record { tick = line.key.tick; resource = line.key.resource; reason = r }))
             → IsComplete types first sys form only steps done (Stop (record { tick = line.key.tick; resource = line.key.resource; reason = r })) input rest old mid

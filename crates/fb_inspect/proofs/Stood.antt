@@ -440,7 +440,7 @@ module _ (t : PortTable) (form : Form) (takings : List Taking) (w : Walk) (a : A
         alone = subst (λ (r : Reading). IsAlone r.line.items (Some a.text.items) → IsAlone done.trail.reading.line.items (Some b.text.items)) one alone;
       }
 
-  -- .. each resource with the greatest limit
+  -- a taking whose resource has the greatest limit, after which the next line is known
   module _ (rows : List Line) (ahead : AreAhead sys form line rows a.text.items a.last.items rest) (far : IsNotNear sys line a.last.items) (types : List BlockType) (limit : ℕ) (most_is : limit ≡ most)
       (done : Walk) (b : Ahead) (stop : Option Reason) (goes_so : WalkTakes types sys form limit seen_last line stop w done (unread a (Some [])) (unread b (Some [])))
       (alone : IsAlone w.trail.reading.line.items (Some a.text.items) → IsAlone done.trail.reading.line.items (Some b.text.items)) (last_same : b.last ≡ a.last)

@@ -129,7 +129,7 @@ module _ (i : Inputs) (accepted : AreAccepted i) where
   pub targets_events : (q : Port) → Each (IsEventPort (system_of i)) ((system_of i).targets q)
   targets_events q = chosen_there q (events_at lib q.at) (each_append GoesThere (events_inside lib (parent q.at)) (events_inside lib q.at) (inside_there (parent q.at)) (inside_there q.at))
 
-  -- .. which are those of instances.
+  -- Event ports to which events go are those of instances.
   pub targets_there : AreThere (system_of i)
   targets_there q =
       each_map (IsEventPort (system_of i)) (λ (t : Port). IsThere (system_of i) t.at) ((system_of i).targets q) (λ t e. event_there ((system_of i).kind t.at) t.name e) (targets_events q)

@@ -80,7 +80,7 @@ kept_composite (Some (Composite t)) s h = (t, refl)
 same_basic : (t u : BasicType) (k : Option Kind) → k ≡ Some (Basic t) → k ≡ Some (Basic u) → t ≡ u
 same_basic t u k h i = cc
 
--- .. where the type is known
+-- what is kept of a basic block whose type is known
 pub chart_kept_at : (k : Option Kind) (t : BasicType) (c : Chart) (s : Seen) → k ≡ Some (Basic t) → IsKept k (kept.Basic c) s → IsChartKept t c s
 chart_kept_at k t c s is h =
     let one = kept_chart k c s h in

@@ -56,7 +56,7 @@ pub passed_are : (ls : List Line) (old new : PassedLines) → old.are_kept ≡ t
 passed_are ls old new kept none passed =
     passed.lines ∙ ap (λ (b : Bool). lines_kept b old.lines.items ls) kept ∙ ap (λ (l : List Line). l ++ ls) none
 
--- .. and what is marked says whether it lost its event
+-- what is marked says whether the taking lost its event
 pub lost_is :
     (types : List BlockType) (k : Option Kind) (x : Taking) (m n : ChartMarks) (t : BasicType) → TakingMarksAt types k x m n → k ≡ Some (Basic t) → m.lost ≡ false
     → list_any is_loss x.pieces ≡ n.lost

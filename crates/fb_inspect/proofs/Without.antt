@@ -109,7 +109,7 @@ ticks_same sys t before now (l ∷ ls) rest at =
     ∙ ticks_same sys t before (now ++ l ∷ []) ls rest at.1
     ∙ ap (λ (k : List Line). ticks_text sys t before k rest) (append_assoc now (l ∷ []) ls)
 
--- .. or of another one
+-- the next line is of another tick
 ticks_next :
     (sys : System) (t : ℕ) (before now ls rest : List Line) (x : model.Line) (es : List Emission) → map (line_of sys) ls ≡ x ∷ map (emission_line x) es → (x.key.tick ≡ t → ⊥)
     → ticks_text sys t before now (ls ++ rest) ≡ (tick_changes sys before now ++ time_text t x.key.tick) ++ ticks_text sys x.key.tick (before ++ now) ls rest

@@ -98,7 +98,7 @@ module _ (sys : System) (limit : ℕ) (within : limit ≤ most) (ys : List Takin
     begins_right (AtStop t r Divide) ends l more e = chain_begins xs ends.0 l more e
     begins_right (AtStop t r Range) ends l more e = chain_begins xs ends.0 l more e
 
-    -- .. or the row may end there
+    -- the row may end there
     pub ends_right : (end : Ending) → EndsSo sys limit xs end → NoneStops ys → all_lines xs ≡ all_lines ys → MayEnd sys limit at end ⊎ StopsLast sys limit within ys are end
     ends_right (AtHorizon h) ends goes e = inl tt
     ends_right (AtStop t r Steps) ends goes e = steps_end sys limit within ys are t r xs ends e

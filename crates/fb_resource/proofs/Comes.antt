@@ -55,7 +55,7 @@ module _ (M : Machine) where
       sent = is_sent;
     }
 
-    -- .. which stops the resource
+    -- one event more was taken, and stops the resource
     pub come_stop : (reason : M.Reason) → i.out.stop ≡ Some reason → HasEnded M r t from (after M to i) i.key.tick (lines ++ i.out.lines) (sent ++ i.out.sent)
     come_stop reason stops = record {
       items = is;

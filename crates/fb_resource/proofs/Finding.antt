@@ -60,7 +60,7 @@ module _ (horizon : ℕ) (a : Contents) (k : Key) (e : Event) where
       left j false other =
           sym (apart j other) ∙ ap (λ b. cond b None (waiting (with_event k e a) j)) (sym other)
 
--- .. where no event waits at its moment or before
+-- where nothing waits at its moment or before, an event that waits in addition is the least one
 pub finds_clear : (horizon : ℕ) (a : Contents) (k : Key) (e : Event) → k.tick < horizon → IsClear k.tick k.resource a → Finds horizon (with_event k e a) true k e a
 finds_clear horizon a k e below clear = finds_raised horizon a k e below (clear_before a k clear) (clear_itself a k clear)
 

@@ -58,7 +58,7 @@ with_put k e a j =
     go true = refl
     go false = refl
 
--- .. if it was raised, and the timers stay
+-- an event in addition changes no timers
 pub due_next : (b : Bool) (k : Key) (e : Event) (a : Contents) → (with_next b k e a).due ≡ a.due
 due_next true k e a = refl
 due_next false k e a = refl

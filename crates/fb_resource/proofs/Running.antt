@@ -104,7 +104,7 @@ module _ (i : Inputs) (limit : ℕ) (x : Resource) (m : TickCounts) (q : Queues)
 pub queues_back : (x : Resource) (q : Queues) → q.agenda ≡ x.agenda → q.sent ≡ x.sent → with_queues x q ≡ x
 queues_back x q agenda sent = ap (λ (a : Contents). record x { agenda = a; sent = q.sent }) agenda ∙ ap (λ (v : Vec ℕ). record x { sent = v }) sent
 
--- .. and those that its run left
+-- the agenda and the counts that its run left come back to it
 pub run_back :
     (i : Inputs) (limit : ℕ) (x y : Resource) (q r : Queues) (to : ℕ) (a : Contents) (sent : Vec ℕ) (lines : Vec Line) (mail : Vec Message) (stop : Option StopMark)
     → q.agenda ≡ x.agenda → q.sent ≡ x.sent → a ≡ r.agenda → sent ≡ r.sent → lines ≡ r.outbox.lines → mail ≡ r.mail
@@ -188,7 +188,7 @@ module _ (i : Inputs) (limit : ℕ) (old new : Running) (k : Key) (e : Event) (a
     abbrev before_sent : List (Key × model.Event)
     before_sent = map (arriving i) old.queues.mail.items
 
-    -- which lets it go on
+    -- the event lets the resource go on
     pub comes_more : new.stopped ≡ None → ComesTo i limit r to from new
     comes_more going =
         let h = come_more (machine (system_of i) limit) r to from c.at before_lines before_sent c.come item takes below (t.stops ∙ going) in
@@ -206,7 +206,7 @@ module _ (i : Inputs) (limit : ℕ) (old new : Running) (k : Key) (e : Event) (a
           };
         }
 
-    -- .. or stops it
+    -- the event stops the resource
     pub ran_stop : (reason : Reason) → new.stopped ≡ Some reason → new.clock ≡ k.tick → RanTo i limit from to (at_rest new) new.queues.outbox.lines.items new.queues.mail.items
     ran_stop reason stops clock =
         let h = come_stop (machine (system_of i) limit) r to from c.at before_lines before_sent c.come item takes below reason (t.stops ∙ stops) in

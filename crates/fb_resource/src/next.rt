@@ -27,8 +27,8 @@ pub fn put_next(agenda: &mut Agenda, raised: bool, least: &mut Least) -> Result<
     }
 }
 
-/// Whether an event of this key, whose tick is below the horizon, would be taken before all that wait. It is known
-/// where no event waits at its tick and resource, nor before.
+/// Whether an event of this key, whose tick is below the horizon, would be taken before all that wait. True only if no
+/// event waits at its tick and resource, nor before.
 #[inline(always)]
 fn is_next(agenda: &mut Agenda, horizon: u64, key: &Key) -> bool
     ensures below { OnTrue result (key.now.tick < horizon) }

@@ -1,4 +1,4 @@
--- Runs of compiled statements and turns, put together from their parts. The layout stays, so all is said of one list of variables.
+-- Runs of compiled statements and iterations, put together from their parts. The layout stays, so all is said of one list of variables.
 use Rattle.std.proofs.Common.{◌≡◌, ℕ, ℤ, suc, ◌+◌, ◌<◌, ◌&&◌, rules, Bool, true, false, List, [], ◌∷◌, drop, length, get_or, map, Option, Some, None, Result, Ok, Err, refl, sym, ◌∙◌, ap, subst, arith}
 use Rattle.std.specs.Prelude.{slice_get, slice_set}
 use Rattle.std.proofs.lemmas.Bool.{false≢true}

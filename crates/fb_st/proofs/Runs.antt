@@ -1,4 +1,4 @@
--- Runs of statements and turns, put together from their parts.
+-- Runs of statements and iterations, put together from their parts.
 use Rattle.std.proofs.Common.{◌≡◌, ℕ, ℤ, zero, suc, ◌+◌, ◌<◌, ◌≤◌, arith, Bool, true, false, cond, not, ◌&&◌, ◌||◌, List, [], ◌∷◌, Option, drop, length, get_or, Result, Ok, Err, refl, sym, ◌∙◌, ap, subst, add-one, rules}
 use Rattle.std.specs.Prelude.{int_le}
 use Rattle.std.specs.List.{list_any}
@@ -120,14 +120,14 @@ module _ (test : Values → Result Bool Reason) (turn : Running) where
   pub loop_stopped : (p m : Point) (r : Reason) → test p.vars ≡ Ok true → turn p (Stopped r) m → Loop test turn p (Stopped r) m
   loop_stopped p m r h run = (suc zero, (h, (Stopped r, m, run, (refl, refl))))
 
--- the test of REPEAT, and its turns
+-- the test of REPEAT, and its iterations
 abbrev pub until : Expr → Values → Result Bool Reason
 until c vars = and_then (truth_of c vars) (λ b. Ok (not b))
 
 abbrev pub repeats : Expr → Running → Running
 repeats c turn = TurnThen turn (Loop (until c) turn)
 
--- a turn that goes on, and then what the rest runs to
+-- an iteration that goes on, and then what the rest runs to
 turns_again : (test : Values → Result Bool Reason) (turn : Running) (m : Point) → test m.vars ≡ Ok true → Leads (TurnThen turn (Loop test turn)) m (Loop test turn) m
 turns_again test turn m h e q (Went, n, run, rest) = (suc rest.0, (h, (Went, n, run, rest.1)))
 turns_again test turn m h e q (Left, n, run, rest) = (suc zero, (h, (Left, n, run, rest)))

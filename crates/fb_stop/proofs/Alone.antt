@@ -150,7 +150,7 @@ only i j first number from from' end end' sooner later least reached begun below
     go (inr (inl h)) = let above = later h in absurd (omega arith)
     go (inr (inr same)) = same
 
--- .. and a place that is passed has none
+-- A place that the search has passed does not have the number.
 pub passed : (first number from from' end : ℕ) → min end (2 ^ 64 - 1) ≤ from → min first (2 ^ 64 - 1) ≤ from' → IsReached number → from ≤ max first number → from' ≤ number → number < end → ⊥
 passed first number from from' end sooner least reached begun begun' below = omega arith
 

@@ -135,7 +135,7 @@ module _ (i : Inputs) (k : Key) (s : State) (e : AnEvent) (t : Target) (block : 
             let both : Some r ≡ None = sym stops ∙ taking.stops ∙ ends.0 in
             cc
 
-        -- .. and it stops where the copy does
+        -- the block stops where the copy does
         pub stops_there : (limit : ℕ) (r reason : Reason) (site : Site) (copy : Option BasicState) → effect.stop ≡ Some r → copy ≡ Some x
             → (begun limit k.tick (s.meters k.resource)).left ≡ suc left → HasLocated block t.event line.values left copy (Some (record { reason = reason; site = site }))
             → StopsInBlock sys limit s k e q r site

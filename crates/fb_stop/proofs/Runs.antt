@@ -1,4 +1,4 @@
--- Runs of statements and turns, put together from their parts, as the proofs of fb_st do it.
+-- Runs of statements and iterations, put together from their parts, as the proofs of fb_st do it.
 use Rattle.std.proofs.Common.{◌≡◌, ℕ, ℤ, zero, suc, ◌+◌, ◌<◌, Bool, true, false, not, List, Option, Some, drop, length, get_or, Result, Ok, Err, refl, sym, ◌∙◌, ap, subst}
 use Rattle.fb_types.specs.Names.{Name, with_value}
 use Rattle.fb_types.specs.Syntax.{Expr, Stmt, Case, For, Stmts, Branches, expr_of, stmt_of}
@@ -109,7 +109,7 @@ module _ (test : Values → Result Bool Fault) (turn : Running) where
 abbrev pub repeats : ℕ → Expr → Running → Running
 repeats n c turn = TurnThen turn (Loop (until n c) turn)
 
--- a turn that goes on, and then what the rest runs to
+-- an iteration that goes on, and then what the rest runs to
 turns_again : (test : Values → Result Bool Fault) (turn : Running) (m : Point) → test m.vars ≡ Ok true → Leads (TurnThen turn (Loop test turn)) m (Loop test turn) m
 turns_again test turn m h e q (Went, n, run, rest) = (suc rest.0, (h, (Went, n, run, rest.1)))
 turns_again test turn m h e q (Left, n, run, rest) = (suc zero, (h, (Left, n, run, rest)))
@@ -202,14 +202,14 @@ runs_as a b o n s p m e f declared same run =
     subst (λ (ds : List Declared). Runs (types_in ds) o n s p f m) declared
     (subst (λ (g : End). Runs (types_in a) o n s p g m) same run)
 
--- the turns of a loop of this number
+-- the iterations of a loop of this number
 abbrev pub turn_in : Types → ℕ → Stmts → Running
 turn_in T n body = Step n (RunsAll T (Some n) (next n) body)
 
 abbrev pub counted_turn : Types → ℕ → Name → (end step : ℤ) → Stmts → Running
 counted_turn T k n end step body = Step k (Then (RunsAll T (Some k) (next k) body) (Advances T k n end step))
 
--- a turn whose step is begun
+-- an iteration whose step is begun
 pub turned : (T : Types) (n k : ℕ) (body : Stmts) (vars : Values) (left less : ℕ) (e : End) (q : Point) → left ≡ suc less → k ≡ next n
     → RunsAll T (Some n) k body (record { vars = vars; left = less }) e q → turn_in T n body (record { vars = vars; left = left }) e q
 turned T n k body vars left less e q fewer counted run =

@@ -83,7 +83,7 @@ action_otherwise t a vars (suc left) r f p q same h =
 pub without_algorithm : (t : BasicType) (a : Action) (vars : Values) (left : ℕ) (r : Reason) → a.algorithm ≡ None → IsActionOtherwise t a vars left r
 without_algorithm t a vars left r none = action_otherwise t a vars left r (λ x rest m named is run. cc)
 
--- .. and one with a body
+-- an action whose algorithm has a body that does not stop for the reason
 pub with_body : (t : BasicType) (a : Action) (n : Name) (g : Algorithm) (types : Types) (vars : Values) (left : ℕ) (r : Reason) → a.algorithm ≡ Some n
     → Some g ≡ find (λ x. same_name x.name n) t.algorithms → types ≡ types_of t → AreOtherwise types g.body vars left r → IsActionOtherwise t a vars left r
 with_body t a n g types vars left r named found is h =
@@ -106,7 +106,7 @@ nothing_stops : (types : Types) (p m : Point) (r : Reason) → RunsBody types no
 nothing_stops types p m r (f, (e, is), stopped) =
     let same : Stopped r ≡ Went = stopped ∙ ap ended e in cc
 
--- .. and one whose algorithm is not there
+-- an action whose algorithm is not there
 pub no_body : (t : BasicType) (a : Action) (n : Name) (vars : Values) (left : ℕ) (r : Reason) → a.algorithm ≡ Some n → find (λ x. same_name x.name n) t.algorithms ≡ None → IsActionOtherwise t a vars left r
 no_body t a n vars left r named none =
     action_otherwise t a vars left r
@@ -196,7 +196,7 @@ pub goes_otherwise : (types : Types) (body : Body) (vars : Values) (left : ℕ) 
 goes_otherwise types body vars left r o f m is runs =
     body_otherwise types body vars left r (Ok f) m (subst (λ (x : Result Flow Fault). RunsAll types (body_of body) (record { vars = vars; left = left - 1 }) (plain (end_of x)) m) is runs) (flow_goes f r)
 
--- .. and one that another reason stops
+-- a body that another reason stops
 pub stops_otherwise : (types : Types) (body : Body) (vars : Values) (left : ℕ) (r : Reason) (o : Result Flow Fault) (f : Fault) (m : Point) → o ≡ Err f
     → RunsAll types (body_of body) (record { vars = vars; left = left - 1 }) (plain (end_of o)) m → (f.reason ≡ r → ⊥) → AreOtherwise types body vars left r
 stops_otherwise types body vars left r o f m is runs not =
@@ -214,7 +214,7 @@ no_action t i j s a sound there none known =
     let both : None ≡ Some a = sym none ∙ ap (λ (l : List Action). slice_get l j) (sym (actions_there t i s sound there)) ∙ known in
     cc
 
--- .. and a transition
+-- a transition that is not there
 pub none_after : (t : BasicType) (i j : ℕ) (s : State) (x : Transition) → slice_get t.states i ≡ Some s → length (filter (λ y. same_name y.from s.name) t.transitions) ≤ j → slice_get (leaving t (state_at t i)) j ≡ Some x → ⊥
 none_after t i j s x there less at = past_all (leaving t s.name) j x less (ap (λ (n : Name). slice_get (leaving t n) j) (sym (name_there t i s there)) ∙ at)
 

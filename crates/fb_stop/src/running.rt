@@ -164,7 +164,7 @@ fn run_branch(
     run_each(others, around, inside, frame, meter)
 }
 
-/// A turn of the WHILE or REPEAT of this number, which costs a step before its body.
+/// An iteration of the WHILE or REPEAT of this number, which costs a step before its body.
 #[cycle(run)]
 fn turn(body: &[Stmt], number: usize, frame: &mut Frame, meter: &mut Meter) -> Result<Flow, Fault>
     requires known { AllKnown (declared_in frame.old) (all_of body.now) }
@@ -177,7 +177,7 @@ fn turn(body: &[Stmt], number: usize, frame: &mut Frame, meter: &mut Meter) -> R
     run_each(body, Some(number), next(number), frame, meter)
 }
 
-/// Turns while the condition is true.
+/// Iterations while the condition is true.
 #[cycle(run)]
 fn run_while(
     body: &[Stmt],
@@ -259,7 +259,8 @@ fn run_for(
     run_counts(body, variable, count, number, frame, meter)
 }
 
-/// A turn of FOR, which ends by the next value of the variable. Where it went on, that value has not passed the end.
+/// An iteration of FOR, which ends by the next value of the variable. Where it went on, that value has not passed the
+/// end.
 #[cycle(run)]
 fn turn_of_for(
     body: &[Stmt],
@@ -285,7 +286,7 @@ fn turn_of_for(
     }
 }
 
-/// The turns of FOR, once the variable has its first value.
+/// The iterations of FOR, once the variable has its first value.
 #[cycle(run)]
 fn run_counts(
     body: &[Stmt],

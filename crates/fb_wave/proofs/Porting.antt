@@ -14,7 +14,7 @@ use Rattle.fb_wave.proofs.Gluing.{port_at}
 abbrev pub HasUpTo : List Port → (instance : ℕ) → (taken : Bool) → (count : ℕ) → Type 0
 HasUpTo ports i taken n = (p : Port) → p.instance ≡ i → p.taken ≡ taken → p.event < n → Contains ports p
 
--- .. as far as lines have room for the numbers of their events
+-- The same, of the ports whose events have numbers for which lines have room.
 abbrev pub HasThose : List Port → (instance : ℕ) → (taken : Bool) → (count : ℕ) → Type 0
 HasThose ports i taken n = (p : Port) → p.instance ≡ i → p.taken ≡ taken → p.event < n → p.event < 2 ^ 32 → Contains ports p
 

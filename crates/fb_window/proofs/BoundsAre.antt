@@ -23,9 +23,9 @@ use Rattle.fb_laws.specs.Finality.{core_of}
 use Rattle.fb_window.specs.Reached.{KeepHorizon}
 use Rattle.fb_window.specs.Standing.{IsAt}
 use Rattle.fb_window.specs.Jobs.{MayLeave}
-use Rattle.fb_laws.specs.Phases.{Turn, IsPhase}
+use Rattle.fb_laws.specs.Phases.{Loan, IsPhase}
 use Rattle.fb_window.specs.Leaving.{AreLegal}
-use Rattle.fb_window.specs.Settling.{AreTurns}
+use Rattle.fb_window.specs.Settling.{AreLoans}
 use Rattle.fb_laws.proofs.AtHome.{clock_legal, clock_in_range}
 use Rattle.fb_types.proofs.ByIndex.{element_at}
 use Rattle.fb_window.proofs.Bounding.{IsCoreOf, AreComputed, greatest}
@@ -113,9 +113,9 @@ module _ (i : Inputs) (good : AreGood i) (limit horizon : ℕ) (es : List (CoreS
 
     -- ---- The phase
 
-    -- The turns in any order, and the exchange after them, are steps of the core.
-    pub is_round_of : (bounds : List ℕ) (workers : ℕ → ℕ) (turns : ℕ → Option (Turn (machine (system_of i) limit))) → AreTurns i limit horizon (core_of i limit es) bounds workers turns
-        → (fs : List (CoreStep (machine (system_of i) limit))) → IsPhase (machine (system_of i) limit) turns fs
-        → IsRound (machine (system_of i) limit) horizon (opening_core (system_of i) (stimuli_of i) limit) es fs turns
-    is_round_of bounds workers turns t fs phase =
-        is_round M (lawful (system_of i) sound limit) horizon w (opening_core (system_of i) (stimuli_of i) limit) es fs (runs_after M es) turns sc kept_by at_home t.may phase
+    -- The loans in any order, and the exchange after them, are steps of the core.
+    pub is_round_of : (bounds : List ℕ) (workers : ℕ → ℕ) (loans : ℕ → Option (Loan (machine (system_of i) limit))) → AreLoans i limit horizon (core_of i limit es) bounds workers loans
+        → (fs : List (CoreStep (machine (system_of i) limit))) → IsPhase (machine (system_of i) limit) loans fs
+        → IsRound (machine (system_of i) limit) horizon (opening_core (system_of i) (stimuli_of i) limit) es fs loans
+    is_round_of bounds workers loans t fs phase =
+        is_round M (lawful (system_of i) sound limit) horizon w (opening_core (system_of i) (stimuli_of i) limit) es fs (runs_after M es) loans sc kept_by at_home t.may phase

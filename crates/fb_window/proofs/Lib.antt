@@ -5,7 +5,7 @@ pub mod Walks
 pub mod HomeIs
 pub mod Leaves
 pub mod Opens
-pub mod Turns
+pub mod Loans
 pub mod Delivers
 pub mod Receives
 pub mod Posted

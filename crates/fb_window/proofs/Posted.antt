@@ -21,7 +21,7 @@ use Rattle.fb_laws.specs.Worlds.{World}
 use Rattle.fb_resource.specs.Resources.{IsFor}
 use Rattle.fb_resource.specs.declared.resource.Resource.{Resource}
 use Rattle.fb_window.specs.Mails.{ArePosted}
-use Rattle.fb_laws.specs.Phases.{turned}
+use Rattle.fb_laws.specs.Phases.{after_loan}
 use Rattle.fb_window.specs.Standing.{IsAt, IsQuiet, Sits}
 use Rattle.fb_window.specs.declared.home.Home.{Home}
 use Rattle.fb_laws.proofs.AtHome.{outbox_sends}
@@ -29,22 +29,22 @@ use Rattle.fb_laws.proofs.Boxes.{found_in, found_some, found_with_sender}
 use Rattle.fb_types.proofs.ByIndex.{all_at}
 use Rattle.fb_window.proofs.Delivers.{IsBackAs, all_by_index, all_filter, all_flat, fits, found_keyed, map_at, map_flat, sits_received, sits_still, still_quiet}
 use Rattle.fb_laws.proofs.Keeps.{Inv}
-use Rattle.fb_laws.proofs.Phasing.{all_turned}
+use Rattle.fb_laws.proofs.Phasing.{after_loans}
 use Rattle.fb_laws.proofs.Indexes.{is_at, one_at}
-use Rattle.fb_window.proofs.Turns.{AreBack}
+use Rattle.fb_window.proofs.Loans.{AreBack}
 
 -- ---- The exchange
 
 module _ (i : Inputs) (limit horizon : ℕ) (c : Core (machine (system_of i) limit)) (bounds : List ℕ) (workers : ℕ → ℕ) (xs : List Resource) (lists : List (Vec Line)) (h : Home)
     (at : IsAt i limit c xs) (b : AreBack i limit horizon c bounds workers xs lists h) (counted : length h.resources.items ≡ count_of (system_of i)) (boxed : length h.outboxes.items ≡ count_of (system_of i))
     (law : IsLawful (machine (system_of i) limit)) (w : World (machine (system_of i) limit)) (runs : ℕ → List (Item (machine (system_of i) limit)))
-    (v : Inv (machine (system_of i) limit) horizon w (all_turned (machine (system_of i) limit) c b.turns) runs)
+    (v : Inv (machine (system_of i) limit) horizon w (after_loans (machine (system_of i) limit) c b.loans) runs)
     (links : (k : Key) (sent : ℕ) → (machine (system_of i) limit).Arrives k sent → k.resource < count_of (system_of i)) where
   abbrev M : Machine
   M = machine (system_of i) limit
 
   abbrev d : Core (machine (system_of i) limit)
-  d = all_turned (machine (system_of i) limit) c b.turns
+  d = after_loans (machine (system_of i) limit) c b.loans
 
   abbrev box_of : Vec Message → List (Key × model.Event)
   box_of a = map (arriving i) a.items
@@ -53,7 +53,7 @@ module _ (i : Inputs) (limit horizon : ℕ) (c : Core (machine (system_of i) lim
   all = all_of h.outboxes.items
 
   quiet : (r : ℕ) → count_of (system_of i) ≤ r → d r ≡ c r
-  quiet r l = ap (λ o. turned M (c r) o) (b.others r l)
+  quiet r l = ap (λ o. after_loan M (c r) o) (b.others r l)
 
   home : (r : ℕ) → (d r).out ≡ None
   home r = ⊎_elim (λ l. (b.each r l).back.home) (λ l. ap (λ (s : Member M). s.out) (quiet r l) ∙ (at.others r l).home) (cases_lt r (count_of (system_of i)))

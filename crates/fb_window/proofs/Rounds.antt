@@ -37,9 +37,9 @@ use Rattle.fb_window.specs.Homes.{AreHome}
 use Rattle.fb_window.specs.Jobs.{Does, jobs_of, resting_of}
 use Rattle.fb_laws.specs.ScheduleLaw.{lines_to}
 use Rattle.fb_window.specs.Mails.{ArePosted}
-use Rattle.fb_laws.specs.Phases.{Turn, IsPhase, turned}
+use Rattle.fb_laws.specs.Phases.{Loan, IsPhase, after_loan}
 use Rattle.fb_window.specs.Leaving.{AreLegal, HasLeft}
-use Rattle.fb_window.specs.Settling.{AreTurns, HasRisen, IsKept, IsSettled, Settles, after_phase, lists_of, reach_of, settled_of}
+use Rattle.fb_window.specs.Settling.{AreLoans, HasRisen, IsKept, IsSettled, Settles, after_phase, lists_of, reach_of, settled_of}
 use Rattle.fb_window.specs.Reached.{IsBrought, IsReached}
 use Rattle.fb_window.specs.Standing.{IsAt}
 use Rattle.fb_window.specs.declared.cores.AwayState.{AwayState}
@@ -54,14 +54,14 @@ use Rattle.fb_window.proofs.Gather.{out_handed, out_merges}
 use Rattle.fb_laws.proofs.Handed.{until_at_stop}
 use Rattle.fb_laws.proofs.Handing.{AreLinesOf, core_lines, is_later}
 use Rattle.fb_laws.proofs.Keeps.{Inv}
-use Rattle.fb_laws.proofs.Phasing.{IsRound, all_turned, after_append, is_phase, is_round, phase_of}
+use Rattle.fb_laws.proofs.Phasing.{IsRound, after_loans, after_append, is_phase, is_round, phase_of}
 use Rattle.fb_laws.proofs.Indexes.{has_at, is_at as is_at_index, one_at}
 use Rattle.fb_window.proofs.Posted.{is_posted}
 use Rattle.fb_laws.proofs.Reached.{inv_after, runs_after}
 use Rattle.fb_laws.proofs.FloorsRise.{rises}
 use Rattle.fb_window.proofs.Standings.{at_horizon, all_past, first_stop, from_horizon, is_edge, is_least, least_stop, mark_at, stop_clock}
 use Rattle.fb_laws.proofs.Start as start
-use Rattle.fb_window.proofs.Turns.{AreBack, are_back, back_turns}
+use Rattle.fb_window.proofs.Loans.{AreBack, are_back, back_loans}
 use Rattle.fb_laws.proofs.Lines.{merge_same}
 
 -- What is found when all have come home.
@@ -118,14 +118,14 @@ module _ (i : Inputs) (good : AreGood i) (limit horizon : ℕ) (es : List (CoreS
   pub back : AreBack i limit horizon (core_of i limit es) bounds workers xs before h
   back = are_back i limit horizon c bounds workers xs before h at legal home
 
-  abbrev turns : ℕ → Option (Turn (machine (system_of i) limit))
-  turns = back.turns
+  abbrev loans : ℕ → Option (Loan (machine (system_of i) limit))
+  loans = back.loans
 
-  turns_are : AreTurns i limit horizon (core_of i limit es) bounds workers turns
-  turns_are = back_turns i limit horizon c bounds workers xs before h at back
+  loans_are : AreLoans i limit horizon (core_of i limit es) bounds workers loans
+  loans_are = back_loans i limit horizon c bounds workers xs before h at back
 
   abbrev d : Core (machine (system_of i) limit)
-  d = exchanged (machine (system_of i) limit) (all_turned (machine (system_of i) limit) (core_of i limit es) turns)
+  d = exchanged (machine (system_of i) limit) (after_loans (machine (system_of i) limit) (core_of i limit es) loans)
 
   at_home : (r : ℕ) → (c r).out ≡ None
   at_home r =
@@ -165,11 +165,11 @@ module _ (i : Inputs) (good : AreGood i) (limit horizon : ℕ) (es : List (CoreS
 
   -- ---- One order of the steps
 
-  module _ (fs : List (CoreStep (machine (system_of i) limit))) (phase : IsPhase (machine (system_of i) limit) turns fs) where
-    round : IsRound (machine (system_of i) limit) horizon (start.opening (machine (system_of i) limit) w) es fs turns
-    round = is_round M law horizon w (start.opening M w) es fs (runs_after M es) turns sc v at_home turns_are.may phase
+  module _ (fs : List (CoreStep (machine (system_of i) limit))) (phase : IsPhase (machine (system_of i) limit) loans fs) where
+    round : IsRound (machine (system_of i) limit) horizon (start.opening (machine (system_of i) limit) w) es fs loans
+    round = is_round M law horizon w (start.opening M w) es fs (runs_after M es) loans sc v at_home loans_are.may phase
 
-    back_inv : Inv (machine (system_of i) limit) horizon w (all_turned (machine (system_of i) limit) (core_of i limit es) turns) (runs_after (machine (system_of i) limit) (es ++ fs))
+    back_inv : Inv (machine (system_of i) limit) horizon w (after_loans (machine (system_of i) limit) (core_of i limit es) loans) (runs_after (machine (system_of i) limit) (es ++ fs))
     back_inv = subst (λ (z : Core M). Inv M horizon w z (runs_after M (es ++ fs))) round.back_is (inv_after M law w horizon (es ++ fs) opens round.back)
 
     end_inv : Inv (machine (system_of i) limit) horizon w d (runs_after (machine (system_of i) limit) (es ++ fs ++ Exchange ∷ []))
@@ -214,11 +214,11 @@ module _ (i : Inputs) (good : AreGood i) (limit horizon : ℕ) (es : List (CoreS
     risen : ((s : ℕ) (reason : Reason) → IsLeastStop (machine (system_of i) limit) (count_of (system_of i)) d s reason → ⊥) → HasRisen i limit c d bounds
     risen goes m floor over =
         subst (λ (z : Core M). IsFloor M z (m + 1)) round.comes_to
-        (rises M law horizon (count_of sys) w es fs turns opens counts.links v round turns_are.may m floor
+        (rises M law horizon (count_of sys) w es fs loans opens counts.links v round loans_are.may m floor
         (record {
-          over = λ r b e. let t = turns_are.live r b e in (record { worker = workers r; bound = slice_index_or bounds r 0; run = t.0 }, t.1, over r b e);
-          stopped = turns_are.stopped;
-          others = turns_are.others;
+          over = λ r b e. let t = loans_are.live r b e in (record { worker = workers r; bound = slice_index_or bounds r 0; run = t.0 }, t.1, over r b e);
+          stopped = loans_are.stopped;
+          others = loans_are.others;
           live = λ r b. (at.others r b).live;
           quiet = λ r b k e. (at.others r b).waits k e;
         })
@@ -280,26 +280,26 @@ module _ (i : Inputs) (good : AreGood i) (limit horizon : ℕ) (es : List (CoreS
         clock : (d m.resource).clock ≡ m.tick
         clock = stop_clock i limit d zs is_at m ends.0
 
-  -- Some schedule has led to the resources as they are then: that of the turns one after another.
+  -- Some schedule has led to the resources as they are then: that of the loans one after another.
   pub brought : ((r : ℕ) → count_of (system_of i) ≤ r → (core_of i limit es r).clock ≡ 0) → IsBrought i limit zs
   brought idle =
-      let fs = phase_of M turns (count_of sys) in
-      let phase = is_phase M turns (count_of sys) turns_are.others in
+      let fs = phase_of M loans (count_of sys) in
+      let phase = is_phase M loans (count_of sys) loans_are.others in
       let r = round fs phase in
       record {
         range = horizon;
         steps = after_phase i limit es fs;
         schedule = r.schedule;
         at = subst (λ (z : Core M). IsAt i limit z zs) (sym r.comes_to) (is_at fs phase);
-        idle = λ q b. ap (λ (z : Core M). (z q).clock) r.comes_to ∙ ap (λ (o : Option (Turn M)). (turned M (c q) o).clock) (turns_are.others q b) ∙ idle q b;
+        idle = λ q b. ap (λ (z : Core M). (z q).clock) r.comes_to ∙ ap (λ (o : Option (Loan M)). (after_loan M (c q) o).clock) (loans_are.others q b) ∙ idle q b;
       }
 
   -- What is settled in every order of the steps.
-  pub settles : (s : Settled) → ((fs : List (CoreStep (machine (system_of i) limit))) → IsPhase (machine (system_of i) limit) turns fs → IsSettled i limit horizon c d bounds (lists_of before) s)
+  pub settles : (s : Settled) → ((fs : List (CoreStep (machine (system_of i) limit))) → IsPhase (machine (system_of i) limit) loans fs → IsSettled i limit horizon c d bounds (lists_of before) s)
       → Settles i limit horizon es bounds (lists_of before) workers s
   settles s settled = record {
-    turns = turns;
-    are_turns = turns_are;
+    loans = loans;
+    are_loans = loans_are;
     schedule = λ fs phase. (round fs phase).schedule;
     settled = λ fs phase. subst (λ (z : Core M). IsSettled i limit horizon c z bounds (lists_of before) s) (sym (round fs phase).comes_to) (settled fs phase);
   }
@@ -360,7 +360,7 @@ module _ (a : AwayState) (dones : List WindowDone) (done : AllZip Does a.jobs.va
       settles a.system x.good a.steps a.horizon es sc xs bounds workers a.pending.items h at legal came zs fronts rests end x.found (Stopped lines m)
       (λ fs phase. stopped a.system x.good a.steps a.horizon es sc xs bounds workers a.pending.items h at legal came zs fronts rests end x.found fs phase lines.items merged m e belong)
 
-  -- .. whatever was found
+  -- All go on, or come to the horizon, or one has stopped.
   pub settle_each : (core : held.CoreState) (lines : Vec Line) → (AreRising fronts → AreMerged fronts lines.items) → All (BelongsTo (system_of a.system)) lines.items
       → core.system ≡ a.system → core.steps ≡ a.steps → core.resources.items ≡ zs → core.pending.items ≡ rests
       → Settles a.system a.steps a.horizon es bounds (lists_of a.pending.items) workers (settled_of (reach_of core end) lines)

@@ -39,7 +39,7 @@ use Rattle.fb_resource.specs.declared.resource.Resource.{Resource}
 use Rattle.fb_resource.specs.declared.resource.WindowDone.TheVariants.{Ran}
 use Rattle.fb_laws.specs.Finality.{HasKept, core_of, lines_in}
 use Rattle.fb_window.specs.Mails.{AreGiven}
-use Rattle.fb_laws.specs.Phases.{Turn, IsPhase, MayTurn, steps_of, turn_steps, turned}
+use Rattle.fb_laws.specs.Phases.{Loan, IsPhase, IsLegalLoan, steps_of, loan_steps, after_loan}
 use Rattle.fb_window.specs.Settling.{lists_of}
 use Rattle.fb_window.specs.Standing.{IsAt, IsQuiet, Sits}
 use Rattle.fb_window.specs.Walking.{IsSingle, Leads, Single, single_steps}
@@ -53,7 +53,7 @@ use Rattle.fb_window.proofs.Gather.{left_same, list_at, map_length}
 use Rattle.fb_laws.proofs.Handing.{floor_stays, is_later}
 use Rattle.fb_types.proofs.Options.{some_from_is_some}
 use Rattle.fb_laws.proofs.Keeps.{Inv}
-use Rattle.fb_laws.proofs.Phasing.{IsRound, all_turned, after_append, is_round, other_steps, own_steps}
+use Rattle.fb_laws.proofs.Phasing.{IsRound, after_loans, after_append, is_round, other_steps, own_steps}
 use Rattle.fb_laws.proofs.Indexes.{has_at, is_at as is_at_index, one_at}
 use Rattle.fb_laws.proofs.Reached.{inv_after, runs_after}
 use Rattle.fb_window.proofs.Receives.{set_other, set_same}
@@ -147,13 +147,13 @@ module _ (i : Inputs) (good : AreGood i) (limit horizon : ℕ) (es : List (CoreS
   run : Run (machine (system_of i) limit) r (core_of i limit es r).state (m + 1) it.items
   run = subst (λ (n : ℕ). Run M n (c r).state (m + 1) it.items) number it.run
 
-  abbrev turn : Turn (machine (system_of i) limit)
-  turn = record { worker = 0; bound = m + 1; run = it.items }
+  abbrev loan : Loan (machine (system_of i) limit)
+  loan = record { worker = 0; bound = m + 1; run = it.items }
 
   abbrev pub single : Single (machine (system_of i) limit)
   single = record { resource = r; bound = m + 1; run = it.items }
 
-  may : MayTurn (machine (system_of i) limit) horizon (core_of i limit es) r turn
+  may : IsLegalLoan (machine (system_of i) limit) horizon (core_of i limit es) r loan
   may = record {
     lend = record {
       home = at_home r;
@@ -180,52 +180,52 @@ module _ (i : Inputs) (good : AreGood i) (limit horizon : ℕ) (es : List (CoreS
 
   -- ---- The turn, and the exchange after it
 
-  abbrev turns : ℕ → Option (Turn (machine (system_of i) limit))
-  turns q = cond (q == r) (Some turn) None
+  abbrev loans : ℕ → Option (Loan (machine (system_of i) limit))
+  loans q = cond (q == r) (Some loan) None
 
-  turns_at : (q : ℕ) → q ≡ r → turns q ≡ Some turn
-  turns_at q e = cond-true (q == r) (Some turn) None (eq-eqb q r e)
+  loans_at : (q : ℕ) → q ≡ r → loans q ≡ Some loan
+  loans_at q e = cond-true (q == r) (Some loan) None (eq-eqb q r e)
 
-  turns_here : turns r ≡ Some turn
-  turns_here = turns_at r refl
+  loans_here : loans r ≡ Some loan
+  loans_here = loans_at r refl
 
-  turns_other : (q : ℕ) → q ≢ r → turns q ≡ None
-  turns_other q n = cond-false (q == r) (Some turn) None (ne_eqb q r n)
+  loans_other : (q : ℕ) → q ≢ r → loans q ≡ None
+  loans_other q n = cond-false (q == r) (Some loan) None (ne_eqb q r n)
 
   abbrev fs : List (CoreStep (machine (system_of i) limit))
-  fs = turn_steps (machine (system_of i) limit) r (Some turn)
+  fs = loan_steps (machine (system_of i) limit) r (Some loan)
 
-  phase : IsPhase (machine (system_of i) limit) turns fs
+  phase : IsPhase (machine (system_of i) limit) loans fs
   phase q =
       ⊎_elim
-      (λ e. subst (λ (z : ℕ). steps_of M z fs ≡ turn_steps M z (turns z)) (sym e) (own_steps M r (Some turn) ∙ ap (λ o. turn_steps M r o) (sym turns_here)))
-      (λ n. other_steps M r q (Some turn) (λ f. n (sym f)) ∙ ap (λ o. turn_steps M q o) (sym (turns_other q n)))
+      (λ e. subst (λ (z : ℕ). steps_of M z fs ≡ loan_steps M z (loans z)) (sym e) (own_steps M r (Some loan) ∙ ap (λ o. loan_steps M r o) (sym loans_here)))
+      (λ n. other_steps M r q (Some loan) (λ f. n (sym f)) ∙ ap (λ o. loan_steps M q o) (sym (loans_other q n)))
       (cases_eq q r)
 
-  mays : (q : ℕ) (t : Turn (machine (system_of i) limit)) → turns q ≡ Some t → MayTurn (machine (system_of i) limit) horizon (core_of i limit es) q t
+  mays : (q : ℕ) (t : Loan (machine (system_of i) limit)) → loans q ≡ Some t → IsLegalLoan (machine (system_of i) limit) horizon (core_of i limit es) q t
   mays q t e =
       ⊎_elim
       (λ s.
-      let f : Some turn ≡ Some t = sym turns_here ∙ subst (λ (z : ℕ). turns z ≡ Some t) s e in
-      let g : turn ≡ t = cc in
-      subst (λ (z : ℕ). MayTurn M horizon c z t) (sym s) (subst (λ (u : Turn M). MayTurn M horizon c r u) g may))
-      (λ n. absurd (none_some _ _ (turns_other q n) e))
+      let f : Some loan ≡ Some t = sym loans_here ∙ subst (λ (z : ℕ). loans z ≡ Some t) s e in
+      let g : loan ≡ t = cc in
+      subst (λ (z : ℕ). IsLegalLoan M horizon c z t) (sym s) (subst (λ (u : Loan M). IsLegalLoan M horizon c r u) g may))
+      (λ n. absurd (none_some _ _ (loans_other q n) e))
       (cases_eq q r)
 
-  round : IsRound (machine (system_of i) limit) horizon (start.opening (machine (system_of i) limit) w) es fs turns
-  round = is_round M law horizon w (start.opening M w) es fs (runs_after M es) turns sc v at_home mays phase
+  round : IsRound (machine (system_of i) limit) horizon (start.opening (machine (system_of i) limit) w) es fs loans
+  round = is_round M law horizon w (start.opening M w) es fs (runs_after M es) loans sc v at_home mays phase
 
   abbrev back : Core (machine (system_of i) limit)
-  back = all_turned (machine (system_of i) limit) (core_of i limit es) turns
+  back = after_loans (machine (system_of i) limit) (core_of i limit es) loans
 
   back_inv : Inv (machine (system_of i) limit) horizon w back (runs_after (machine (system_of i) limit) (es ++ fs))
   back_inv = subst (λ (z : Core M). Inv M horizon w z (runs_after M (es ++ fs))) round.back_is (inv_after M law w horizon (es ++ fs) opens round.back)
 
-  back_at : (q : ℕ) → q ≡ r → back q ≡ turned (machine (system_of i) limit) (core_of i limit es q) (Some turn)
-  back_at q e = ap (λ o. turned M (c q) o) (turns_at q e)
+  back_at : (q : ℕ) → q ≡ r → back q ≡ after_loan (machine (system_of i) limit) (core_of i limit es q) (Some loan)
+  back_at q e = ap (λ o. after_loan M (c q) o) (loans_at q e)
 
   back_other : (q : ℕ) → q ≢ r → back q ≡ core_of i limit es q
-  back_other q n = ap (λ o. turned M (c q) o) (turns_other q n)
+  back_other q n = ap (λ o. after_loan M (c q) o) (loans_other q n)
 
   box_at : (q : ℕ) → q ≡ r → (back q).outbox ≡ map (arriving i) sent.items
   box_at q e = ap (λ (s : Member M). s.outbox) (back_at q e) ∙ ap (λ z. z ++ sent_by M it.items) (at_rest q) ∙ sym it.sent

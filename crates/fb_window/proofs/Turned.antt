@@ -13,7 +13,7 @@ same_then a b c first next = record {
   steps = next.steps ∙ first.steps;
 }
 
--- .. where the walk in between is read, and so its fact of the system is known anew
+-- The same, where the walk in between is read, so that its fact of the system is known anew.
 pub same_after : (a b m c : Walk) → IsSame m c → IsSame a b → m.system.now ≡ b.system.now → m.core.ghost_name ≡ b.core.ghost_name → m.nexts.ghost_name ≡ b.nexts.ghost_name
     → m.nexts.now.horizon ≡ b.nexts.now.horizon → m.core.now.system ≡ b.core.now.system → m.core.now.steps ≡ b.core.now.steps → IsSame a c
 same_after a b m c next first system core nexts horizon inputs steps =

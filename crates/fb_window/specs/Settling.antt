@@ -17,7 +17,7 @@ use Rattle.fb_system.specs.Lines.{BelongsTo}
 use Rattle.fb_trace.specs.Merging.{AreMerged, AreRising, Lists, flat}
 use Rattle.fb_resource.specs.declared.resource.Resource.{Resource}
 use Rattle.fb_laws.specs.ScheduleLaw.{lines_to}
-use Rattle.fb_laws.specs.Phases.{Turn, IsPhase, MayTurn}
+use Rattle.fb_laws.specs.Phases.{Loan, IsPhase, IsLegalLoan}
 use Rattle.fb_laws.specs.Finality.{HasHanded, HasKept, core_of}
 use Rattle.fb_window.specs.Standing.{IsAt}
 use Rattle.fb_window.specs.declared.cores.CoreState.{CoreState}
@@ -34,14 +34,14 @@ pub record IsUnderWay (i : Inputs) (limit horizon : ℕ) (es : List (CoreStep (m
   pub at : IsAt i limit (core_of i limit es) xs
   pub left : HasHanded i limit horizon (core_of i limit es) pending ls
 
--- ---- Turns
+-- ---- Loans
 
--- The turns of a phase: each resource that has not stopped has its own, with the worker that drew it and its bound, and may have it; and no other has.
-pub record AreTurns (i : Inputs) (limit horizon : ℕ) (c : model_cores.Core (machine (system_of i) limit)) (bounds : List ℕ) (workers : ℕ → ℕ) (turns : ℕ → Option (Turn (machine (system_of i) limit))) : Type 0 where
-  pub live : (r : ℕ) → r < count_of (system_of i) → (c r).state.stop ≡ None → (run : List (Item (machine (system_of i) limit))) × (turns r ≡ Some (record { worker = workers r; bound = slice_index_or bounds r 0; run = run }))
-  pub stopped : (r : ℕ) (reason : Reason) → (c r).state.stop ≡ Some reason → turns r ≡ None
-  pub others : (r : ℕ) → count_of (system_of i) ≤ r → turns r ≡ None
-  pub may : (r : ℕ) (t : Turn (machine (system_of i) limit)) → turns r ≡ Some t → MayTurn (machine (system_of i) limit) horizon c r t
+-- The loans of a phase: each resource that has not stopped has its own, with the worker that drew it and its bound, and that is legal; and no other has.
+pub record AreLoans (i : Inputs) (limit horizon : ℕ) (c : model_cores.Core (machine (system_of i) limit)) (bounds : List ℕ) (workers : ℕ → ℕ) (loans : ℕ → Option (Loan (machine (system_of i) limit))) : Type 0 where
+  pub live : (r : ℕ) → r < count_of (system_of i) → (c r).state.stop ≡ None → (run : List (Item (machine (system_of i) limit))) × (loans r ≡ Some (record { worker = workers r; bound = slice_index_or bounds r 0; run = run }))
+  pub stopped : (r : ℕ) (reason : Reason) → (c r).state.stop ≡ Some reason → loans r ≡ None
+  pub others : (r : ℕ) → count_of (system_of i) ≤ r → loans r ≡ None
+  pub may : (r : ℕ) (t : Loan (machine (system_of i) limit)) → loans r ≡ Some t → IsLegalLoan (machine (system_of i) limit) horizon c r t
 
 -- ---- What is settled
 
@@ -86,13 +86,13 @@ IsSettled i limit horizon c d bs before (Stopped out mark) =
 abbrev pub after_phase : (i : Inputs) (limit : ℕ) (es fs : List (CoreStep (machine (system_of i) limit))) → List (CoreStep (machine (system_of i) limit))
 after_phase i limit es fs = es ++ fs ++ Exchange ∷ []
 
--- Whichever worker drew which resource, each has had a turn that it may have; and in every order of their steps these are steps of the core, the exchange after them too, and the answer says how far the run is.
+-- Whichever worker drew which resource, each has had a legal loan; and in every order of their steps these are steps of the core, the exchange after them too, and the answer says how far the run is.
 pub record Settles (i : Inputs) (limit horizon : ℕ) (es : List (CoreStep (machine (system_of i) limit))) (bounds : List ℕ) (before : List (List Line)) (workers : ℕ → ℕ) (s : Settled) : Type 0 where
-  pub turns : ℕ → Option (Turn (machine (system_of i) limit))
-  pub are_turns : AreTurns i limit horizon (core_of i limit es) bounds workers turns
-  pub schedule : (fs : List (CoreStep (machine (system_of i) limit))) → IsPhase (machine (system_of i) limit) turns fs
+  pub loans : ℕ → Option (Loan (machine (system_of i) limit))
+  pub are_loans : AreLoans i limit horizon (core_of i limit es) bounds workers loans
+  pub schedule : (fs : List (CoreStep (machine (system_of i) limit))) → IsPhase (machine (system_of i) limit) loans fs
       → IsSchedule (machine (system_of i) limit) horizon (opening_core (system_of i) (stimuli_of i) limit) (after_phase i limit es fs)
-  pub settled : (fs : List (CoreStep (machine (system_of i) limit))) → IsPhase (machine (system_of i) limit) turns fs
+  pub settled : (fs : List (CoreStep (machine (system_of i) limit))) → IsPhase (machine (system_of i) limit) loans fs
       → IsSettled i limit horizon (core_of i limit es) (core_of i limit (after_phase i limit es fs)) bounds before s
 
 -- how far the run is, with all resources in a core

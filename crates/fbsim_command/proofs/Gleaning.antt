@@ -89,7 +89,7 @@ goes-through opens i x name from to trace may old marks last extent k n new open
   cuts = counted_is ∙ counts ∙ ap (cut_count extent) count;
 }
 
--- .. where memory for it is there
+-- a trace was gone through, unless memory ran out
 pub goes-on :
     {S : Type 0} (opens : Opening S) (i : Inputs) (x : Coverage) (name : Text) (from to : S) (trace : Held) (may : Cut) (old : Gleaned) (marks last : Marks) (extent : Extent) (k : ℕ) (r : Result Gleaned Failure)
     → opens from name (Ok trace) to → may ≡ cut_of x → marks ≡ old.marks → k ≡ old.cut → IfSome trace (λ text. Covers may i x.steps text marks last extent)
@@ -215,7 +215,7 @@ module _ {S : Type 0} (opens : Opening S) (given : Given) (x : Coverage) where
   refused from run.BadOption is = absurd is
   refused from run.Failed is = absurd is
 
-  -- .. or a trace is not gone through
+  -- nothing is reported where a trace is not gone through
   pub may-stop : (i : Inputs) (from to : S) (f : Failure) → Declares given i → AreStopped opens i x from to f → IsUnreported opens given x from to f
   may-stop i from to (Refused refusal) declared is = inr (i, declared, is)
   may-stop i from to (RefusedTrace text) declared is = (i, declared, is)

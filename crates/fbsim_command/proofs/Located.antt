@@ -40,7 +40,7 @@ hears_after old mid new first report heard one two =
     after_nil [] ys e = e
     after_nil (x ∷ xs) ys e = absurd (let f : x ∷ (xs ++ ys) ≡ [] = e in cc)
 
--- .. after which nothing is reported
+-- one report, after which nothing is reported
 pub hears_no_more : (old new : Held) (first : List ℕ) (heard : Bool) → Hears heard old new first → Hears heard old new (first ++ [])
 hears_no_more old new first heard h = subst (λ (t : List ℕ). Hears heard old new t) (sym (append-nil first)) h
 

@@ -185,7 +185,7 @@ const HORIZON_HELP: &str = "The tick, in milliseconds, at which the run ends, 1 
 const STEPS_HELP: &str =
     "The greatest number of steps of a resource in one tick, 1 to 10000000; at the next step it stops.";
 
-const WORKERS_HELP: &str = "The number of threads, 1 to 64; the trace does not depend on it.";
+const WORKERS_HELP: &str = "How many threads run resources, 1 to 64; the trace is the same.";
 
 const SERIAL_HELP: &str =
     "Runs all resources from one agenda on one thread; the trace is the same.";

@@ -261,7 +261,7 @@ run_while-returns-clause-run t c =
     let fails = sym c.holds.ensures ∙ ok_by c.holds.result c.in_ok-holds.field-0 false c.in_ok-holds.was c.if-branch.false in
     c.loop-frame.invariant.run Went p (loop_over test turn p fails)
 
--- ---- The turns of FOR
+-- ---- The iterations of FOR
 
 pub run_counts-returns-then-has_passed-clause-run : goal.run_counts-returns-then-has_passed-clause-run
 run_counts-returns-then-has_passed-clause-run t c =
@@ -558,7 +558,7 @@ run_branch-returns-clause-run t c =
     c.loop-branch.invariant.run e q
     (subst (λ (l : List Branch). RunsBranch T c.args.around c.loop-branch.inside (branches_of l) (whole c.args.value) others p e q) (sym none) ran)
 
--- ---- A turn
+-- ---- An iteration
 
 pub turn-returns-clause-run : goal.turn-returns-clause-run
 turn-returns-clause-run t c =

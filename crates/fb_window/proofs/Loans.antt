@@ -1,4 +1,4 @@
--- The turns of a phase, as they are found when all have come home.
+-- The loans of a phase, as they are found when all have come home.
 use Rattle.std.proofs.Common.{◌≡◌, ℕ, ◌<◌, ◌≤◌, ◌⊎◌, Option, Some, None, List, [], ◌++◌, map, refl, sym, ap, ◌∙◌, subst, inl, inr, ⊎_elim, arith, All, append-nil}
 use Rattle.std.specs.Global.{Vec}
 use Rattle.std.specs.Prelude.{slice_index_or}
@@ -17,9 +17,9 @@ use Rattle.fb_resource.specs.Posts.{IsMessage, arriving}
 use Rattle.fb_resource.specs.Resources.{IsOf, Represents, RanTo}
 use Rattle.fb_resource.specs.declared.resource.Resource.{Resource}
 use Rattle.fb_window.specs.Homes.{HasCome, IsHomeAt, AreHome}
-use Rattle.fb_laws.specs.Phases.{Turn, MayTurn, turned}
+use Rattle.fb_laws.specs.Phases.{Loan, IsLegalLoan, after_loan}
 use Rattle.fb_window.specs.Leaving.{AreLegal}
-use Rattle.fb_window.specs.Settling.{AreTurns}
+use Rattle.fb_window.specs.Settling.{AreLoans}
 use Rattle.fb_window.specs.Standing.{IsAt, Sits}
 use Rattle.fb_window.specs.declared.home.Home.{Home}
 
@@ -27,21 +27,21 @@ module _ (i : Inputs) (limit horizon : ℕ) (c : Core (machine (system_of i) lim
   abbrev M : Machine
   M = machine (system_of i) limit
 
-  -- What came home is what the member is after its turn, if it had one.
-  pub record IsBack (r bound worker : ℕ) (x : Resource) (kept : List Line) (y : Resource) (lines : List Line) (sent : List Message) (turn : Option (Turn (machine (system_of i) limit))) : Type 0 where
-    pub live : x.stopped ≡ None → (run : List (Item (machine (system_of i) limit))) × (turn ≡ Some (record { worker = worker; bound = bound; run = run }))
-    pub stopped : (reason : Reason) → x.stopped ≡ Some reason → turn ≡ None
-    pub may : (t : Turn (machine (system_of i) limit)) → turn ≡ Some t → MayTurn (machine (system_of i) limit) horizon c r t
+  -- What came home is what the member is after its loan, if it had one.
+  pub record IsBack (r bound worker : ℕ) (x : Resource) (kept : List Line) (y : Resource) (lines : List Line) (sent : List Message) (loan : Option (Loan (machine (system_of i) limit))) : Type 0 where
+    pub live : x.stopped ≡ None → (run : List (Item (machine (system_of i) limit))) × (loan ≡ Some (record { worker = worker; bound = bound; run = run }))
+    pub stopped : (reason : Reason) → x.stopped ≡ Some reason → loan ≡ None
+    pub may : (t : Loan (machine (system_of i) limit)) → loan ≡ Some t → IsLegalLoan (machine (system_of i) limit) horizon c r t
     pub number : y.tree.resource ≡ r
     pub of : IsOf i y
-    pub state : Represents i limit (turned (machine (system_of i) limit) (c r) turn).state y
-    pub clock : (turned (machine (system_of i) limit) (c r) turn).clock ≡ y.clock
-    pub home : (turned (machine (system_of i) limit) (c r) turn).out ≡ None
-    pub posted : (turned (machine (system_of i) limit) (c r) turn).outbox ≡ map (arriving i) sent
+    pub state : Represents i limit (after_loan (machine (system_of i) limit) (c r) loan).state y
+    pub clock : (after_loan (machine (system_of i) limit) (c r) loan).clock ≡ y.clock
+    pub home : (after_loan (machine (system_of i) limit) (c r) loan).out ≡ None
+    pub posted : (after_loan (machine (system_of i) limit) (c r) loan).outbox ≡ map (arriving i) sent
     pub messages : All (IsMessage i) sent
     pub more : List Line
     pub said : lines ≡ kept ++ more
-    pub named : (turned (machine (system_of i) limit) (c r) turn).lines ≡ (c r).lines ++ map (line_of (system_of i)) more
+    pub named : (after_loan (machine (system_of i) limit) (c r) loan).lines ≡ (c r).lines ++ map (line_of (system_of i)) more
 
   -- a bound with which it may leave
   pub record MayLeaveWith (r bound : ℕ) : Type 0 where
@@ -50,8 +50,8 @@ module _ (i : Inputs) (limit horizon : ℕ) (c : Core (machine (system_of i) lim
     pub in_range : bound ≤ horizon
 
   record Came (r bound worker : ℕ) (x : Resource) (kept : List Line) (y : Resource) (lines : List Line) (sent : List Message) : Type 0 where
-    turn : Option (Turn (machine (system_of i) limit))
-    is_back : IsBack r bound worker x kept y lines sent turn
+    loan : Option (Loan (machine (system_of i) limit))
+    is_back : IsBack r bound worker x kept y lines sent loan
 
   came_back : (r bound worker : ℕ) (x : Resource) (kept : List Line) (y : Resource) (lines : List Line) (sent : Vec Message)
       → Sits i limit (c r) r x → (x.stopped ≡ None → MayLeaveWith r bound) → HasCome i limit bound x kept y lines sent → Came r bound worker x kept y lines sent.items
@@ -65,17 +65,17 @@ module _ (i : Inputs) (limit horizon : ℕ) (c : Core (machine (system_of i) lim
           let leave = may e in
           let number : y.tree.resource ≡ r = done.1 ∙ sits.number in
           let run : Run M r (c r).state bound it.items = subst (λ (n : ℕ). Run M n (c r).state bound it.items) number it.run in
-          let t : Turn M = record { worker = worker; bound = bound; run = it.items } in
-          let may_turn : MayTurn M horizon c r t = record {
+          let t : Loan M = record { worker = worker; bound = bound; run = it.items } in
+          let is_legal : IsLegalLoan M horizon c r t = record {
             lend = record { home = sits.home; live = sits.state.stop ∙ e; legal = leave.legal; not_back = leave.not_back; in_range = leave.in_range };
             run = run;
           } in
           record {
-            turn = Some t;
+            loan = Some t;
             is_back = record {
               live = λ q. (it.items, refl);
               stopped = λ reason q. absurd (none_some _ _ e q);
-              may = λ u q. let f : t ≡ u = cc in subst (λ (v : Turn M). MayTurn M horizon c r v) f may_turn;
+              may = λ u q. let f : t ≡ u = cc in subst (λ (v : Loan M). IsLegalLoan M horizon c r v) f is_legal;
               number = number;
               of = done.0;
               state = it.represents;
@@ -94,7 +94,7 @@ module _ (i : Inputs) (limit horizon : ℕ) (c : Core (machine (system_of i) lim
           let h = come.rested q.0 q.1 in
           let same : x ≡ y = sym h.0 in
           record {
-            turn = None;
+            loan = None;
             is_back = record {
               live = λ e. absurd (none_some _ _ e q.1);
               stopped = λ reason e. refl;
@@ -113,20 +113,20 @@ module _ (i : Inputs) (limit horizon : ℕ) (c : Core (machine (system_of i) lim
           }
 
   -- What came home at an index.
-  pub record IsBackAt (bounds : List ℕ) (workers : ℕ → ℕ) (xs : List Resource) (lists : List (Vec Line)) (h : Home) (r : ℕ) (turn : Option (Turn (machine (system_of i) limit))) : Type 0 where
+  pub record IsBackAt (bounds : List ℕ) (workers : ℕ → ℕ) (xs : List Resource) (lists : List (Vec Line)) (h : Home) (r : ℕ) (loan : Option (Loan (machine (system_of i) limit))) : Type 0 where
     pub at : IsHomeAt i limit bounds xs lists r h
-    pub back : IsBack r (slice_index_or bounds r 0) (workers r) at.old at.kept.items at.new at.lines.items at.sent.items turn
+    pub back : IsBack r (slice_index_or bounds r 0) (workers r) at.old at.kept.items at.new at.lines.items at.sent.items loan
 
-  -- All of it, with the turns.
+  -- All of it, with the loans.
   pub record AreBack (bounds : List ℕ) (workers : ℕ → ℕ) (xs : List Resource) (lists : List (Vec Line)) (h : Home) : Type 0 where
-    pub turns : ℕ → Option (Turn (machine (system_of i) limit))
-    pub each : (r : ℕ) → r < count_of (system_of i) → IsBackAt bounds workers xs lists h r (turns r)
-    pub others : (r : ℕ) → count_of (system_of i) ≤ r → turns r ≡ None
+    pub loans : ℕ → Option (Loan (machine (system_of i) limit))
+    pub each : (r : ℕ) → r < count_of (system_of i) → IsBackAt bounds workers xs lists h r (loans r)
+    pub others : (r : ℕ) → count_of (system_of i) ≤ r → loans r ≡ None
 
   pub are_back : (bounds : List ℕ) (workers : ℕ → ℕ) (xs : List Resource) (lists : List (Vec Line)) (h : Home)
       → IsAt i limit c xs → AreLegal i limit horizon c bounds → AreHome i limit bounds xs lists h → AreBack bounds workers xs lists h
   are_back bounds workers xs lists h at legal home = record {
-    turns = λ r. turn_of r (cases_lt r (count_of (system_of i)));
+    loans = λ r. loan_of r (cases_lt r (count_of (system_of i)));
     each = λ r b. here r b (cases_lt r (count_of (system_of i)));
     others = λ r b. none r b (cases_lt r (count_of (system_of i)));
   }
@@ -141,22 +141,22 @@ module _ (i : Inputs) (limit horizon : ℕ) (c : Core (machine (system_of i) lim
           came_back r (slice_index_or bounds r 0) (workers r) a.old a.kept.items a.new a.lines.items a.sent sits
           (λ e. let live = sits.state.stop ∙ e in record { legal = legal.legal r b live; not_back = legal.not_back r b live; in_range = legal.in_range r b live }) a.come
 
-      turn_of : (r : ℕ) → (r < count_of (system_of i)) ⊎ (count_of (system_of i) ≤ r) → Option (Turn M)
-      turn_of r (inl b) = (came r b).turn
-      turn_of r (inr b) = None
+      loan_of : (r : ℕ) → (r < count_of (system_of i)) ⊎ (count_of (system_of i) ≤ r) → Option (Loan M)
+      loan_of r (inl b) = (came r b).loan
+      loan_of r (inr b) = None
 
-      here : (r : ℕ) → r < count_of (system_of i) → (s : (r < count_of (system_of i)) ⊎ (count_of (system_of i) ≤ r)) → IsBackAt bounds workers xs lists h r (turn_of r s)
+      here : (r : ℕ) → r < count_of (system_of i) → (s : (r < count_of (system_of i)) ⊎ (count_of (system_of i) ≤ r)) → IsBackAt bounds workers xs lists h r (loan_of r s)
       here r b (inl l) = record { at = it r l; back = (came r l).is_back }
       here r b (inr l) = absurd (omega arith)
 
-      none : (r : ℕ) → count_of (system_of i) ≤ r → (s : (r < count_of (system_of i)) ⊎ (count_of (system_of i) ≤ r)) → turn_of r s ≡ None
+      none : (r : ℕ) → count_of (system_of i) ≤ r → (s : (r < count_of (system_of i)) ⊎ (count_of (system_of i) ≤ r)) → loan_of r s ≡ None
       none r b (inl l) = absurd (omega arith)
       none r b (inr l) = refl
 
-  -- These are the turns of the phase.
-  pub back_turns : (bounds : List ℕ) (workers : ℕ → ℕ) (xs : List Resource) (lists : List (Vec Line)) (h : Home)
-      → IsAt i limit c xs → (b : AreBack bounds workers xs lists h) → AreTurns i limit horizon c bounds workers b.turns
-  back_turns bounds workers xs lists h at b = record {
+  -- These are the loans of the phase.
+  pub back_loans : (bounds : List ℕ) (workers : ℕ → ℕ) (xs : List Resource) (lists : List (Vec Line)) (h : Home)
+      → IsAt i limit c xs → (b : AreBack bounds workers xs lists h) → AreLoans i limit horizon c bounds workers b.loans
+  back_loans bounds workers xs lists h at b = record {
     live = λ r l e. let it = b.each r l in it.back.live (sym (at.each r it.at.old it.at.old_at).state.stop ∙ e);
     stopped = λ r reason e. ⊎_elim (λ l. let it = b.each r l in it.back.stopped reason (sym (at.each r it.at.old it.at.old_at).state.stop ∙ e)) (λ l. b.others r l) (cases_lt r (count_of (system_of i)));
     others = b.others;
