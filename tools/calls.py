@@ -247,7 +247,7 @@ HELP_OF_FILES = (
 )
 HELP_OF_RUN = (
     *HELP_OF_FILES, "--horizon", "in milliseconds, at which the run ends, 1 to 1000000000000", "--steps", "number of steps", "1 to 10000000",
-    "--workers", "number of threads", "1 to 64", "--serial", "on one thread", "--progress", "each hundredth of the horizon", "--trace", "form of the trace",
+    "--workers", "threads run resources", "1 to 64", "--serial", "on one thread", "--progress", "each hundredth of the horizon", "--trace", "form of the trace",
     "Example: fbsim run ",
 )
 HELP_OF_CHECK = (*HELP_OF_FILES, "--lint", "Reports warnings", "Example: fbsim check ")

@@ -201,7 +201,7 @@ class Body:
         return value_of(tree, self.values)
 
     def turn(self, body):
-        """Runs a turn of a loop and returns whether it goes on."""
+        """Runs an iteration of a loop and returns whether it goes on."""
         self.step()
         try:
             self.run(body)

@@ -80,7 +80,8 @@ def texts_beside(room):
         faults.append("docs/HELP.md: the program prints another help: tools/launcher.py --write")
     texts = unbuilt.explanations()
     faults += [f"explain {it}: the program prints another text than tools/unbuilt.py" for it in EXPLAINED if printed(room, ["explain", it]) != texts.get(it)]
-    required = {("fbsim", "wa"): ["wave"], ("fbsim", "run", "--se"): ["--serial"], ("fbsim", "explain", "E3"): ["E30"], ("fbsim", "expect", "--st"): ["--strict"], ("fbsim", "draw", "--t"): ["--types", "--type"], ("fbsim", "check", "cas"): ["cases"]}
+    required = {("fbsim", "wa"): ["wave"], ("fbsim", "run", "--se"): ["--serial"], ("fbsim", "expect", "--st"): ["--strict"], ("fbsim", "draw", "--t"): ["--types", "--type"], ("fbsim", "check", "cas"): ["cases"]}
+    required["fbsim", "explain", "E3"] = [it for it in EXPLAINED if it.startswith("E3")]
     faults += [f"bash completes {words} to {completed(*words)}" for words, to in required.items() if completed(*words) != to]
     return faults
 
