@@ -251,10 +251,10 @@ pub(crate) fn hand_out<W: Write>(
     }
 }
 
-/// How many threads make the text of lines beside a window of a run with this many workers: mostly one, since a window
-/// with few workers takes at least as long.
+/// How many threads make the text of lines beside a window of a run with this many workers. The text takes up to half as
+/// much work as the window.
 fn text_threads(workers: u64) -> usize {
-    (workers / 4).max(1) as usize
+    (workers / 2).max(1) as usize
 }
 
 /// What a window starts from while the text of a round before it is made.
