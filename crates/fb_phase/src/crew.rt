@@ -108,6 +108,21 @@ impl<W: Work> Crew<W> {
         }
     }
 
+    /// Wakes a thread for each of these shifts too. If there is no memory for one, it is dropped.
+    pub(crate) fn call_late<R: Wait>(&self, rt: &R, shifts: Vec<Shift<W>>) {
+        let count = shifts.len();
+        if count == 0 {
+            return;
+        }
+        for shift in shifts {
+            let _ = self.waiting.lock(rt).push(shift);
+        }
+        self.bell.fetch_add(1, SeqCst);
+        for _ in 0..count {
+            self.bell.wake_one();
+        }
+    }
+
     /// Drops the shifts that nobody has taken, and waits until those that were taken are done: their threads are awake.
     pub(crate) fn recall<R: Wait>(&self, rt: &R, alloc: Global) {
         let left = mem::replace(&mut *self.waiting.lock(rt), Vec::new(alloc));
