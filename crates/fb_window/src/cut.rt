@@ -1,12 +1,30 @@
 //! Lines, cut where they are final.
 
-ghost use Rattle.std.specs.Prelude.{◌≡◌, [], IfOk, OnOk};
+ghost use Rattle.std.specs.Prelude.{◌≡◌, ◌≤◌, nat_lt, true, false, length, [], IfOk, OnOk};
+ghost use Rattle.std.specs.List.Sorted.{IsPartitionPoint};
+ghost use Rattle.fb_trace.specs.Merging.{Rises, tick_of};
 ghost use Rattle.fb_laws.specs.Finality.{until};
 ghost use Rattle.fb_window.specs.Frontiers.{AreCut, IsSplit, edge_of};
 
 use crate::frontier::Frontier;
 use fb_types::Line;
 use std::alloc::{AllocError, Global};
+
+/// How many lines of a resource are final, where their ticks do not fall. Mostly all are: so the last one is looked at
+/// first.
+fn final_count(lines: &[Line], resource: usize, frontier: &Frontier) -> usize
+    ensures within { result ≤ length lines.now }
+    ensures point { Rises tick_of lines.now → let tick = until (edge_of frontier.now) resource in
+        IsPartitionPoint (λ x. nat_lt x.key.tick tick ≡ true) (λ x. nat_lt x.key.tick tick ≡ false) lines.now result }
+{
+    let count = lines.len();
+    if count > 0 {
+        if frontier.is_past(resource, lines[count - 1].key.tick) {
+            return count;
+        }
+    }
+    lines.partition_point(|line| frontier.is_past(resource, line.key.tick))
+}
 
 /// The lines of a resource that are final, and the others. Where there are only the one or the other, none is moved.
 fn cut(
@@ -17,7 +35,7 @@ fn cut(
 ) -> Result<(Vec<Line>, Vec<Line>), AllocError>
     ensures { IfOk result (λ p. IsSplit (until (edge_of frontier.now) resource) lines.items p.0.items p.1.items) }
 {
-    let count = lines.partition_point(|line| frontier.is_past(resource, line.key.tick));
+    let count = final_count(&lines, resource, frontier);
     if count == 0 {
         return Ok((Vec::new(alloc), lines));
     }
