@@ -1,13 +1,11 @@
--- Several threads may read one system, and lines that are held cross to another.
-use denote.Param.Send.{IsSend, IsSync, sendable, view_sync, recorded_send, recorded_sync, struct_sync}
+-- Several threads may read one system.
+use denote.Param.Send.{IsSync, view_sync, recorded_send, recorded_sync, struct_sync}
 use denote.Struct.Declared.{shape}
-use Rattle.std.proofs.Crossing.{crosses, Arc-sync}
-use Rattle.fb_types.proofs.run.Line.TheSendSync as line
+use Rattle.std.proofs.Crossing.{Arc-sync}
 use Rattle.fb_system.specs.contracts.whole.Whole as Whole
 use Rattle.fb_system.specs.contracts.system.System as System
 use Rattle.fb_system.specs.contracts.system.System.TheInside as I
 use Rattle.fb_resource.proofs.Sends.{whole_send, whole_sync}
-use Rattle.fb_sim.specs.contracts.held.Held as Held
 
 pub system_sync : IsSync System.the_row
 system_sync =
@@ -15,6 +13,3 @@ system_sync =
     let whole_seen = recorded_sync (Whole.the_field).row _ _ (Whole.the_type).to_one whole_sync in
     view_sync I.the_row _ _ _ _
     (recorded_sync (I.the_field).row _ _ (I.the_type).to_one (struct_sync (shape I.the_type) (Arc-sync Whole.the_row whole whole_seen, tt)))
-
-pub held_send : IsSend (Held.the_field).row
-held_send = search (sendable, crosses, line.the_field_send) depth 40

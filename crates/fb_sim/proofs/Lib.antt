@@ -27,5 +27,6 @@ pub mod TakenIs
 pub mod Texts
 pub mod WindowIs
 pub mod Weaving
+pub mod Putting
 pub mod Sorting
 pub mod HandedOut

@@ -370,6 +370,10 @@ module _ (t n : ℕ) (xs : List Line) (before : take n xs ++ early t (drop n xs)
     pub end_late : drop n xs ≡ late t xs
     end_late = drop_all n xs end ∙ sym (ap (late t) (drop_all n xs end)) ∙ after
 
--- what holds of all lines of slices holds of those of the parts that they are woven to
-pub woven_each : (P : Line → Type 0) (qs ps : List (Bor (List Line))) → IsWoven (map (λ q. q.now) qs) (joint (map (λ q. q.now) ps)) → All (λ q. All P q.now) qs → All (λ q. All P q.now) ps
-woven_each P qs ps it h = all_of_each P ps (moved_each P (joint (map (λ (q : Bor (List Line)). q.now) qs)) (joint (map (λ (q : Bor (List Line)). q.now) ps)) it.whole (each_of_all P qs h))
+-- what holds of all lines of slices holds of those that were taken off them last
+pub taken_each : (P : Line → Type 0) (qs ps : List (Bor (List Line))) (first : List Line) (left : List (List Line)) → IsTaken (map (λ q. q.now) qs) (first ++ joint (map (λ q. q.now) ps)) left
+    → All (λ q. All P q.now) qs → All (λ q. All P q.now) ps
+taken_each P qs ps first left it h =
+    let last = joint (map (λ (q : Bor (List Line)). q.now) ps) in
+    let all = moved_each P (joint (map (λ (q : Bor (List Line)). q.now) qs)) ((first ++ last) ++ joint left) it.whole (each_of_all P qs h) in
+    all_of_each P ps (each_right P first last (each_left P (first ++ last) (joint left) all))

@@ -6,7 +6,7 @@
 //! board with one worker. Both write the same lines.
 
 ghost use Rattle.std.specs.Global.{Vec};
-ghost use Rattle.std.specs.Prelude.{◌≡◌, ◌≤◌, List, map, length, vec_len, All, IfOk, IfErr};
+ghost use Rattle.std.specs.Prelude.{◌≡◌, ◌≤◌, List, map, length, vec_len, All, IfOk, IfErr, IfSome};
 ghost use Rattle.std.specs.Io.KnownBytes.{Appends};
 ghost use Rattle.std.specs.List.{AllZip};
 ghost use Rattle.fb_types.specs.States as model;
@@ -31,7 +31,7 @@ use crate::printing::write_texts;
 use crate::progress::Round;
 use crate::tally::{LONGEST_WINDOW, RoundPlan, Tally};
 use crate::work::{Hands, Windows};
-use fb_phase::{Crew, Gate, run_all};
+use fb_phase::{Gate, run_all};
 use fb_resource::WindowDone;
 use fb_system::System;
 use fb_trace::write_lines_with_count;
@@ -40,7 +40,6 @@ use fb_window::{Core, Job, Reach, Settled};
 use std::alloc::{AllocError, Global};
 use std::io::Write;
 use std::sync::Wait;
-use std::thread;
 use std::thread::Threads;
 
 /// How many of the jobs have something to do.
@@ -114,6 +113,85 @@ fn run_jobs<R: Threads + Wait + Sync, P: Gate>(
     Ok(hands.run(rt, alloc, jobs, workers)?)
 }
 
+/// The text of fewer lines than this is made before a thread that helps has started.
+const LONG_TEXT: usize = 8192;
+
+/// How many threads make the text of this many lines while a crew of this many workers runs jobs. With four workers one
+/// thread would mostly take longer for it than the others for the jobs.
+fn text_threads(workers: usize, lines: usize) -> usize
+    ensures { 1 ≤ result }
+{
+    if lines < LONG_TEXT {
+        return 1;
+    }
+    (workers / 2).max(1)
+}
+
+/// Runs all jobs, of which this many are busy, and makes the text of lines that are held. Where there is a crew, this
+/// thread makes the text while the others run jobs, and then takes its share of those that are left. Threads that help
+/// it with the text take the place of as many of the crew, which come late. Without a crew as many threads as workers
+/// make it afterwards.
+fn run_jobs_and_text<R: Threads + Wait + Sync, P: Gate>(
+    rt: &R,
+    alloc: Global,
+    system: &System,
+    options: Options,
+    jobs: Vec<Job>,
+    busy: usize,
+    held: Held,
+    hands: &Hands<'_, P>,
+) -> Result<(Vec<Vec<u8>>, Vec<WindowDone>), RunError>
+    requires options { AreWithin options }
+    requires few_jobs { vec_len jobs ≤ 256 }
+    requires held { IsHeldOf system.now held }
+    ensures text { IfOk result (λ r. IsWovenText system.now options.form (map (λ p. p.items) held.lists.items) (all_bytes r.0.items)) }
+    ensures done { IfOk result (λ r. AllZip Does jobs.items r.1.items) }
+    ensures memory { IfErr result (λ e. e ≡ Memory) }
+{
+    let form = options.form;
+    let workers = options.workers as usize;
+    let Some(crew) = hands.crew else {
+        let dones = run_jobs(rt, alloc, jobs, workers_for(busy, options.workers), hands)?;
+        let texts = held.text(rt, alloc, system, form, workers)?;
+        return Ok((texts, dones));
+    };
+    let threads = text_threads(workers, held.count());
+    let seats = workers_for(busy.saturating_add(1), options.workers);
+    let late = (threads - 1).saturating_sub(workers.saturating_sub(seats));
+    let phase = crew.begin(rt, alloc, jobs, seats, late)?;
+    let texts = held.text(rt, alloc, system, form, threads);
+    // The others run jobs: also where there is no memory for the text, the phase is finished.
+    let dones = crew.finish(rt, alloc, &Windows, phase, hands.gate)?;
+    Ok((texts?, dones))
+}
+
+/// Runs all jobs, of which this many are busy, and makes the text of lines if some are held.
+fn run_round<R: Threads + Wait + Sync, P: Gate>(
+    rt: &R,
+    alloc: Global,
+    system: &System,
+    options: Options,
+    jobs: Vec<Job>,
+    busy: usize,
+    held: Option<Held>,
+    hands: &Hands<'_, P>,
+) -> Result<(Vec<Vec<u8>>, Vec<WindowDone>), RunError>
+    requires options { AreWithin options }
+    requires few_jobs { vec_len jobs ≤ 256 }
+    requires held { IfSome held (IsHeldOf system.now) }
+    ensures text { IfOk result (λ r. IfSome held (λ h. IsWovenText system.now options.form (map (λ p. p.items) h.lists.items) (all_bytes r.0.items))) }
+    ensures done { IfOk result (λ r. AllZip Does jobs.items r.1.items) }
+    ensures memory { IfErr result (λ e. e ≡ Memory) }
+{
+    match held {
+        Some(held) => run_jobs_and_text(rt, alloc, system, options, jobs, busy, held, hands),
+        None => {
+            let dones = run_jobs(rt, alloc, jobs, workers_for(busy, options.workers), hands)?;
+            Ok((Vec::new(alloc), dones))
+        }
+    }
+}
+
 /// The core after the turns of single resources that are planned. What has become final meanwhile is handed out after
 /// the next window.
 fn walked(alloc: Global, system: &System, core: Core, plan: RoundPlan) -> Result<Core, RunError>
@@ -165,39 +243,43 @@ impl WindowResult {
 }
 
 /// Runs each resource to its bound, with the workers, and puts all back together. A bound is at most this many ticks
-/// past the least event.
+/// past the least event. Meanwhile it makes the text of lines, in parts, if some are held.
 fn window<R: Threads + Wait + Sync, P: Gate>(
     rt: &R,
     alloc: Global,
     system: &System,
     core: Core,
-    options: Options,
-    ticks: u64,
+    held: Option<Held>,
+    plan: RoundPlan,
     hands: &Hands<'_, P>,
-) -> Result<WindowResult, RunError>
-    requires options { AreWithin options }
-    requires ticks { 1 ≤ ticks }
-    requires come { (ls : List model.Line) × IsOnItsWay system.now options.steps options.horizon core ls }
-    ensures home { (ls : List model.Line) (way : IsOnItsWay system.now options.steps options.horizon core ls)
-        → IfOk result (λ r. (all : Vec Line) → IsMerged r.finals.lists.items all.items
-        → IsHomeAgain system.now options.steps options.horizon (core_of system.now options.steps way.steps) ls (settled_of r.reach all)) }
-    ensures held { IfOk result (λ r. IsHeldOf system.now r.finals) }
+) -> Result<(Vec<Vec<u8>>, WindowResult), RunError>
+    requires options { AreWithin plan.options }
+    requires ticks { 1 ≤ plan.ticks }
+    requires come { (ls : List model.Line) × IsOnItsWay system.now plan.options.steps plan.options.horizon core ls }
+    requires held { IfSome held (IsHeldOf system.now) }
+    ensures text { IfOk result (λ r. IfSome held (λ h. IsWovenText system.now plan.options.form (map (λ p. p.items) h.lists.items) (all_bytes r.0.items))) }
+    ensures home { (ls : List model.Line) (way : IsOnItsWay system.now plan.options.steps plan.options.horizon core ls)
+        → IfOk result (λ r. (all : Vec Line) → IsMerged r.1.finals.lists.items all.items
+        → IsHomeAgain system.now plan.options.steps plan.options.horizon (core_of system.now plan.options.steps way.steps) ls (settled_of r.1.reach all)) }
+    ensures held { IfOk result (λ r. IsHeldOf system.now r.1.finals) }
     ensures memory { IfErr result (λ e. e ≡ Memory) }
 {
     system.facts();
+    let RoundPlan { options, ticks, .. } = plan;
     let bounds = core.bounds(options.horizon, ticks);
     let (away, jobs) = core.jobs(alloc, system, bounds)?;
     let busy = busy_in(jobs.as_slice());
-    let workers = workers_for(busy, options.workers);
-    let dones = run_jobs(rt, alloc, jobs, workers, hands)?;
+    let (texts, dones) = run_round(rt, alloc, system, options, jobs, busy, held, hands)?;
     let lines = lines_in(dones.as_slice());
     let (reach, finals) = away.settle_apart(alloc, system, dones)?;
-    Ok(WindowResult {
+    let finals = Held::of(finals)?;
+    let result = WindowResult {
         reach,
-        finals: Held::of(finals)?,
+        finals,
         busy,
         lines,
-    })
+    };
+    Ok((texts, result))
 }
 
 /// The lines that must be written.
@@ -251,106 +333,9 @@ pub(crate) fn hand_out<W: Write>(
     }
 }
 
-/// How many threads make the text of lines beside a window of a run with this many workers. The text takes up to half as
-/// much work as the window.
-fn text_threads(workers: u64) -> usize {
-    (workers / 2).max(1) as usize
-}
-
-/// What a window starts from while the text of a round before it is made.
-#[derive(Drop)]
-struct Start {
-    standing: Standing,
-    plan: RoundPlan,
-}
-
-/// Makes the text of the lines that are held, on threads of its own, and beside it the window with a crew. It takes the
-/// gate and the crew by themselves: of a closure that holds a type with a lifetime, nothing is known but that it ends.
-fn window_of_crew<R: Threads + Wait + Sync, P: Gate>(
-    rt: &R,
-    alloc: Global,
-    system: &System,
-    start: Start,
-    gate: &P,
-    crew: &Crew<Windows>,
-) -> Result<(Vec<Vec<u8>>, WindowResult), RunError>
-    requires options { AreWithin start.plan.options }
-    requires ticks { 1 ≤ start.plan.ticks }
-    requires come { (ls : List model.Line) × IsOnItsWay system.now start.plan.options.steps start.plan.options.horizon start.standing.core ls }
-    requires held { IsHeldOf system.now start.standing.held }
-    ensures text { IfOk result (λ r. IsWovenText system.now start.plan.options.form (map (λ p. p.items) start.standing.held.lists.items) (all_bytes r.0.items)) }
-    ensures home { (ls : List model.Line) (way : IsOnItsWay system.now start.plan.options.steps start.plan.options.horizon start.standing.core ls)
-        → IfOk result (λ r. (all : Vec Line) → IsMerged r.1.finals.lists.items all.items
-        → IsHomeAgain system.now start.plan.options.steps start.plan.options.horizon (core_of system.now start.plan.options.steps way.steps) ls (settled_of r.1.reach all)) }
-    ensures held { IfOk result (λ r. IsHeldOf system.now r.1.finals) }
-    ensures memory { IfErr result (λ e. e ≡ Memory) }
-{
-    let Start { standing, plan } = start;
-    let Standing { core, held } = standing;
-    let RoundPlan { options, ticks, .. } = plan;
-    let form = options.form;
-    let threads = text_threads(options.workers);
-    let back = move || -> Result<Vec<Vec<u8>>, AllocError>
-        requires { All (λ p. All (BelongsTo system.now) p.items) held.lists.items }
-        ensures { IfOk result (λ v. IsWovenText system.entry.now form (map (λ p. p.items) held.lists.items) (all_bytes v.items)) }
-    { held.text(rt, alloc, system, form, threads) };
-    let front = move || -> Result<WindowResult, RunError>
-        requires { AreWithin options × (1 ≤ ticks) × ((ls : List model.Line) × IsOnItsWay system.now options.steps options.horizon core ls) }
-        ensures { ((ls : List model.Line) (way : IsOnItsWay system.entry.now options.steps options.horizon core ls)
-            → IfOk result (λ r. (all : Vec Line) → IsMerged r.finals.lists.items all.items
-            → IsHomeAgain system.entry.now options.steps options.horizon (core_of system.entry.now options.steps way.steps) ls (settled_of r.reach all)))
-            × IfOk result (λ r. IsHeldOf system.entry.now r.finals)
-            × IfErr result (λ e. e ≡ Memory) }
-    {
-        let hands = Hands::living(gate, crew, options.workers);
-        window(rt, alloc, system, core, options, ticks, &hands)
-    };
-    // The first closure gets a thread, and the second one runs here: so this thread calls the crew.
-    let (texts, result) = thread::join(rt, back, front);
-    let texts = texts?;
-    let result = result?;
-    Ok((texts, result))
-}
-
-/// Makes the text of the lines that are held, and the window: beside it if the run has a crew. Otherwise the window
-/// starts threads of its own, and as many make the text after it.
-fn window_beside<R: Threads + Wait + Sync, P: Gate>(
-    rt: &R,
-    alloc: Global,
-    system: &System,
-    standing: Standing,
-    plan: RoundPlan,
-    hands: &Hands<'_, P>,
-) -> Result<(Vec<Vec<u8>>, WindowResult), RunError>
-    requires options { AreWithin plan.options }
-    requires ticks { 1 ≤ plan.ticks }
-    requires come { (ls : List model.Line) × IsOnItsWay system.now plan.options.steps plan.options.horizon standing.core ls }
-    requires held { IsHeldOf system.now standing.held }
-    ensures text { IfOk result (λ r. IsWovenText system.now plan.options.form (map (λ p. p.items) standing.held.lists.items) (all_bytes r.0.items)) }
-    ensures home { (ls : List model.Line) (way : IsOnItsWay system.now plan.options.steps plan.options.horizon standing.core ls)
-        → IfOk result (λ r. (all : Vec Line) → IsMerged r.1.finals.lists.items all.items
-        → IsHomeAgain system.now plan.options.steps plan.options.horizon (core_of system.now plan.options.steps way.steps) ls (settled_of r.1.reach all)) }
-    ensures held { IfOk result (λ r. IsHeldOf system.now r.1.finals) }
-    ensures memory { IfErr result (λ e. e ≡ Memory) }
-{
-    match hands.crew {
-        Some(crew) => {
-            let start = Start { standing, plan };
-            window_of_crew(rt, alloc, system, start, hands.gate, crew)
-        }
-        None => {
-            let Standing { core, held } = standing;
-            let RoundPlan { options, ticks, .. } = plan;
-            let result = window(rt, alloc, system, core, options, ticks, hands)?;
-            let texts = held.text(rt, alloc, system, options.form, options.workers as usize)?;
-            Ok((texts, result))
-        }
-    }
-}
-
 /// A round of a run, as planned, with what it has done. It writes the lines that the round before held, and holds those
-/// that have become final in it. Where many are held, another thread makes their text beside its window. No byte is
-/// written before its window has ended, and no memory is allocated from the first byte to the last.
+/// that have become final in it. Where many are held, their text is made while workers run its window. No byte is written
+/// before its window has ended, and no memory is allocated from the first byte to the last.
 pub(crate) fn round_with_counts<R: Threads + Wait + Sync, W: Write, P: Gate>(
     rt: &R,
     alloc: Global,
@@ -372,12 +357,11 @@ pub(crate) fn round_with_counts<R: Threads + Wait + Sync, W: Write, P: Gate>(
     let options = plan.options;
     if held.is_shared(options.workers) {
         let lines = held.count();
-        let standing = Standing { core, held };
-        let (texts, result) = window_beside(rt, alloc, system, standing, plan, hands)?;
+        let (texts, result) = window(rt, alloc, system, core, Some(held), plan, hands)?;
         let bytes = write_texts(out, texts.as_slice())?;
         return Ok(result.after(bytes, lines as u128));
     }
-    let result = window(rt, alloc, system, core, options, plan.ticks, hands)?;
+    let (_, result) = window(rt, alloc, system, core, None, plan, hands)?;
     let (bytes, lines) = held.hand_out(alloc, system, options.form, out)?;
     Ok(result.after(bytes, lines))
 }

@@ -157,7 +157,7 @@ fn run_system<R: Threads + Wait + Sync, W: Write, P: Gate, C: Clock + CpuClock>(
 /// One worker always takes the least event of all, and writes the lines piece by piece, without a gate: it runs as
 /// `run_serial` does. So does any number of workers if there is one resource. Otherwise several run in rounds: each
 /// round runs every resource as far as no message can reach it any more, and then exchanges the messages. The lines
-/// that have become final are written after the next round, beside which another thread makes the text of many. After a
+/// that have become final are written after the next round, and the text of many is made while its workers run. After a
 /// light round the run makes up to 256 turns of single resources, on the calling thread and without a gate. There are
 /// no more workers than processors, but two at least. The text of the first round is gathered in memory. No memory is
 /// allocated between the first byte of a piece or a round and its last. It waits for its workers, and for the gate

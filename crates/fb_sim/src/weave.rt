@@ -111,20 +111,6 @@ fn take_early<'a>(
     Ok(left)
 }
 
-/// The lines of all lists in parts, tick by tick, those of a tick list by list.
-fn woven<'a>(alloc: Global, lists: &[&'a [Line]]) -> Result<Vec<&'a [Line]>, AllocError>
-    ensures { IfOk result (λ v. IsWoven (map (λ q. q.now) lists.now) (joint (map (λ q. q.now) v.items))) }
-{
-    let mut parts = Vec::new(alloc);
-    let mut left = Vec::from_slice(alloc, lists)?;
-    let mut next = least_tick(&left);
-    while let Some(tick) = next {
-        left = take_early(alloc, &mut parts, &left, tick)?;
-        next = least_tick(&left);
-    }
-    Ok(parts)
-}
-
 /// Appends the text of the lines of parts.
 fn append_parts(
     text: &mut Vec<u8>,
@@ -142,6 +128,21 @@ fn append_parts(
     }
 }
 
+/// A line mostly has no more bytes.
+const LINE_ROOM: usize = 48;
+
+/// So many lines are put in order before their text is made. A processor's cache still holds them then.
+const AT_ONCE: usize = 2048;
+
+/// How many lines are in the lists, up to the greatest `usize`.
+fn count_in(lists: &[&[Line]]) -> usize {
+    let mut count: usize = 0;
+    for list in lists {
+        count = count.saturating_add(list.len());
+    }
+    count
+}
+
 /// The text of the lines of all lists, tick by tick, those of a tick list by list.
 ///
 /// # Errors
@@ -155,8 +156,22 @@ pub(crate) fn woven_text(
     requires { All (λ q. All (BelongsTo system.now) q.now) lists.now }
     ensures { IfOk result (λ v. IsWovenText system.now form (map (λ q. q.now) lists.now) v.items) }
 {
-    let parts = woven(alloc, lists)?;
-    let mut text = Vec::new(alloc);
+    let mut to_put = count_in(lists);
+    // A text that grows would be copied.
+    let mut text = Vec::with_capacity(alloc, to_put.saturating_mul(LINE_ROOM))?;
+    let mut parts = Vec::new(alloc);
+    let mut left = Vec::from_slice(alloc, lists)?;
+    let mut next = least_tick(&left);
+    while let Some(tick) = next {
+        left = take_early(alloc, &mut parts, &left, tick)?;
+        next = least_tick(&left);
+        let to_take = count_in(&left);
+        if to_put.saturating_sub(to_take) >= AT_ONCE {
+            append_parts(&mut text, system, form, &parts)?;
+            parts.clear();
+            to_put = to_take;
+        }
+    }
     append_parts(&mut text, system, form, &parts)?;
     Ok(text)
 }

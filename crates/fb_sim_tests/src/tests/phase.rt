@@ -230,3 +230,43 @@ fn squares_come_in_order_from_a_crew(rt: HostRuntime) {
         expect_from_crew(&rt, alloc, &crew, (*count, *workers));
     }
 }
+
+/// Nine jobs, all of which the crew has done before its caller takes its share. They come in order, and each has passed
+/// the gate once.
+fn expect_done_meanwhile<R: Abort + Threads + Wait + Sync>(
+    rt: &R,
+    alloc: Global,
+    crew: &Crew<Squares>,
+    work: &Squares,
+) {
+    let mut jobs = Vec::new(alloc);
+    for job in 0..9u32 {
+        jobs.push(job).expect(rt, "memory");
+    }
+    assert!(rt; jobs.len() <= MAX_JOBS);
+    let Ok(phase) = crew.begin(rt, alloc, jobs, 4, 1) else {
+        panic!(rt; "memory");
+    };
+    assert!(rt; work.nine_have_ended(), "the crew did not begin");
+    let Ok(squares) = crew.finish(rt, alloc, work, phase, work) else {
+        panic!(rt; "memory");
+    };
+    assert!(rt; squares.as_slice() == [0, 1, 4, 9, 16, 25, 36, 49, 64].as_slice());
+    assert!(rt; !work.is_wrong.load(SeqCst));
+    assert!(rt; work.passed.load(SeqCst) == EACH_ONCE / 16);
+}
+
+#[test]
+fn a_crew_does_its_jobs_while_its_caller_does_something_else(rt: HostRuntime) {
+    let alloc = rt.alloc();
+    let crew: Crew<Squares> = Crew::new(alloc);
+    let work = Squares::new(false);
+    join(
+        &rt,
+        || crew.serve(&rt, alloc, &work, &work, 2),
+        || {
+            expect_done_meanwhile(&rt, alloc, &crew, &work);
+            crew.dismiss();
+        },
+    );
+}

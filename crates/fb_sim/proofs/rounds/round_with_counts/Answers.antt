@@ -18,15 +18,15 @@ walked-requires-clause-come g c =
     let all = merged_list c.args.alloc c.args.standing.held.lists.items c.args.standing.held.count h.of.few h.of.counted in
     (_, h.come all.0 all.1)
 
-pub window_beside-requires-clause-come : goal.window_beside-requires-clause-come
-window_beside-requires-clause-come g c κs w =
+pub window-requires-clause-come : goal.window-requires-clause-come
+window-requires-clause-come g c κs w =
     let h = c.requires.holds.1 in
     let all = merged_list c.args.alloc c.args.standing.held.lists.items c.args.standing.held.count h.of.few h.of.counted in
     let walked = c.in_ok-core.ensures.on _ (h.come all.0 all.1) in
     (_, walked.way)
 
-pub window-requires-clause-come : goal.window-requires-clause-come
-window-requires-clause-come g c κs w =
+pub window-requires-2-clause-come : goal.window-requires-2-clause-come
+window-requires-2-clause-come g c κs w =
     let h = c.requires.holds.1 in
     let all = merged_list c.args.alloc c.args.standing.held.lists.items c.args.standing.held.count h.of.few h.of.counted in
     let walked = c.in_ok-core.ensures.on _ (h.come all.0 all.1) in

@@ -1,11 +1,11 @@
 use Rattle.std.proofs.Common.{length, map}
 use Rattle.fb_trace.specs.Fronts.{IsLeast, joint}
-use Rattle.fb_trace.proofs.Taking.{IsTaken}
-use Rattle.fb_sim.proofs.weave.woven.Given as goal
+use Rattle.fb_sim.proofs.Putting.{IsPut}
+use Rattle.fb_sim.proofs.weave.woven_text.Given as goal
 
 abbrev pub invariant-loop-next : goal.invariant-loop-next
 invariant-loop-next l = record {
-  taken : IsTaken (map (λ q. q.now) l.lists) (joint (map (λ q. q.now) l.parts.items)) (map (λ q. q.now) l.left.items);
+  put : IsPut l.system l.form (map (λ q. q.now) l.lists) (joint (map (λ q. q.now) l.parts.items)) (map (λ q. q.now) l.left.items) l.text.items;
   next : IsLeast (map (λ q. q.now) l.left.items) l.next;
 }
 
