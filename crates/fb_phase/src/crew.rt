@@ -109,7 +109,7 @@ impl<W: Work> Crew<W> {
     }
 
     /// Wakes a thread for each of these shifts too. If there is no memory for one, it is dropped.
-    pub(crate) fn call_late<R: Wait>(&self, rt: &R, shifts: Vec<Shift<W>>) {
+    pub(crate) fn call_more<R: Wait>(&self, rt: &R, shifts: Vec<Shift<W>>) {
         let count = shifts.len();
         if count == 0 {
             return;
