@@ -115,15 +115,15 @@ impl Held {
     /// # Errors
     /// When memory runs out.
     pub(crate) fn text<R: Threads + Sync>(
-        self,
+        &self,
         rt: &R,
         alloc: Global,
         system: &System,
         form: Form,
         threads: usize,
     ) -> Result<Vec<Vec<u8>>, AllocError>
-        requires { All (λ p. All (BelongsTo system.now) p.items) self.lists.items }
-        ensures { IfOk result (λ v. IsWovenText system.now form (map (λ p. p.items) self.lists.items) (all_bytes v.items)) }
+        requires { All (λ p. All (BelongsTo system.now) p.items) self.now.lists.items }
+        ensures { IfOk result (λ v. IsWovenText system.now form (map (λ p. p.items) self.now.lists.items) (all_bytes v.items)) }
     {
         texts_of(rt, alloc, system, form, &self.lists, threads)
     }

@@ -158,9 +158,12 @@ fn run_jobs_and_text<R: Threads + Wait + Sync, P: Gate>(
     let threads = text_threads(workers, held.count());
     let seats = workers_for(busy.saturating_add(1), options.workers);
     let late = (threads - 1).saturating_sub(workers.saturating_sub(seats));
-    let phase = crew.begin(rt, alloc, jobs, seats, late)?;
+    let mut phase = crew.begin(rt, alloc, jobs, seats, late)?;
     let texts = held.text(rt, alloc, system, form, threads);
-    // The others run jobs: also where there is no memory for the text, the phase is finished.
+    crew.call_late(rt, alloc, &mut phase);
+    // To drop many lines takes a while: by now all others run jobs.
+    drop(held);
+    // Also where there is no memory for the text, the phase is finished.
     let dones = crew.finish(rt, alloc, &Windows, phase, hands.gate)?;
     Ok((texts?, dones))
 }

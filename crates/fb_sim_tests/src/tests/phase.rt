@@ -244,9 +244,10 @@ fn expect_done_meanwhile<R: Abort + Threads + Wait + Sync>(
         jobs.push(job).expect(rt, "memory");
     }
     assert!(rt; jobs.len() <= MAX_JOBS);
-    let Ok(phase) = crew.begin(rt, alloc, jobs, 4, 1) else {
+    let Ok(mut phase) = crew.begin(rt, alloc, jobs, 4, 1) else {
         panic!(rt; "memory");
     };
+    crew.call_late(rt, alloc, &mut phase);
     assert!(rt; work.nine_have_ended(), "the crew did not begin");
     let Ok(squares) = crew.finish(rt, alloc, work, phase, work) else {
         panic!(rt; "memory");

@@ -14,3 +14,9 @@ finish-requires-send-W-Job g c κs within = search (sendable, job_send) depth 40
 
 pub finish-requires-send-W-Done : goal.finish-requires-send-W-Done
 finish-requires-send-W-Done g c κs within = search (sendable, done_send) depth 40
+
+pub call_late-requires-send-W-Job : goal.call_late-requires-send-W-Job
+call_late-requires-send-W-Job g c κs within = search (sendable, job_send) depth 40
+
+pub call_late-requires-send-W-Done : goal.call_late-requires-send-W-Done
+call_late-requires-send-W-Done g c κs within = search (sendable, done_send) depth 40
