@@ -8,6 +8,7 @@ pub mod Signs
 pub mod LineParts
 pub mod Ends
 pub mod Texts
+pub mod MarkedRuns
 pub mod Sorting
 pub mod Together
 pub mod Merged

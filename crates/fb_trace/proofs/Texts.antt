@@ -36,10 +36,10 @@ module _ (form : Form) (sys : System) where
 
   -- ---- Lines in parts
 
-  abbrev text : List run.Line → List ℕ
+  abbrev pub text : List run.Line → List ℕ
   text xs = lines_text form sys (map (line_of sys) xs)
 
-  text-append : (xs ys : List run.Line) → text (xs ++ ys) ≡ text xs ++ text ys
+  pub text-append : (xs ys : List run.Line) → text (xs ++ ys) ≡ text xs ++ text ys
   text-append xs ys = ap (lines_text form sys) (map-append (line_of sys) xs ys) ∙ lines_text-append (map (line_of sys) xs) (map (line_of sys) ys)
 
   pub parts_text-parts : (i : ℕ) (xss : List (List run.Line)) → text (joint (take i xss)) ++ text (joint (drop i xss)) ≡ text (joint xss)

@@ -1,6 +1,7 @@
 pub mod DigitRows
 pub mod End
 pub mod Fronts
+pub mod Marks
 pub mod Merging
 pub mod Page
 pub mod Progress

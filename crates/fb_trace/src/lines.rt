@@ -221,7 +221,7 @@ fn append_line(page: &mut Page, system: &System, form: Form, tick: &LastNumber, 
 }
 
 /// Puts the text of lines. The tick of the last line is kept as digits.
-fn put_lines<W: Write>(
+pub(crate) fn put_lines<W: Write>(
     page: &mut Page,
     out: &mut W,
     system: &System,

@@ -86,6 +86,13 @@ impl Page {
         self.written
     }
 
+    /// How many bytes wait.
+    pub(crate) fn waiting_count(&self) -> usize
+        ensures { result ≡ length self.now.waiting }
+    {
+        self.bytes[..self.used].len()
+    }
+
     /// Writes all that waits.
     pub(crate) fn flush<W: Write>(&mut self, out: &mut W) -> Result<(), WriteFault>
         ensures text { Gathers (W.contents out.old) (W.contents out.new) self.old self.new [] result }
