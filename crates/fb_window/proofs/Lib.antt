@@ -11,6 +11,7 @@ pub mod Receives
 pub mod Posted
 pub mod Standings
 pub mod Gather
+pub mod Given
 pub mod Targets
 pub mod Rounds
 pub mod Sends

@@ -1,5 +1,5 @@
 -- What becomes of resources that were away, before their messages are exchanged (this project's profile).
-use Rattle.std.specs.Prelude.{◌≡◌, ℕ, ◌<◌, ◌++◌, List, [], drop, length, map, Option, Some, None, slice_get, slice_index_or}
+use Rattle.std.specs.Prelude.{◌≡◌, ℕ, ◌<◌, ◌++◌, List, [], All, drop, length, map, Option, Some, None, slice_get, slice_index_or}
 use Rattle.std.specs.Global.{Vec}
 use Rattle.std.specs.List.{AllZip}
 use Rattle.fb_types.specs.Headline.{Inputs}
@@ -12,6 +12,7 @@ use Rattle.fb_resource.specs.declared.resource.Resource.{Resource}
 use Rattle.fb_resource.specs.declared.resource.WindowDone.{WindowDone}
 use Rattle.fb_resource.specs.declared.resource.WindowDone.TheVariants.{Ran}
 use Rattle.fb_window.specs.Jobs.{Does, jobs_of, resting_of}
+use Rattle.fb_window.specs.Texts.{HasLines}
 use Rattle.fb_window.specs.declared.home.Home.{Home}
 
 -- A resource that ran comes back from below its bound, its lines after those that were kept; one that has stopped is as it was.
@@ -59,3 +60,10 @@ pub record AreHome (i : Inputs) (limit : ℕ) (bounds : List ℕ) (xs : List Res
   pub pending : length h.pending.items ≡ length xs
   pub outboxes : length h.outboxes.items ≡ length xs
   pub each : (r : ℕ) → r < length xs → IsHomeAt i limit bounds xs lists r h
+
+-- No line is kept, and the lines at home are those that the jobs gave; these done values are left.
+pub record HasGiven (dones : List WindowDone) (kept : List (Vec Line)) (left : List WindowDone) (h : Home) : Type 0 where
+  pub none : All (λ p. p.items ≡ []) kept
+  pub seen : List WindowDone
+  pub are : dones ≡ seen ++ left
+  pub lines : AllZip HasLines h.pending.items seen

@@ -11,5 +11,6 @@ pub mod Settling
 pub mod Reached
 pub mod Walking
 pub mod Noting
+pub mod Texts
 pub mod Turning
 pub mod OfSystem

@@ -1,14 +1,16 @@
 //! Resources that have come home, with their lines and their messages.
 
-ghost use Rattle.std.specs.Prelude.{◌≡◌, ◌+◌, ◌++◌, ℕ, List, Option, [], ◌∷◌, IfOk, OnOk, Some, map, slice_get};
+ghost use Rattle.std.specs.Prelude.{◌≡◌, ◌+◌, ◌++◌, ℕ, List, Option, [], ◌∷◌, All, IfOk, OnOk, None, Some, map, slice_get};
 ghost use Rattle.std.specs.List.{AllZip};
 ghost use Rattle.std.specs.Global.{Vec};
 ghost use Rattle.std.specs.Vec.Iter.{into_iter_items};
 ghost use Rattle.fb_types.specs.Headline.{Inputs};
 ghost use Rattle.fb_types.specs.declared.run.Line.{Line};
 ghost use Rattle.fb_resource.specs.declared.resource.Resource.{Resource};
-ghost use Rattle.fb_window.specs.Homes.{AreAwaited, AreHome, IsHomeTo};
+ghost use Rattle.fb_resource.specs.declared.resource.WindowDone.{WindowDone};
+ghost use Rattle.fb_window.specs.Homes.{AreAwaited, AreHome, HasGiven, IsHomeTo};
 ghost use Rattle.fb_window.specs.Jobs.{Does, jobs_of, resting_of};
+ghost use Rattle.fb_window.specs.Texts.{HasLines};
 
 use crate::cores::Failed;
 use fb_resource::{Resource, WindowDone};
@@ -78,6 +80,8 @@ impl Home {
             → slice_get xs index ≡ Some x → rested ≡ resting_of x
             → IsHomeTo i limit bounds xs lists index (into_iter_items pending.old) (into_iter_items dones.old) self.old
             → IsHomeTo i limit bounds xs lists (index + 1) (into_iter_items pending.new) (into_iter_items dones.new) self.new) }
+        ensures given { OnOk result (rested ≡ None → (all : List WindowDone) → HasGiven all (into_iter_items pending.old) (into_iter_items dones.old) self.old
+            → HasGiven all (into_iter_items pending.new) (into_iter_items dones.new) self.new) }
     {
         let Some(kept) = pending.next() else {
             unreachable!()
@@ -112,10 +116,12 @@ impl Home {
         dones: &mut IntoIter<WindowDone>,
     ) -> Result<(), Failed>
         requires { AreAwaited resting.items (into_iter_items pending.old) (into_iter_items dones.old) }
-        ensures { OnOk result ((i : Inputs) (limit : ℕ) (bounds : List ℕ) (xs : List Resource) (lists : List (Vec Line))
+        ensures home { OnOk result ((i : Inputs) (limit : ℕ) (bounds : List ℕ) (xs : List Resource) (lists : List (Vec Line))
             → resting.items ≡ map resting_of xs
             → IsHomeTo i limit bounds xs lists 0 (into_iter_items pending.old) (into_iter_items dones.old) self.old
             → AreHome i limit bounds xs lists self.new) }
+        ensures lines { OnOk result (All (λ x. x ≡ None) resting.items → self.old.pending.items ≡ []
+            → All (λ p. p.items ≡ []) (into_iter_items pending.old) → AllZip HasLines self.new.pending.items (into_iter_items dones.old)) }
     {
         for rested in resting {
             self.admit(alloc, rested, pending, dones)?;
@@ -135,9 +141,11 @@ pub(crate) fn come_home(
     dones: Vec<WindowDone>,
 ) -> Result<Home, Failed>
     requires { AreAwaited resting.items pending.items dones.items }
-    ensures { IfOk result (λ h. (i : Inputs) (limit : ℕ) (bounds : List ℕ) (xs : List Resource)
+    ensures home { IfOk result (λ h. (i : Inputs) (limit : ℕ) (bounds : List ℕ) (xs : List Resource)
         → resting.items ≡ map resting_of xs → AllZip Does (jobs_of i limit bounds 0 xs) dones.items
         → AreHome i limit bounds xs pending.items h) }
+    ensures lines { IfOk result (λ h. All (λ x. x ≡ None) resting.items → All (λ p. p.items ≡ []) pending.items
+        → AllZip HasLines h.pending.items dones.items) }
 {
     let mut home = Home {
         resources: Vec::new(alloc),

@@ -1,11 +1,14 @@
 //! A resource that leaves, to run below a tick.
 
-ghost use Rattle.std.specs.Prelude.{◌≡◌, ◌^◌, ◌≤◌, None};
+ghost use Rattle.std.specs.Prelude.{◌≡◌, ◌^◌, ◌≤◌, IfSome, None};
 ghost use Rattle.fb_resource.specs.Resources.{IsOf};
 ghost use Rattle.fb_window.specs.Jobs.{Does, MayRun};
+ghost use Rattle.fb_window.specs.Texts.{IsDoneOf, IsTextOf};
 
 use fb_resource::{Resource, WindowDone};
 use fb_system::System;
+use fb_trace::{MarkedText, marked_text};
+use fb_types::Form;
 use std::alloc::Global;
 use std::marker::Model;
 
@@ -29,6 +32,28 @@ impl Model for Job {
     ghost view = { λ j. record { inputs = j.system; steps = j.steps; resource = j.resource; to = j.to } };
 
     ghost invariant = { λ j. MayRun (record { inputs = j.system; steps = j.steps; resource = j.resource; to = j.to }) };
+}
+
+/// The text of the lines that a job gave, if there are this many and there is memory for it.
+fn text_of(
+    alloc: Global,
+    system: &System,
+    form: Form,
+    least: usize,
+    done: &WindowDone,
+) -> Option<MarkedText>
+    requires { IsDoneOf system.now done.now }
+    ensures { IfSome result (IsTextOf system.now form done.now) }
+{
+    match done {
+        WindowDone::Ran { lines, .. } => {
+            if lines.len() < least {
+                return None;
+            }
+            marked_text(alloc, system, form, lines).ok()
+        }
+        WindowDone::NoMemory => None,
+    }
 }
 
 impl Job {
@@ -65,5 +90,27 @@ impl Job {
             to,
         } = self;
         resource.run_to(alloc, &system, to, steps)
+    }
+
+    /// Does what `run` does, and also makes the text of the lines that it gives, if there are this many and there is
+    /// memory for it.
+    pub fn run_with_text(
+        self,
+        alloc: Global,
+        form: Form,
+        least: usize,
+    ) -> (WindowDone, Option<MarkedText>)
+        ensures does { Does self result.0 }
+        ensures text { IfSome result.1 (IsTextOf self.inputs form result.0) }
+    {
+        let Job {
+            system,
+            steps,
+            resource,
+            to,
+        } = self;
+        let done = resource.run_to(alloc, &system, to, steps);
+        let text = text_of(alloc, &system, form, least, &done);
+        (done, text)
     }
 }

@@ -1,7 +1,7 @@
 //! How resources come home.
 
 ghost use Rattle.std.specs.Global.{Vec};
-ghost use Rattle.std.specs.Prelude.{◌≡◌, ℕ, List, All, IfOk};
+ghost use Rattle.std.specs.Prelude.{◌≡◌, ℕ, [], List, All, IfOk, IsTrue, None};
 ghost use Rattle.std.specs.List.{AllZip};
 ghost use Rattle.fb_types.specs.Cores.{CoreStep};
 ghost use Rattle.fb_types.specs.Headline.{stimuli_of};
@@ -16,6 +16,7 @@ ghost use Rattle.fb_window.specs.Leaving.{AreLegal, HasLeft};
 ghost use Rattle.fb_window.specs.Reached.{IsAway};
 ghost use Rattle.fb_window.specs.Settling.{IsMerged, Settles, lists_of, reach_of, settled_of};
 ghost use Rattle.fb_window.specs.Standing.{IsAt};
+ghost use Rattle.fb_window.specs.Texts.{KeepsNothing, IsFrontOf};
 
 use crate::bounds::least_next;
 use crate::cores::{Away, AwayState, Core, CoreState, Failed, Reach, Settled};
@@ -25,7 +26,7 @@ use crate::frontier::frontier_of;
 use crate::home::come_home;
 use crate::paired::paired;
 use crate::post::post;
-use fb_resource::WindowDone;
+use fb_resource::{Resource, WindowDone};
 use fb_system::System;
 use fb_trace::merge;
 use fb_types::Line;
@@ -51,6 +52,7 @@ impl AwayState {
             → AreLegal self.system self.steps self.horizon (core_of self.system self.steps es) bounds
             → Settles self.system self.steps self.horizon es bounds (lists_of self.pending.items) workers (settled_of r.0 all)) }
         ensures belong { IfOk result (λ r. All (λ p. All (BelongsTo self.system) p.items) r.1.items) }
+        ensures fronts { KeepsNothing self → IfOk result (λ r. AllZip IsFrontOf r.1.items dones.items) }
     {
         system.facts();
         let home = come_home(alloc, self.resting, self.pending, dones)?;
@@ -95,7 +97,38 @@ fn settled(reach: Reach, lines: Vec<Line>) -> Settled
     }
 }
 
+/// Whether no line is in any list.
+fn are_all_empty(lists: &[Vec<Line>]) -> bool
+    ensures { IsTrue result → All (λ p. p.items ≡ []) lists.now }
+{
+    for list in lists {
+        if !list.is_empty() {
+            return false;
+        }
+    }
+    true
+}
+
+/// Whether no resource rests.
+fn have_all_left(resting: &[Option<Resource>]) -> bool
+    ensures { IsTrue result → All (λ x. x ≡ None) resting.now }
+{
+    for rested in resting {
+        if rested.is_some() {
+            return false;
+        }
+    }
+    true
+}
+
 impl Away {
+    /// Whether no line is kept and each resource has left with a job.
+    pub fn keeps_nothing(&self) -> bool
+        ensures { IsTrue result → KeepsNothing self.now }
+    {
+        are_all_empty(&self.state.pending) && have_all_left(&self.state.resting)
+    }
+
     /// Puts all resources back, with what became of each job in the jobs' order, exchanges their messages, and hands
     /// out the lines that have become final.
     ///
@@ -141,6 +174,7 @@ impl Away {
             → AreLegal self.system self.steps self.horizon (core_of self.system self.steps es) bounds
             → Settles self.system self.steps self.horizon es bounds (lists_of self.pending.items) workers (settled_of r.0 all)) }
         ensures belong { IfOk result (λ r. All (λ p. All (BelongsTo self.system) p.items) r.1.items) }
+        ensures fronts { KeepsNothing self → IfOk result (λ r. AllZip IsFrontOf r.1.items dones.items) }
     {
         let Away { state } = self;
         state.settle_apart(alloc, system, dones)

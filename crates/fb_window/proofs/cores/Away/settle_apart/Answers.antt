@@ -13,6 +13,7 @@ use Rattle.fb_window.specs.Jobs.{Does}
 use Rattle.fb_window.specs.Leaving.{AreLegal, HasLeft}
 use Rattle.fb_window.specs.Settling.{IsMerged, Settles, lists_of, settled_of}
 use Rattle.fb_window.specs.Standing.{IsAt}
+use Rattle.fb_window.specs.Texts.{IsFrontOf, KeepsNothing}
 use Rattle.fb_window.specs.declared.cores.AwayState.{AwayState}
 use Rattle.fb_window.proofs.cores.Away.settle_apart.Goals as goal
 
@@ -33,3 +34,7 @@ returns-clause-settles c =
 pub returns-clause-belong : goal.returns-clause-belong
 returns-clause-belong c =
     subst (λ (a : AwayState). IfOk c.settle_apart.result (λ r. All (λ (p : Vec Line). All (BelongsTo (system_of a.system)) p.items) r.1.items)) c.self.view_is c.settle_apart.ensures.belong
+
+pub returns-clause-fronts : goal.returns-clause-fronts
+returns-clause-fronts c =
+    subst (λ (a : AwayState). KeepsNothing a → IfOk c.settle_apart.result (λ r. AllZip IsFrontOf r.1.items c.args.dones.items)) c.self.view_is c.settle_apart.ensures.fronts

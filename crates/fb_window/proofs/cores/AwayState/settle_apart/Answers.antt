@@ -17,6 +17,7 @@ use Rattle.fb_trace.proofs.Together.{kept}
 use Rattle.fb_window.specs.Settling.{IsMerged}
 use Rattle.fb_window.specs.Frontiers.{AreCut, IsEnd, IsFrontier, edge_of}
 use Rattle.fb_window.specs.Mails.{ArePosted}
+use Rattle.fb_window.proofs.Given.{fronts_given}
 use Rattle.fb_window.proofs.Passes.{few_resources}
 use Rattle.fb_window.proofs.Rounds.{HasGathered, settle_each, settle_reached}
 use Rattle.fb_window.proofs.Walks.{made_ok}
@@ -44,7 +45,7 @@ post-posted-requires-clause-counted c =
     let a = c.args.self in
     let b = c.requires.away in
     let done = subst (λ z. AllZip Does z c.args.dones.items) b.left.jobs c.requires.done in
-    let home : AreHome a.system a.steps b.bounds b.resources a.pending.items c.in_ok-home.home = c.in_ok-home.ensures a.system a.steps b.bounds b.resources b.left.resting done in
+    let home : AreHome a.system a.steps b.bounds b.resources a.pending.items c.in_ok-home.home = c.in_ok-home.ensures.home a.system a.steps b.bounds b.resources b.left.resting done in
     home.resources ∙ b.left.counted ∙ ap (λ (i : Inputs). length (system_of i).resource_names) (sym c.requires.system)
 
 pub post-posted-requires-clause-targets : goal.post-posted-requires-clause-targets
@@ -52,7 +53,7 @@ post-posted-requires-clause-targets c =
     let a = c.args.self in
     let b = c.requires.away in
     let done = subst (λ z. AllZip Does z c.args.dones.items) b.left.jobs c.requires.done in
-    let home = c.in_ok-home.ensures a.system a.steps b.bounds b.resources b.left.resting done in
+    let home = c.in_ok-home.ensures.home a.system a.steps b.bounds b.resources b.left.resting done in
     subst (λ (i : Inputs). All (λ box. All (λ m. m.target.instance < length (system_of i).paths) box.items) c.in_ok-home.home.outboxes.items) (sym c.requires.system)
     (targets_in a.system a.steps b.bounds b.resources a.pending.items c.in_ok-home.home home)
 
@@ -61,7 +62,7 @@ end_of-end-requires c =
     let a = c.args.self in
     let b = c.requires.away in
     let done = subst (λ z. AllZip Does z c.args.dones.items) b.left.jobs c.requires.done in
-    let home : AreHome a.system a.steps b.bounds b.resources a.pending.items c.in_ok-home.home = c.in_ok-home.ensures a.system a.steps b.bounds b.resources b.left.resting done in
+    let home : AreHome a.system a.steps b.bounds b.resources a.pending.items c.in_ok-home.home = c.in_ok-home.ensures.home a.system a.steps b.bounds b.resources b.left.resting done in
     let good : AreGood a.system = record {
       accepted = subst AreAccepted c.requires.system c.facts.ensures.accepted;
       limits = subst (λ (i : Inputs). IsWithinLimits i.plan) c.requires.system c.facts.ensures.limits;
@@ -93,7 +94,7 @@ came c =
     let b = c.requires.away in
     let done = subst (λ z. AllZip Does z c.args.dones.items) b.left.jobs c.requires.done in
     let h = c.in_ok-home.home in
-    let home : AreHome a.system a.steps b.bounds b.resources a.pending.items h = c.in_ok-home.ensures a.system a.steps b.bounds b.resources b.left.resting done in
+    let home : AreHome a.system a.steps b.bounds b.resources a.pending.items h = c.in_ok-home.ensures.home a.system a.steps b.bounds b.resources b.left.resting done in
     lines_belong a.system a.steps b.bounds b.resources a.pending.items h home b.belong
 
 -- what the answers rest on
@@ -108,7 +109,7 @@ gathered c =
         accepted = subst AreAccepted c.requires.system c.facts.ensures.accepted;
         limits = subst (λ (i : Inputs). IsWithinLimits i.plan) c.requires.system c.facts.ensures.limits;
       };
-      home = λ bounds xs same jobs. c.in_ok-home.ensures a.system a.steps bounds xs same jobs;
+      home = λ bounds xs same jobs. c.in_ok-home.ensures.home a.system a.steps bounds xs same jobs;
       found = record {
         least = least;
         edge = edge;
@@ -149,3 +150,9 @@ returns-clause-settles c = λ all m xs bounds es workers left sc at legal.
 
 pub returns-clause-belong : goal.returns-clause-belong
 returns-clause-belong c = finals (goal.at.returns-clause-belong c).After-end_of-end
+
+pub returns-clause-fronts : goal.returns-clause-fronts
+returns-clause-fronts c = λ nothing.
+    let d = (goal.at.returns-clause-fronts c).After-end_of-end in
+    fronts_given (edge_of c.frontier_of-frontier.result) c.in_ok-home.home.pending.items c.in_ok-resources.cut.0.items c.in_ok-resources.cut.1.items c.args.dones.items
+    (found d) (c.in_ok-home.ensures.lines nothing.resting nothing.pending)

@@ -5,8 +5,9 @@ use Rattle.fb_types.specs.declared.run.Line.{Line}
 use Rattle.fb_resource.specs.declared.resource.Resource.{Resource}
 use Rattle.fb_resource.specs.declared.resource.WindowDone.{WindowDone}
 use Rattle.fb_resource.specs.declared.resource.WindowDone.TheVariants.{Ran}
-use Rattle.fb_window.specs.Homes.{AreAwaited, IsHomeTo}
+use Rattle.fb_window.specs.Homes.{AreAwaited, HasGiven, IsHomeTo}
 use Rattle.fb_window.specs.Jobs.{resting_of}
+use Rattle.fb_window.proofs.Given.{given_more}
 use Rattle.fb_window.proofs.HomeIs.{awaited_ran, awaited_rested, done_awaited, home_ran, home_rested, resting_none, resting_some}
 use Rattle.fb_window.proofs.Walks.{no_length}
 use Rattle.fb_window.proofs.home.Home.admit.Goals as goal
@@ -67,3 +68,14 @@ unreachable-requires-in-None c =
     done_awaited c.requires.0 (into_iter_items c.args.pending.now)
     (subst (λ (z : List WindowDone). AreAwaited (None ∷ c.requires.0) (into_iter_items c.args.pending.now) z) none
     (subst (λ (o : Option Resource). AreAwaited (o ∷ c.requires.0) (into_iter_items c.args.pending.now) (into_iter_items c.args.dones.now)) c.in_default-rested.is c.requires.1))
+
+pub returns-in_ok-push-in-Some-Ran-clause-given : goal.returns-in_ok-push-in-Some-Ran-clause-given
+returns-in_ok-push-in-Some-Ran-clause-given c = λ none all given.
+    let first : into_iter_items c.args.pending.now ≡ c.in-Some.kept ∷ into_iter_items c.next.new.self = c.in-Some.ensures.items in
+    let done : into_iter_items c.args.dones.now ≡ Ran c.in-Some-Ran.resource c.in-Some-Ran.lines c.in-Some-Ran.sent c.in-Some-Ran.field-0-3 ∷ into_iter_items c.next-2.new.self =
+    c.in-Some-Ran.ensures.items ∙ ap (λ (z : WindowDone). z ∷ into_iter_items c.next-2.new.self) c.in-Some-Ran.field-0-is in
+    given_more all c.in-Some.kept c.in-Some-Ran.lines c.in_ok-keep-in-Some-Ran.field-0 (into_iter_items c.next.new.self) c.in-Some-Ran.resource c.in-Some-Ran.sent c.in-Some-Ran.field-0-3
+    (into_iter_items c.next-2.new.self) c.args.self.now c.push-in-Some-Ran.new.self
+    (subst (λ (z : List WindowDone). HasGiven all (c.in-Some.kept ∷ into_iter_items c.next.new.self) z c.args.self.now) done
+    (subst (λ (z : List (Vec Line)). HasGiven all z (into_iter_items c.args.dones.now) c.args.self.now) first given))
+    c.in_ok-push-in-Some-Ran.ensures.pending c.in_ok-keep-in-Some-Ran.ensures

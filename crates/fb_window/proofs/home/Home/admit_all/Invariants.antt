@@ -1,10 +1,11 @@
-use Rattle.std.proofs.Common.{◌≡◌, ◌++◌, ℕ, List, length, map}
+use Rattle.std.proofs.Common.{◌≡◌, ◌++◌, ℕ, All, List, None, length, map}
 use Rattle.std.specs.Global.{Vec}
 use Rattle.std.specs.Vec.Iter.{into_iter_items, into_iter_len}
 use Rattle.fb_types.specs.Headline.{Inputs}
 use Rattle.fb_types.specs.declared.run.Line.{Line}
 use Rattle.fb_resource.specs.declared.resource.Resource.{Resource}
-use Rattle.fb_window.specs.Homes.{AreAwaited, IsHomeTo}
+use Rattle.fb_resource.specs.declared.resource.WindowDone.{WindowDone}
+use Rattle.fb_window.specs.Homes.{AreAwaited, HasGiven, IsHomeTo}
 use Rattle.fb_window.specs.Jobs.{resting_of}
 use Rattle.fb_window.proofs.home.Home.admit_all.Given as goal
 
@@ -13,6 +14,8 @@ invariant-loop-rested l = record {
   home : (i : Inputs) (limit : ℕ) (bounds : List ℕ) (xs : List Resource) (lists : List (Vec Line)) → l.fn.resting.items ≡ map resting_of xs
       → IsHomeTo i limit bounds xs lists 0 (into_iter_items l.initial.pending) (into_iter_items l.initial.dones) l.initial.self
       → IsHomeTo i limit bounds xs lists (length l.yielded) (into_iter_items l.pending) (into_iter_items l.dones) l.self;
+  given : All (λ x. x ≡ None) l.fn.resting.items → (all : List WindowDone)
+      → HasGiven all (into_iter_items l.initial.pending) (into_iter_items l.initial.dones) l.initial.self → HasGiven all (into_iter_items l.pending) (into_iter_items l.dones) l.self;
   awaited : AreAwaited (into_iter_items l.rested-iterator) (into_iter_items l.pending) (into_iter_items l.dones);
   rest : l.yielded ++ into_iter_items l.rested-iterator ≡ l.fn.resting.items;
   len : into_iter_len l.rested-iterator ≡ length (into_iter_items l.rested-iterator);
