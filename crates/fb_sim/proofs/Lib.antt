@@ -3,6 +3,7 @@ pub mod AgendaIs
 mod Coming
 mod CrewCrossing
 pub mod Crossing
+pub mod Cutting
 pub mod DeliverIs
 pub mod Edges
 mod Ending
@@ -30,3 +31,5 @@ pub mod Weaving
 pub mod Putting
 pub mod Sorting
 pub mod HandedOut
+pub mod TextsAre
+pub mod TextedSends

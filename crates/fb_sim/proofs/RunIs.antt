@@ -1,9 +1,10 @@
 -- Round after round, and what a whole run has written.
-use Rattle.std.proofs.Common.{◌≡◌, ℕ, ◌+◌, ◌<◌, List, [], ◌∷◌, ◌++◌, map, length, All, Option, Result, Ok, Err, IfErr, inl, inr, ⊎_elim, refl, sym, ap, ◌∙◌, subst, arith, append_assoc, append-nil, length-append}
+use Rattle.std.proofs.Common.{◌≡◌, ℕ, ◌+◌, ◌<◌, List, [], ◌∷◌, ◌++◌, map, length, All, Option, None, Result, Ok, Err, IfErr, inl, inr, ⊎_elim, refl, sym, ap, ◌∙◌, subst, arith, append_assoc, append-nil, length-append}
 use Rattle.std.specs.Global.{Global, Vec}
 use Rattle.std.proofs.lemmas.List.{length-map}
 use Rattle.std.proofs.lemmas.List.Elements.{All-nil}
 use Rattle.std.proofs.lemmas.List.Sorted.{length_permutation}
+use Rattle.std.specs.Prelude.{IfSome}
 use Rattle.std.specs.Io.KnownBytes.{Appends}
 use Rattle.std.specs.Result.{IsErrAnd}
 use Rattle.std.proofs.KnownBytes.{Appends-nil, Appends-trans}
@@ -34,7 +35,9 @@ use Rattle.fb_sim.specs.declared.drive.Finish.TheVariants.{AtEnd, AtMark}
 use Rattle.fb_sim.specs.declared.options.Options.{Options}
 use Rattle.fb_sim.specs.declared.outcome.RunError.{RunError}
 use Rattle.fb_sim.specs.declared.outcome.RunError.TheVariants.{Refused, Memory, Write, BadOption, Failed}
+use Rattle.fb_sim.specs.Texts.{AreTextsOf}
 use Rattle.fb_sim.specs.declared.held.Held.{Held}
+use Rattle.fb_sim.specs.declared.marked.FinalTexts.{FinalTexts}
 use Rattle.fb_sim.specs.declared.progress.Round.{Round}
 use Rattle.fb_sim.specs.declared.progress.Round.TheVariants.{Going, Ended, Stopped}
 use Rattle.fb_sim.specs.declared.tally.Tally.{Tally}
@@ -133,14 +136,15 @@ pub record CameLast (i : Inputs) (o : Options) (ls : List Line) (round : Round) 
 
 module _ (i : Inputs) (o : Options) (ls : List Line) where
   -- nothing is held
-  pub came_first : (core : CoreState) (held : Held) (old : Option (List ℕ)) → held.lists.items ≡ [] → held.count ≡ 0 → HasCome i o.steps o.horizon core ls → Came i o ls core held old old (record { bytes = 0; lines = 0 }) 0
-  came_first core held old none zero_held h = record {
+  pub came_first : (core : CoreState) (held : Held) (old : Option (List ℕ)) → held.lists.items ≡ [] → held.count ≡ 0 → held.texts ≡ None → HasCome i o.steps o.horizon core ls → Came i o ls core held old old (record { bytes = 0; lines = 0 }) 0
+  came_first core held old none zero_held no_texts h = record {
     out = [];
     holds = record {
       of = record {
         belong = subst (λ (vs : Lists). All (λ p. All (BelongsTo (system_of i)) p.items) vs) (sym none) (All-nil (λ (p : Vec run.Line). All (BelongsTo (system_of i)) p.items));
         counted = zero_held ∙ ap (λ (vs : Lists). length (flat vs)) (sym none);
         few = omega (arith, zero_held);
+        texts = subst (λ (t : Option FinalTexts). IfSome t (AreTextsOf i held.lists.items)) (sym no_texts) tt;
       };
       come = λ all m.
           come_as i o.steps o.horizon core ls ((ls ++ []) ++ lines_in i all)

@@ -11,4 +11,6 @@ pub mod Rounds
 pub mod Sessions
 pub mod Advances
 pub mod Reports
+pub mod Texts
 pub mod Weaving
+pub mod Joining

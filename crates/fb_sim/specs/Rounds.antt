@@ -1,5 +1,5 @@
 -- A run with workers, round after round (this project's profile).
-use Rattle.std.specs.Prelude.{◌≡◌, ◌⊎◌, ◌+◌, ◌<◌, ◌^◌, ℕ, List, ◌++◌, map, length, All, Option, Result, Ok, Err}
+use Rattle.std.specs.Prelude.{◌≡◌, ◌⊎◌, ◌+◌, ◌<◌, ◌^◌, ℕ, List, ◌++◌, map, length, All, Option, Result, Ok, Err, IfSome}
 use Rattle.std.specs.Global.{Vec}
 use Rattle.std.specs.Io.KnownBytes.{Appends}
 use Rattle.fb_types.specs.Headline.{Inputs, system_of, stimuli_of}
@@ -34,6 +34,7 @@ use Rattle.fb_sim.specs.declared.outcome.RunError.{RunError}
 use Rattle.fb_sim.specs.declared.outcome.RunError.TheVariants.{Refused, Memory, Write, BadOption, Failed}
 use Rattle.fb_sim.specs.declared.drive.Finish.{Finish}
 use Rattle.fb_sim.specs.declared.drive.Finish.TheVariants.{AtEnd, AtMark}
+use Rattle.fb_sim.specs.Texts.{AreTextsOf}
 use Rattle.fb_sim.specs.declared.held.Held.{Held}
 use Rattle.fb_sim.specs.declared.progress.Round.{Round}
 use Rattle.fb_sim.specs.declared.progress.Round.TheVariants.{Going, Ended, Stopped}
@@ -164,6 +165,7 @@ pub record IsHeldOf (i : Inputs) (held : Held) : Type 0 where
   pub belong : All (λ p. All (BelongsTo (system_of i)) p.items) held.lists.items
   pub counted : held.count ≡ length (flat held.lists.items)
   pub few : held.count < 10 ^ 12
+  pub texts : IfSome held.texts (AreTextsOf i held.lists.items)
 
 -- Some steps, each in its turn, led to the core. These lines were handed out of it, and then those that are held, whichever list in the order of the trace they become.
 pub record HoldsTo (i : Inputs) (limit horizon : ℕ) (core : CoreState) (held : Held) (ls : List Line) : Type 0 where

@@ -1,17 +1,25 @@
 //! Lines that have become final and are not written yet.
 
-ghost use Rattle.std.specs.Prelude.{◌≡◌, ◌<◌, ◌^◌, [], List, map, length, All, IfErr, IfOk};
+ghost use Rattle.std.specs.Prelude.{◌≡◌, ◌<◌, ◌^◌, [], List, map, length, All, IfErr, IfOk, IfSome, None};
+ghost use Rattle.std.specs.List.{AllZip};
+ghost use Rattle.fb_types.specs.Headline.{Inputs};
+ghost use Rattle.fb_types.specs.declared.run.Form.{Form};
+ghost use Rattle.fb_types.specs.declared.run.Line.{Line};
 ghost use Rattle.fb_system.specs.OfSystem.{BelongsTo};
+ghost use Rattle.fb_trace.specs.Marks.{IsMarkedText};
 ghost use Rattle.fb_trace.specs.Merging.{flat};
 ghost use Rattle.fb_sim.specs.Rounds.{FailsToHandOut, HandsOut, IsHeldOf};
+ghost use Rattle.fb_sim.specs.Texts.{AreHeldIn};
 ghost use Rattle.fb_sim.specs.Weaving.{IsWovenText, all_bytes};
 ghost use Rattle.fb_sim.specs.declared.outcome.RunError.TheVariants.{Memory};
 
+use crate::joining::joined_text;
+use crate::marked::FinalTexts;
 use crate::outcome::RunError;
 use crate::printing::texts_of;
 use crate::rounds::hand_out;
 use fb_system::System;
-use fb_trace::merge;
+use fb_trace::{MarkedText, merge};
 use fb_types::{Form, Line};
 use fb_window::Core;
 use std::alloc::{AllocError, Global};
@@ -60,6 +68,17 @@ fn are_many(lists: &[Vec<Line>], count: usize) -> bool {
     count >= MANY || (count >= FEW && are_close(lists, count))
 }
 
+/// The text of all lists in one part, joined from that of each.
+fn joined(alloc: Global, texts: &[MarkedText]) -> Result<Vec<Vec<u8>>, AllocError>
+    ensures { (i : Inputs) (form : Form) (lists : List (List Line)) → AllZip (IsMarkedText i form) lists texts.now
+        → IfOk result (λ v. IsWovenText i form lists (all_bytes v.items)) }
+{
+    let text = joined_text(alloc, texts)?;
+    let mut parts = Vec::new(alloc);
+    parts.push(text)?;
+    Ok(parts)
+}
+
 /// Lines that have become final and are not written yet: the next round writes them.
 #[derive(Drop)]
 pub(crate) struct Held {
@@ -67,6 +86,8 @@ pub(crate) struct Held {
     lists: Vec<Vec<Line>>,
     /// How many lines they are.
     count: usize,
+    /// For each resource the text of its lines, where workers made it.
+    texts: Option<FinalTexts>,
 }
 
 impl Held {
@@ -74,19 +95,22 @@ impl Held {
     pub(crate) fn none(alloc: Global) -> Held
         ensures lists { result.lists.items ≡ [] }
         ensures count { result.count ≡ 0 }
+        ensures texts { result.texts ≡ None }
     {
         Held {
             lists: Vec::new(alloc),
             count: 0,
+            texts: None,
         }
     }
 
-    /// The lines of lists, one for each resource.
+    /// The lines of lists, one for each resource, with the text of each if it was made.
     ///
     /// # Errors
     /// `Memory` if there are 10^12 lines.
-    pub(crate) fn of(lists: Vec<Vec<Line>>) -> Result<Held, RunError>
+    pub(crate) fn of(lists: Vec<Vec<Line>>, texts: Option<FinalTexts>) -> Result<Held, RunError>
         ensures lists { IfOk result (λ h. h.lists ≡ lists) }
+        ensures texts { IfOk result (λ h. h.texts ≡ texts) }
         ensures count { IfOk result (λ h. h.count ≡ length (flat lists.items)) }
         ensures few { IfOk result (λ h. h.count < 10 ^ 12) }
         ensures memory { IfErr result (λ e. e ≡ Memory) }
@@ -95,7 +119,11 @@ impl Held {
         if count >= MOST {
             return Err(RunError::Memory);
         }
-        Ok(Held { lists, count })
+        Ok(Held {
+            lists,
+            count,
+            texts,
+        })
     }
 
     /// How many lines they are.
@@ -107,10 +135,28 @@ impl Held {
 
     /// Whether another thread makes their text, where a run has this many workers.
     pub(crate) fn is_shared(&self, workers: u64) -> bool {
-        workers > 1 && are_many(&self.lists, self.count)
+        workers > 1 && (self.texts.is_some() || are_many(&self.lists, self.count))
     }
 
-    /// Their text in parts, one after another, each of which one of this many threads makes.
+    /// The text of each list in a form, where workers made it.
+    fn texts_in(&self, form: Form) -> Option<&[MarkedText]>
+        ensures { IfSome result (λ s. AreHeldIn form self.now.texts s.now) }
+    {
+        let texts = self.texts.as_ref()?;
+        if texts.form == form {
+            Some(texts.all.as_slice())
+        } else {
+            None
+        }
+    }
+
+    /// Whether workers made the text of each list, which is only to be joined.
+    pub(crate) fn has_text(&self) -> bool {
+        self.texts.is_some()
+    }
+
+    /// Their text in parts, one after another, each of which one of this many threads makes. Where workers made that of
+    /// each list, this thread joins them.
     ///
     /// # Errors
     /// When memory runs out.
@@ -122,10 +168,13 @@ impl Held {
         form: Form,
         threads: usize,
     ) -> Result<Vec<Vec<u8>>, AllocError>
-        requires { All (λ p. All (BelongsTo system.now) p.items) self.now.lists.items }
+        requires { IsHeldOf system.now self.now }
         ensures { IfOk result (λ v. IsWovenText system.now form (map (λ p. p.items) self.now.lists.items) (all_bytes v.items)) }
     {
-        texts_of(rt, alloc, system, form, &self.lists, threads)
+        match self.texts_in(form) {
+            Some(texts) => joined(alloc, texts),
+            None => texts_of(rt, alloc, system, form, &self.lists, threads),
+        }
     }
 
     /// Writes them in the order of the trace. It answers how many bytes they have, and how many they are.

@@ -6,37 +6,45 @@
 //! board with one worker. Both write the same lines.
 
 ghost use Rattle.std.specs.Global.{Vec};
-ghost use Rattle.std.specs.Prelude.{◌≡◌, ◌≤◌, List, map, length, vec_len, All, IfOk, IfErr, IfSome};
+ghost use Rattle.std.specs.Prelude.{◌≡◌, ◌≤◌, ℕ, List, map, length, vec_len, All, IfOk, IfErr, IfSome};
 ghost use Rattle.std.specs.Io.KnownBytes.{Appends};
 ghost use Rattle.std.specs.List.{AllZip};
+ghost use Rattle.fb_types.specs.Cores.{CoreStep};
+ghost use Rattle.fb_types.specs.Headline.{stimuli_of};
+ghost use Rattle.fb_types.specs.Schedules.{IsSchedule};
 ghost use Rattle.fb_types.specs.States as model;
 ghost use Rattle.fb_types.specs.declared.run.Line.{Line};
-ghost use Rattle.fb_types.specs.OfSystem.{line_of, lines_text};
+ghost use Rattle.fb_types.specs.OfSystem.{line_of, lines_text, machine, opening_core};
 ghost use Rattle.fb_trace.specs.Progress.{bounded};
 ghost use Rattle.fb_laws.specs.Finality.{core_of};
 ghost use Rattle.fb_system.specs.OfSystem.{BelongsTo};
 ghost use Rattle.fb_window.specs.Jobs.{Does};
+ghost use Rattle.fb_window.specs.Leaving.{AreLegal, HasLeft};
 ghost use Rattle.fb_window.specs.Reached.{KeepHorizon};
-ghost use Rattle.fb_window.specs.Settling.{IsMerged, settled_of};
+ghost use Rattle.fb_window.specs.Settling.{IsMerged, Settles, lists_of, settled_of};
+ghost use Rattle.fb_window.specs.Standing.{IsAt};
+ghost use Rattle.fb_resource.specs.declared.resource.Resource.{Resource};
 ghost use Rattle.fb_sim.specs.Serial.{AreWithin};
 ghost use Rattle.fb_sim.specs.Rounds as spec;
 ghost use Rattle.fb_sim.specs.Rounds.{RoundsWithCounts, HasCome, HasWalked, HoldsTo, IsHeldOf, IsHomeAgain, IsHomeOnce, IsOnItsWay, Rounds, WritesPartOf, lines_out};
+ghost use Rattle.fb_sim.specs.Texts.{AreDone, HasText};
 ghost use Rattle.fb_sim.specs.Weaving.{IsWovenText, all_bytes};
 ghost use Rattle.fb_sim.specs.declared.outcome.RunError.TheVariants.{Memory};
 
 use crate::held::{Held, Standing};
+use crate::marked::final_texts;
 use crate::options::Options;
 use crate::outcome::RunError;
 use crate::printing::write_texts;
 use crate::progress::Round;
 use crate::tally::{LONGEST_WINDOW, RoundPlan, Tally};
-use crate::work::{Hands, Windows};
+use crate::work::{BareWindows, Dones, Hands, apart};
 use fb_phase::{Gate, run_all};
 use fb_resource::WindowDone;
 use fb_system::System;
 use fb_trace::write_lines_with_count;
 use fb_types::{Form, Line};
-use fb_window::{Core, Job, Reach, Settled};
+use fb_window::{Away, Core, Job, Reach, Settled};
 use std::alloc::{AllocError, Global};
 use std::io::Write;
 use std::sync::Wait;
@@ -93,35 +101,37 @@ fn run_here<R: Wait, P: Gate>(
     Ok(dones)
 }
 
-/// Runs all jobs, and gives what was made of each in their order.
+/// Runs all jobs, and gives what was made of each in their order, with the texts that workers made.
 fn run_jobs<R: Threads + Wait + Sync, P: Gate>(
     rt: &R,
     alloc: Global,
     jobs: Vec<Job>,
     workers: usize,
     hands: &Hands<'_, P>,
-) -> Result<Vec<WindowDone>, RunError>
+) -> Result<Dones, RunError>
     requires few_jobs { vec_len jobs ≤ 256 }
     requires some { 1 ≤ workers }
     requires few { workers ≤ 64 }
-    ensures done { IfOk result (λ v. AllZip Does jobs.items v.items) }
+    ensures done { IfOk result (AreDone jobs.items) }
     ensures memory { IfErr result (λ e. e ≡ Memory) }
 {
     if workers == 1 {
-        return Ok(run_here(rt, alloc, jobs, hands.gate)?);
+        let dones = run_here(rt, alloc, jobs, hands.gate)?;
+        return Ok(Dones { dones, texts: None });
     }
-    Ok(hands.run(rt, alloc, jobs, workers)?)
+    let all = hands.run(rt, alloc, jobs, workers)?;
+    Ok(apart(alloc, all)?)
 }
 
 /// The text of fewer lines than this is made before a thread that helps has started.
 const LONG_TEXT: usize = 8192;
 
-/// How many threads make the text of this many lines while a crew of this many workers runs jobs. With four workers one
-/// thread would mostly take longer for it than the others for the jobs.
-fn text_threads(workers: usize, lines: usize) -> usize
+/// How many threads make the text of lines while a crew of this many workers runs jobs. With four workers one thread
+/// would mostly take longer for it than the others for the jobs, but not where it only joins the texts of jobs.
+fn text_threads(workers: usize, held: &Held) -> usize
     ensures { 1 ≤ result }
 {
-    if lines < LONG_TEXT {
+    if held.has_text() || held.count() < LONG_TEXT {
         return 1;
     }
     (workers / 2).max(1)
@@ -140,22 +150,23 @@ fn run_jobs_and_text<R: Threads + Wait + Sync, P: Gate>(
     busy: usize,
     held: Held,
     hands: &Hands<'_, P>,
-) -> Result<(Vec<Vec<u8>>, Vec<WindowDone>), RunError>
+) -> Result<(Vec<Vec<u8>>, Dones), RunError>
     requires options { AreWithin options }
     requires few_jobs { vec_len jobs ≤ 256 }
     requires held { IsHeldOf system.now held }
     ensures text { IfOk result (λ r. IsWovenText system.now options.form (map (λ p. p.items) held.lists.items) (all_bytes r.0.items)) }
-    ensures done { IfOk result (λ r. AllZip Does jobs.items r.1.items) }
+    ensures done { IfOk result (λ r. AreDone jobs.items r.1) }
     ensures memory { IfErr result (λ e. e ≡ Memory) }
 {
     let form = options.form;
     let workers = options.workers as usize;
     let Some(crew) = hands.crew else {
-        let dones = run_jobs(rt, alloc, jobs, workers_for(busy, options.workers), hands)?;
+        let seats = workers_for(busy, options.workers);
+        let dones = run_jobs(rt, alloc, jobs, seats, hands)?;
         let texts = held.text(rt, alloc, system, form, workers)?;
         return Ok((texts, dones));
     };
-    let threads = text_threads(workers, held.count());
+    let threads = text_threads(workers, &held);
     let seats = workers_for(busy.saturating_add(1), options.workers);
     let late = (threads - 1).saturating_sub(workers.saturating_sub(seats));
     let mut phase = crew.begin(rt, alloc, jobs, seats, late)?;
@@ -164,8 +175,8 @@ fn run_jobs_and_text<R: Threads + Wait + Sync, P: Gate>(
     // To drop many lines takes a while: by now all others run jobs.
     drop(held);
     // Also where there is no memory for the text, the phase is finished.
-    let dones = crew.finish(rt, alloc, &Windows, phase, hands.gate)?;
-    Ok((texts?, dones))
+    let all = crew.finish(rt, alloc, hands.work, phase, hands.gate)?;
+    Ok((texts?, apart(alloc, all)?))
 }
 
 /// Runs all jobs, of which this many are busy, and makes the text of lines if some are held.
@@ -178,18 +189,19 @@ fn run_round<R: Threads + Wait + Sync, P: Gate>(
     busy: usize,
     held: Option<Held>,
     hands: &Hands<'_, P>,
-) -> Result<(Vec<Vec<u8>>, Vec<WindowDone>), RunError>
+) -> Result<(Vec<Vec<u8>>, Dones), RunError>
     requires options { AreWithin options }
     requires few_jobs { vec_len jobs ≤ 256 }
     requires held { IfSome held (IsHeldOf system.now) }
     ensures text { IfOk result (λ r. IfSome held (λ h. IsWovenText system.now options.form (map (λ p. p.items) h.lists.items) (all_bytes r.0.items))) }
-    ensures done { IfOk result (λ r. AllZip Does jobs.items r.1.items) }
+    ensures done { IfOk result (λ r. AreDone jobs.items r.1) }
     ensures memory { IfErr result (λ e. e ≡ Memory) }
 {
     match held {
         Some(held) => run_jobs_and_text(rt, alloc, system, options, jobs, busy, held, hands),
         None => {
-            let dones = run_jobs(rt, alloc, jobs, workers_for(busy, options.workers), hands)?;
+            let seats = workers_for(busy, options.workers);
+            let dones = run_jobs(rt, alloc, jobs, seats, hands)?;
             Ok((Vec::new(alloc), dones))
         }
     }
@@ -245,6 +257,36 @@ impl WindowResult {
     }
 }
 
+/// Puts all resources back with what became of their jobs. The lines that have become final are held, with the text that
+/// workers made of them if it is of use.
+fn settled_apart(
+    alloc: Global,
+    system: &System,
+    form: Form,
+    away: Away,
+    done: Dones,
+) -> Result<(Reach, Held), RunError>
+    requires system { system.now ≡ away.system }
+    requires done { AllZip Does away.jobs.value.items done.dones.items }
+    requires texts { IfSome done.texts (λ ts. AllZip (HasText system.now) done.dones.items ts.items) }
+    ensures settles { IfOk result (λ r. (all : Vec Line) → IsMerged r.1.lists.items all.items
+        → (xs : List Resource) (bounds : List ℕ) (es : List (CoreStep (machine away.system away.steps))) (workers : ℕ → ℕ)
+        → HasLeft xs bounds away
+        → IsSchedule (machine away.system away.steps) away.horizon (opening_core away.system (stimuli_of away.system) away.steps) es
+        → IsAt away.system away.steps (core_of away.system away.steps es) xs
+        → AreLegal away.system away.steps away.horizon (core_of away.system away.steps es) bounds
+        → Settles away.system away.steps away.horizon es bounds (lists_of away.pending.items) workers (settled_of r.0 all)) }
+    ensures held { IfOk result (λ r. IsHeldOf system.now r.1) }
+    ensures memory { IfErr result (λ e. e ≡ Memory) }
+{
+    let Dones { dones, texts } = done;
+    let texts = if away.keeps_nothing() { texts } else { None };
+    let (reach, finals) = away.settle_apart(alloc, system, dones)?;
+    let texts = final_texts(alloc, system, form, &finals, texts)?;
+    let held = Held::of(finals, texts)?;
+    Ok((reach, held))
+}
+
 /// Runs each resource to its bound, with the workers, and puts all back together. A bound is at most this many ticks
 /// past the least event. Meanwhile it makes the text of lines, in parts, if some are held.
 fn window<R: Threads + Wait + Sync, P: Gate>(
@@ -272,10 +314,11 @@ fn window<R: Threads + Wait + Sync, P: Gate>(
     let bounds = core.bounds(options.horizon, ticks);
     let (away, jobs) = core.jobs(alloc, system, bounds)?;
     let busy = busy_in(jobs.as_slice());
-    let (texts, dones) = run_round(rt, alloc, system, options, jobs, busy, held, hands)?;
-    let lines = lines_in(dones.as_slice());
-    let (reach, finals) = away.settle_apart(alloc, system, dones)?;
-    let finals = Held::of(finals)?;
+    // The text of lines that come after others which were kept would be of no use.
+    hands.work.set_text(away.keeps_nothing());
+    let (texts, done) = run_round(rt, alloc, system, options, jobs, busy, held, hands)?;
+    let lines = lines_in(done.dones.as_slice());
+    let (reach, finals) = settled_apart(alloc, system, options.form, away, done)?;
     let result = WindowResult {
         reach,
         finals,
@@ -393,7 +436,7 @@ fn one_phase<R: Threads + Wait + Sync, P: Gate>(
     let bounds = core.bounds(options.horizon, LONGEST_WINDOW);
     let (away, jobs) = core.jobs(alloc, system, bounds)?;
     let workers = options.workers as usize;
-    let dones = run_all(rt, alloc, &Windows, jobs, workers, gate)?;
+    let dones = run_all(rt, alloc, &BareWindows, jobs, workers, gate)?;
     Ok(away.settle(alloc, system, dones)?)
 }
 

@@ -114,11 +114,12 @@ fn run_workers<R: Threads + Wait + Sync, W: Write, P: Gate, C: Clock + CpuClock>
     let threads = threads_for(rt, options.workers);
     let others = (threads - 1) as usize;
     let crew = Crew::new(alloc);
-    let hands = Hands::living(gate, &crew, threads);
+    let work = Windows::new(options.form);
+    let hands = Hands::living(gate, &work, &crew, threads);
     // The first closure gets a thread. If none can be started, it is called last, and ends at once.
     let (_, ended) = join_mut(
         rt,
-        &mut || crew.serve(rt, alloc, &Windows, gate, others),
+        &mut || crew.serve(rt, alloc, &work, gate, others),
         &mut || -> Result<Outcome, RunError>
             requires { AreWithin options }
             ensures { (given : Given) → Declares given system.entry.now → IfOk result (λ o. Writes given options (W.contents out.entry.now) (W.contents out.exit.now) (ending_of o)) × IfErr result (FailsRun given options (W.contents out.entry.now) (W.contents out.exit.now)) }
@@ -156,12 +157,12 @@ fn run_system<R: Threads + Wait + Sync, W: Write, P: Gate, C: Clock + CpuClock>(
 ///
 /// One worker always takes the least event of all, and writes the lines piece by piece, without a gate: it runs as
 /// `run_serial` does. So does any number of workers if there is one resource. Otherwise several run in rounds: each
-/// round runs every resource as far as no message can reach it any more, and then exchanges the messages. The lines
-/// that have become final are written after the next round, and the text of many is made while its workers run. After a
-/// light round the run makes up to 256 turns of single resources, on the calling thread and without a gate. There are
-/// no more workers than processors, but two at least. The text of the first round is gathered in memory. No memory is
-/// allocated between the first byte of a piece or a round and its last. It waits for its workers, and for the gate
-/// where that waits. It reads no clock: `run_with_clock` does.
+/// round runs every resource as far as no message can reach it any more, and then exchanges the messages. Workers make
+/// the text of their lines with their jobs. What has become final is written after the next round, and joined while its
+/// workers run. After a light round the run makes up to 256 turns of single resources, on the calling thread and
+/// without a gate. There are no more workers than processors, but two at least. The text of the first round is gathered
+/// in memory. No memory is allocated between the first byte of a piece or a round and its last. It waits for its
+/// workers, and for the gate where that waits. It reads no clock: `run_with_clock` does.
 ///
 /// # Errors
 /// `BadOption` before all else; then `Refused`, after which nothing was written; `Memory`, after which a beginning of

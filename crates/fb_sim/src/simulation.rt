@@ -12,7 +12,7 @@ use crate::reading::open;
 use crate::runs::{close, open_core};
 use crate::state::{SessionState, Stage};
 use crate::tally::Written;
-use crate::work::Hands;
+use crate::work::{Hands, Windows};
 use fb_phase::Gate;
 use fb_system::System;
 use fb_trace::Outcome;
@@ -157,7 +157,8 @@ impl Simulation {
             workers: self.workers,
             form: self.form,
         };
-        let hands = Hands::started(gate);
+        let work = Windows::new(self.form);
+        let hands = Hands::started(gate, &work);
         let (finish, written) = run_on(rt, self.alloc, &self.system, core, options, out, &hands)?;
         match finish {
             Finish::AtEnd(core) => {

@@ -115,6 +115,7 @@ pub(crate) fn run_first<R: Threads + Wait + Sync, P: Gate, C: Clock>(
         };
         let now = Hands {
             gate: hands.gate,
+            work: hands.work,
             crew,
             threads: hands.threads,
         };

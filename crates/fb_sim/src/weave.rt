@@ -53,7 +53,7 @@ fn least_tick(lists: &[&[Line]]) -> Option<u64>
 }
 
 /// The lesser of two ticks, or the one that is there.
-fn lesser(one: Option<u64>, other: Option<u64>) -> Option<u64>
+pub(crate) fn lesser(one: Option<u64>, other: Option<u64>) -> Option<u64>
     ensures { result ≡ fronts.lesser one other }
 {
     match (one, other) {
@@ -131,7 +131,7 @@ fn append_parts(
 /// A line mostly has no more bytes.
 const LINE_ROOM: usize = 48;
 
-/// So many lines are put in order before their text is made. A processor's cache still holds them then.
+/// This many lines are sorted before their text is made; a processor's cache holds them then.
 const AT_ONCE: usize = 2048;
 
 /// How many lines are in the lists, up to the greatest `usize`.

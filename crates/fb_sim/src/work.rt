@@ -1,21 +1,26 @@
 //! What a worker does with a job, and who the workers are.
 
-ghost use Rattle.std.specs.Prelude.{◌≤◌, IfOk, vec_len};
+ghost use Rattle.std.specs.Prelude.{◌≤◌, List, IfOk, vec_len};
 ghost use Rattle.std.specs.List.{AllZip};
-ghost use Rattle.fb_window.specs.Jobs.{Does};
+ghost use Rattle.fb_window.specs.Jobs.{JobModel};
+ghost use Rattle.fb_sim.specs.Texts.{AreDone, DoesWithText};
 
 use fb_board::{Deal, MAX_SEATS};
 use fb_phase::{Crew, Gate, PhaseError, Work, run_all};
 use fb_resource::WindowDone;
+use fb_trace::MarkedText;
+use fb_types::Form;
 use fb_window::Job;
-use std::alloc::Global;
+use std::alloc::{AllocError, Global};
 use std::sync::Wait;
+use std::sync::atomic::AtomicBool;
+use std::sync::atomic::Ordering::SeqCst;
 use std::thread::Threads;
 
 /// Each job is a resource that runs to its bound.
-pub(crate) struct Windows;
+pub(crate) struct BareWindows;
 
-impl Deal for Windows {
+impl Deal for BareWindows {
     ghost use Rattle.fb_window.specs.Jobs.{Does};
 
     type Job = Job;
@@ -25,16 +30,99 @@ impl Deal for Windows {
     ghost does = { Does };
 }
 
-impl Work for Windows {
+impl Work for BareWindows {
     fn run(&self, alloc: Global, job: Job) -> WindowDone {
         job.run(alloc)
     }
+}
+
+/// What becomes of a resource that ran to its bound, with the text of its lines where it was made.
+#[derive(Drop)]
+pub(crate) struct TextedDone {
+    pub done: WindowDone,
+    pub text: Option<MarkedText>,
+}
+
+/// The text of fewer lines than this is not made with a job.
+const FEW: usize = 32;
+
+/// Each job is a resource that runs to its bound. Where the text of its lines will be of use, the worker makes it too,
+/// while its processor's cache holds them.
+#[derive(Drop)]
+pub(crate) struct Windows {
+    /// The form of the text.
+    form: Form,
+    /// Whether jobs make text.
+    has_text: AtomicBool,
+}
+
+impl Windows {
+    /// Jobs that make no text yet.
+    pub(crate) fn new(form: Form) -> Windows {
+        Windows {
+            form,
+            has_text: AtomicBool::new(false),
+        }
+    }
+
+    /// Lets the jobs of the next round make text in the form of the run, or not.
+    pub(crate) fn set_text(&self, has_text: bool) {
+        self.has_text.store(has_text, SeqCst);
+    }
+}
+
+impl Deal for Windows {
+    ghost use Rattle.fb_sim.specs.Texts.{DoesWithText};
+
+    type Job = Job;
+
+    type Done = TextedDone;
+
+    ghost does = { DoesWithText };
+}
+
+impl Work for Windows {
+    fn run(&self, alloc: Global, job: Job) -> TextedDone {
+        if !self.has_text.load(SeqCst) {
+            let done = job.run(alloc);
+            return TextedDone { done, text: None };
+        }
+        let (done, text) = job.run_with_text(alloc, self.form, FEW);
+        TextedDone { done, text }
+    }
+}
+
+/// What becomes of all jobs of a round, in their order.
+#[derive(Drop)]
+pub(crate) struct Dones {
+    pub dones: Vec<WindowDone>,
+    /// For each the text of its lines, if it was made. There are none where no worker ran the jobs.
+    pub texts: Option<Vec<Option<MarkedText>>>,
+}
+
+/// What becomes of all jobs, with the texts apart.
+pub(crate) fn apart(alloc: Global, all: Vec<TextedDone>) -> Result<Dones, AllocError>
+    ensures { (jobs : List JobModel) → AllZip DoesWithText jobs all.items → IfOk result (AreDone jobs) }
+{
+    let mut dones = Vec::with_capacity(alloc, all.len())?;
+    let mut texts = Vec::with_capacity(alloc, all.len())?;
+    for one in all {
+        let TextedDone { done, text } = one;
+        dones.push(done)?;
+        texts.push(text)?;
+    }
+    Ok(Dones {
+        dones,
+        texts: Some(texts),
+    })
 }
 
 /// Who runs the jobs of a round, and the gate that they pass.
 #[derive_where(Clone, Copy)]
 pub(crate) struct Hands<'a, P> {
     pub gate: &'a P,
+    /// What a worker does with a job.
+    pub work: &'a Windows,
     /// The threads that live for the whole run. Where there are none, those of a round are started for it.
     pub crew: Option<&'a Crew<Windows>>,
     /// How many threads run jobs at most, with the one that makes the rounds.
@@ -43,19 +131,26 @@ pub(crate) struct Hands<'a, P> {
 
 impl<'a, P: Gate> Hands<'a, P> {
     /// Threads that are started for each round.
-    pub(crate) fn started(gate: &'a P) -> Hands<'a, P> {
+    pub(crate) fn started(gate: &'a P, work: &'a Windows) -> Hands<'a, P> {
         Hands {
             gate,
+            work,
             crew: None,
             threads: MAX_SEATS as u64,
         }
     }
 
     /// A crew of this many threads, with the one that makes the rounds.
-    pub(crate) fn living(gate: &'a P, crew: &'a Crew<Windows>, threads: u64) -> Hands<'a, P> {
+    pub(crate) fn living(
+        gate: &'a P,
+        work: &'a Windows,
+        crew: &'a Crew<Windows>,
+        threads: u64,
+    ) -> Hands<'a, P> {
         let crew = Some(crew);
         Hands {
             gate,
+            work,
             crew,
             threads,
         }
@@ -77,15 +172,15 @@ impl<'a, P: Gate> Hands<'a, P> {
         alloc: Global,
         jobs: Vec<Job>,
         workers: usize,
-    ) -> Result<Vec<WindowDone>, PhaseError>
+    ) -> Result<Vec<TextedDone>, PhaseError>
         requires few_jobs { vec_len jobs ≤ 256 }
         requires some { 1 ≤ workers }
         requires few { workers ≤ 64 }
-        ensures { IfOk result (λ v. AllZip Does jobs.items v.items) }
+        ensures { IfOk result (λ v. AllZip DoesWithText jobs.items v.items) }
     {
         match self.crew {
-            Some(crew) => crew.run_all(rt, alloc, &Windows, jobs, workers, self.gate),
-            None => run_all(rt, alloc, &Windows, jobs, workers, self.gate),
+            Some(crew) => crew.run_all(rt, alloc, self.work, jobs, workers, self.gate),
+            None => run_all(rt, alloc, self.work, jobs, workers, self.gate),
         }
     }
 }

@@ -11,6 +11,7 @@ mod examples;
 mod files;
 mod gates;
 mod hand;
+mod job_texts;
 mod later_rounds;
 mod memory;
 mod options;

@@ -19,7 +19,7 @@ use std::mem::forget;
 use std::process::Abort;
 
 /// How many ticks past the least event a bound may be.
-const CAP: u64 = 1024;
+pub const CAP: u64 = 1024;
 
 /// More rounds than any of these runs has.
 const MANY: u32 = 100_000;
@@ -101,7 +101,7 @@ fn write_bounds<R: Abort>(rt: &R, core: &Core, bounds: &Bounds, out: &mut Vec<u8
 }
 
 /// A round: each resource runs to its bound, and all is put back together.
-fn window<R: Abort>(
+pub fn window<R: Abort>(
     rt: &R,
     alloc: Global,
     system: &System,

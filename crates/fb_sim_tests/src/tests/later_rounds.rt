@@ -126,3 +126,23 @@ fn threads_make_the_text_of_a_long_round(rt: HostRuntime) {
         );
     }
 }
+
+// A message from CELL0 takes two ticks: so CELL1 runs less far than the others, and the last lines of these are kept for
+// a round. Three messages more arrive than in the first run above, of two lines each: 10,109 + 6 = 10,115.
+#[test]
+fn lines_that_were_kept_come_in_their_order(rt: HostRuntime) {
+    let deployment = DEPLOYMENT
+        .replace(
+            rt.alloc(),
+            "to = 'CELL1', latency = 5",
+            "to = 'CELL1', latency = 2",
+        )
+        .expect(&rt, "memory");
+    let inputs = inputs_of(DECLARATION, deployment.as_str(), "");
+    let mut trace = Vec::new(rt.alloc());
+    let options = to(HORIZON, ENOUGH, 1);
+    let outcome = run_serial(rt.alloc(), &inputs, options, &mut trace).expect(&rt, "run");
+    assert!(rt; outcome == Outcome::End(HORIZON));
+    assert!(rt; lines_in(trace.as_slice()) == 10_115);
+    expect_the_same(&rt, rt.alloc(), &inputs, (4, &OpenGate), trace.as_slice());
+}

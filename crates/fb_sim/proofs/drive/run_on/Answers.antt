@@ -12,7 +12,7 @@ loop-init g c = record {
   some_ticks = omega arith;
   few_ticks = omega arith;
   early = omega arith;
-  came = λ ls h. came_first c.args.system.now c.args.options ls c.args.first c.none-held.result _ c.none-held.ensures.lists c.none-held.ensures.count h;
+  came = λ ls h. came_first c.args.system.now c.args.options ls c.args.first c.none-held.result _ c.none-held.ensures.lists c.none-held.ensures.count c.none-held.ensures.texts h;
 }
 
 pub round_with_counts-requires-clause-options : goal.round_with_counts-requires-clause-options

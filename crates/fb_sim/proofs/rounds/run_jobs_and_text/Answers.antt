@@ -1,22 +1,22 @@
 use denote.Param.Send.{sendable}
-use Rattle.fb_resource.proofs.Sends.{done_send}
 use Rattle.fb_window.proofs.Sends.{job_send}
+use Rattle.fb_sim.proofs.TextedSends.{texted_send}
 use Rattle.fb_sim.proofs.rounds.run_jobs_and_text.Goals as goal
 
 pub begin-requires-send-W-Job : goal.begin-requires-send-W-Job
 begin-requires-send-W-Job g c κs within = search (sendable, job_send) depth 40
 
 pub begin-requires-send-W-Done : goal.begin-requires-send-W-Done
-begin-requires-send-W-Done g c κs within = search (sendable, done_send) depth 40
+begin-requires-send-W-Done g c κs within = search (sendable, texted_send) depth 40
 
 pub finish-requires-send-W-Job : goal.finish-requires-send-W-Job
 finish-requires-send-W-Job g c κs within = search (sendable, job_send) depth 40
 
 pub finish-requires-send-W-Done : goal.finish-requires-send-W-Done
-finish-requires-send-W-Done g c κs within = search (sendable, done_send) depth 40
+finish-requires-send-W-Done g c κs within = search (sendable, texted_send) depth 40
 
 pub call_late-requires-send-W-Job : goal.call_late-requires-send-W-Job
 call_late-requires-send-W-Job g c κs within = search (sendable, job_send) depth 40
 
 pub call_late-requires-send-W-Done : goal.call_late-requires-send-W-Done
-call_late-requires-send-W-Done g c κs within = search (sendable, done_send) depth 40
+call_late-requires-send-W-Done g c κs within = search (sendable, texted_send) depth 40

@@ -99,8 +99,8 @@ invariant_of-self-in-AtMark g c =
       at = subst (λ (s : SessionState). IsAtTick v.inputs v.steps c.args.to s) (sym c.put-in-AtMark.ensures) (stopped_of v.inputs v.steps c.args.to c.in-AtMark.mark _ ran.1.1);
     }
 
-pub returns-in_ok-close-in-AtMark : goal.returns-in_ok-close-in-AtMark
-returns-in_ok-close-in-AtMark g c =
+pub returns : goal.returns
+returns g c =
     let v = seen c.self.inside in
     let way = on_way v c.args.self.now c.self.view_is (record { accepted = c.facts.ensures.accepted; limits = c.facts.ensures.limits }) c.args.to c.args.core c.requires.ahead c.requires.later in
     let mark = c.in-AtMark.mark in

@@ -1,0 +1,23 @@
+use Rattle.std.proofs.Common.{◌++◌, [], ◌∷◌, length, sym, ap, ◌∙◌, append_assoc, arith}
+use Rattle.std.specs.Vec.Iter.{into_iter_items}
+use Rattle.fb_sim.proofs.TextsAre.{are_apart, dones_push, texts_push}
+use Rattle.fb_sim.proofs.work.apart.Goals as goal
+
+pub loop-one-preserved : goal.loop-one-preserved
+loop-one-preserved c =
+    let inv = c.loop-one.invariant in
+    let done = c.loop-one.yielded in
+    let x = c.in-Some.one in
+    let step = c.in-Some.ensures.steps in
+    let rest = ap (λ z. done ++ z) (sym step.0) ∙ inv.rest in
+    record {
+      dones = c.in_ok-push.ensures.items ∙ ap (λ z. z ++ x.done ∷ []) inv.dones ∙ sym (dones_push done x);
+      texts = c.in_ok-push-2.ensures.items ∙ ap (λ z. z ++ x.text ∷ []) inv.texts ∙ sym (texts_push done x);
+      rest = append_assoc done (x ∷ []) (into_iter_items c.next.new.self) ∙ rest;
+      len = let same = ap length step.0 in omega (arith, inv.len, step.1, same);
+    }
+
+pub returns : goal.returns
+returns c js h =
+    let inv = c.loop-one.invariant in
+    are_apart js c.loop-one.yielded c.args.all.items (into_iter_items c.loop-one.one-iterator) (let none = c.in-None.ensures.steps.0 in omega (arith, inv.len, none)) inv.rest c.loop-one.dones c.loop-one.texts inv.dones inv.texts h

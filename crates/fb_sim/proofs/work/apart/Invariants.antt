@@ -1,0 +1,12 @@
+use Rattle.std.proofs.Common.{◌≡◌, ◌++◌, length}
+use Rattle.std.specs.Vec.Iter.{into_iter_items, into_iter_len}
+use Rattle.fb_sim.proofs.TextsAre.{dones_of, texts_of}
+use Rattle.fb_sim.proofs.work.apart.Given as goal
+
+abbrev pub invariant-loop-one : goal.invariant-loop-one
+invariant-loop-one l = record {
+  dones : l.dones.items ≡ dones_of l.yielded;
+  texts : l.texts.items ≡ texts_of l.yielded;
+  rest : l.yielded ++ into_iter_items l.one-iterator ≡ l.fn.all.items;
+  len : into_iter_len l.one-iterator ≡ length (into_iter_items l.one-iterator);
+}
