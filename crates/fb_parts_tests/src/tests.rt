@@ -22,5 +22,6 @@ mod readers;
 mod rules;
 mod seats;
 mod shared;
+mod spent;
 mod timers;
 mod wiring;

@@ -5,7 +5,7 @@ ghost use Rattle.fb_resource.specs.Takings.{IsEmpty};
 
 use fb_agenda::Agenda;
 use fb_net::Outbox;
-use fb_types::{Message, TimerAsk};
+use fb_types::{Line, Message, TimerAsk};
 use std::alloc::Global;
 
 /// Where the events of takings come from, and where what takings give goes.
@@ -39,12 +39,27 @@ impl Queues {
         ensures sent { result.sent ≡ sent }
         ensures empty { IsEmpty result }
     {
+        Queues::over(alloc, agenda, sent, Vec::new(alloc))
+    }
+
+    /// The same, but lines go where those of this list were, which are dropped.
+    pub(crate) fn over(
+        alloc: Global,
+        agenda: Agenda,
+        sent: Vec<u128>,
+        mut spent: Vec<Line>,
+    ) -> Queues
+        ensures agenda { result.agenda ≡ agenda }
+        ensures sent { result.sent ≡ sent }
+        ensures empty { IsEmpty result }
+    {
+        spent.clear();
         Queues {
             agenda,
             sent,
             mail: Vec::new(alloc),
             outbox: Outbox {
-                lines: Vec::new(alloc),
+                lines: spent,
                 outs: Vec::new(alloc),
                 timer: TimerAsk::Keep,
             },

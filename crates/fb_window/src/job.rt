@@ -8,7 +8,7 @@ ghost use Rattle.fb_window.specs.Texts.{IsDoneOf, IsTextOf};
 use fb_resource::{Resource, WindowDone};
 use fb_system::System;
 use fb_trace::{MarkedText, marked_text};
-use fb_types::Form;
+use fb_types::{Form, Line};
 use std::alloc::Global;
 use std::marker::Model;
 
@@ -83,20 +83,28 @@ impl Job {
     pub fn run(self, alloc: Global) -> WindowDone
         ensures { Does self result }
     {
+        self.run_over(alloc, Vec::new(alloc))
+    }
+
+    /// Does what `run` does, but its lines go where those of the list `spent` were, which are dropped.
+    pub fn run_over(self, alloc: Global, spent: Vec<Line>) -> WindowDone
+        ensures { Does self result }
+    {
         let Job {
             system,
             steps,
             resource,
             to,
         } = self;
-        resource.run_to(alloc, &system, to, steps)
+        resource.run_over(alloc, &system, to, steps, spent)
     }
 
-    /// Does what `run` does, and also makes the text of the lines that it gives, if there are this many and there is
-    /// memory for it.
+    /// Does what `run_over` does, and also makes the text of the lines that it gives, if there are this many and there
+    /// is memory for it.
     pub fn run_with_text(
         self,
         alloc: Global,
+        spent: Vec<Line>,
         form: Form,
         least: usize,
     ) -> (WindowDone, Option<MarkedText>)
@@ -109,7 +117,7 @@ impl Job {
             resource,
             to,
         } = self;
-        let done = resource.run_to(alloc, &system, to, steps);
+        let done = resource.run_over(alloc, &system, to, steps, spent);
         let text = text_of(alloc, &system, form, least, &done);
         (done, text)
     }

@@ -96,7 +96,14 @@ impl Walk<'_> {
         ensures same { IsSame self.old self.new }
     {
         let steps = self.core.steps;
-        let output = self.core.resources[index].run_here(self.alloc, self.system, to, steps)?;
+        let spent = Vec::new(self.alloc);
+        let output = self.core.resources[index].run_here(
+            self.alloc,
+            self.system,
+            to,
+            steps,
+            spent,
+        )?;
         append_lines(&mut self.core.pending[index], output.lines)?;
         self.nexts.look_again(index, &self.core.resources[index]);
         self.give(output.sent)?;

@@ -13,7 +13,7 @@ use crate::resource::{Output, Resource, WindowDone};
 use crate::tick_counts::TickCounts;
 use fb_agenda::{Agenda, Least};
 use fb_system::System;
-use fb_types::StopMark;
+use fb_types::{Line, StopMark};
 use std::alloc::{AllocError, Global};
 use std::mem;
 
@@ -97,7 +97,7 @@ impl Resource {
     /// forget((lines, sent));
     /// drop(system);
     /// ```
-    pub fn run_to(mut self, alloc: Global, system: &System, to: u64, steps: u64) -> WindowDone
+    pub fn run_to(self, alloc: Global, system: &System, to: u64, steps: u64) -> WindowDone
         requires of { IsOf system.now self }
         requires live { self.stopped ≡ None }
         requires ahead { self.clock ≤ to }
@@ -105,7 +105,27 @@ impl Resource {
         requires few { steps ≤ 10 ^ 7 }
         ensures { HasRun system.now steps self to result }
     {
-        let Ok(Output { lines, sent, stop }) = self.run_here(alloc, system, to, steps) else {
+        self.run_over(alloc, system, to, steps, Vec::new(alloc))
+    }
+
+    /// Does what `run_to` does, but its lines go where those of the list `spent` were, which are dropped: a list
+    /// that grows is copied.
+    pub fn run_over(
+        mut self,
+        alloc: Global,
+        system: &System,
+        to: u64,
+        steps: u64,
+        spent: Vec<Line>,
+    ) -> WindowDone
+        requires of { IsOf system.now self }
+        requires live { self.stopped ≡ None }
+        requires ahead { self.clock ≤ to }
+        requires early { to ≤ 10 ^ 12 }
+        requires few { steps ≤ 10 ^ 7 }
+        ensures { HasRun system.now steps self to result }
+    {
+        let Ok(Output { lines, sent, stop }) = self.run_here(alloc, system, to, steps, spent) else {
             return WindowDone::NoMemory;
         };
         WindowDone::Ran {
@@ -117,7 +137,7 @@ impl Resource {
     }
 
     /// Takes all events below a tick, in milliseconds, or up to its stop, where it is. In each tick it has the given
-    /// number of steps.
+    /// number of steps. Its lines go where those of the list `spent` were, which are dropped.
     ///
     /// # Errors
     /// When memory runs out, or a link has carried 2^128 messages. Then nothing is said of the resource.
@@ -127,6 +147,7 @@ impl Resource {
         system: &System,
         to: u64,
         steps: u64,
+        spent: Vec<Line>,
     ) -> Result<Output, AllocError>
         requires of { IsOf system.now self.old }
         requires live { self.old.stopped ≡ None }
@@ -137,7 +158,7 @@ impl Resource {
     {
         let agenda = mem::replace(&mut self.agenda, Agenda::none(alloc));
         let sent = mem::replace(&mut self.sent, Vec::new(alloc));
-        let mut queues = Queues::new(alloc, agenda, sent);
+        let mut queues = Queues::over(alloc, agenda, sent, spent);
         let stop = self.take_all(&mut queues, system, to, steps)?;
         let lines = mem::replace(&mut queues.outbox.lines, Vec::new(alloc));
         let mail = mem::replace(&mut queues.mail, Vec::new(alloc));

@@ -1,6 +1,0 @@
-use Rattle.std.proofs.Common.{subst}
-use Rattle.fb_window.specs.Jobs.{Does, JobModel}
-use Rattle.fb_window.proofs.job.Job.run.Goals as goal
-
-pub returns : goal.returns
-returns c = subst (λ (j : JobModel). Does j c.run_to.result) c.self.view_is c.run_to.ensures
