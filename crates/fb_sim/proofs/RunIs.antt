@@ -16,7 +16,7 @@ use Rattle.fb_types.specs.Numbers.{line_of}
 use Rattle.fb_types.specs.declared.run.Line as run
 use Rattle.fb_system.specs.Lines.{BelongsTo}
 use Rattle.fb_trace.specs.Merging.{Lists, flat}
-use Rattle.fb_types.specs.Parts.{machine, count_of}
+use Rattle.fb_types.specs.Parts.{machine}
 use Rattle.fb_types.specs.States.{Line}
 use Rattle.fb_types.specs.Text.{last_line, trace_text}
 use Rattle.fb_types.specs.declared.run.StopMark.{StopMark}

@@ -19,7 +19,6 @@ use Rattle.fb_window.specs.Jobs.{Does, JobModel, job_of, jobs_of}
 use Rattle.fb_window.specs.Texts.{IsFrontOf}
 use Rattle.fb_sim.specs.Texts.{AreDone, AreHeldIn, AreTextsFrom, AreTextsOf, DoesWithText, HasText, IsTextFrom}
 use Rattle.fb_sim.specs.declared.marked.FinalTexts.{FinalTexts}
-use Rattle.fb_sim.specs.declared.work.Dones.{Dones}
 use Rattle.fb_sim.specs.declared.work.TextedDone.{TextedDone}
 
 -- ---- Jobs, and what becomes of them

@@ -155,6 +155,14 @@ impl Held {
         self.texts.is_some()
     }
 
+    /// The lists alone.
+    pub(crate) fn into_lists(self) -> Vec<Vec<Line>>
+        ensures { result ≡ self.lists }
+    {
+        let Held { lists, .. } = self;
+        lists
+    }
+
     /// Their text in parts, one after another, each of which one of this many threads makes. Where workers made that of
     /// each list, this thread joins them.
     ///

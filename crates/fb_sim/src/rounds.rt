@@ -172,8 +172,8 @@ fn run_jobs_and_text<R: Threads + Wait + Sync, P: Gate>(
     let mut phase = crew.begin(rt, alloc, jobs, seats, late)?;
     let texts = held.text(rt, alloc, system, form, threads);
     crew.call_late(rt, alloc, &mut phase);
-    // To drop many lines takes a while: by now all others run jobs.
-    drop(held);
+    // To drop many lines takes a while: the workers do it.
+    hands.work.leave(rt, held.into_lists());
     // Also where there is no memory for the text, the phase is finished.
     let all = crew.finish(rt, alloc, hands.work, phase, hands.gate)?;
     Ok((texts?, apart(alloc, all)?))

@@ -114,7 +114,7 @@ fn run_workers<R: Threads + Wait + Sync, W: Write, P: Gate, C: Clock + CpuClock>
     let threads = threads_for(rt, options.workers);
     let others = (threads - 1) as usize;
     let crew = Crew::new(alloc);
-    let work = Windows::new(options.form);
+    let work = Windows::new(alloc, options.form);
     let hands = Hands::living(gate, &work, &crew, threads);
     // The first closure gets a thread. If none can be started, it is called last, and ends at once.
     let (_, ended) = join_mut(

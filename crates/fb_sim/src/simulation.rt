@@ -157,7 +157,7 @@ impl Simulation {
             workers: self.workers,
             form: self.form,
         };
-        let work = Windows::new(self.form);
+        let work = Windows::new(self.alloc, self.form);
         let hands = Hands::started(gate, &work);
         let (finish, written) = run_on(rt, self.alloc, &self.system, core, options, out, &hands)?;
         match finish {

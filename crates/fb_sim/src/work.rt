@@ -9,12 +9,13 @@ use fb_board::{Deal, MAX_SEATS};
 use fb_phase::{Crew, Gate, PhaseError, Work, run_all};
 use fb_resource::WindowDone;
 use fb_trace::MarkedText;
-use fb_types::Form;
+use fb_types::{Form, Line};
 use fb_window::Job;
 use std::alloc::{AllocError, Global};
-use std::sync::Wait;
+use std::mem;
 use std::sync::atomic::AtomicBool;
 use std::sync::atomic::Ordering::SeqCst;
+use std::sync::{Mutex, Wait};
 use std::thread::Threads;
 
 /// Each job is a resource that runs to its bound.
@@ -54,20 +55,40 @@ pub(crate) struct Windows {
     form: Form,
     /// Whether jobs make text.
     has_text: AtomicBool,
+    /// Lists whose lines are no longer needed. The workers drop these, and put the lines of their jobs there.
+    spent: Mutex<Vec<Vec<Line>>>,
 }
 
 impl Windows {
     /// Jobs that make no text yet.
-    pub(crate) fn new(form: Form) -> Windows {
+    pub(crate) fn new(alloc: Global, form: Form) -> Windows {
         Windows {
             form,
             has_text: AtomicBool::new(false),
+            spent: Mutex::new(Vec::new(alloc)),
         }
     }
 
     /// Lets the jobs of the next round make text in the form of the run, or not.
     pub(crate) fn set_text(&self, has_text: bool) {
         self.has_text.store(has_text, SeqCst);
+    }
+
+    /// Leaves lists whose lines are no longer needed to the workers. Those of an earlier call that none has taken are
+    /// dropped.
+    pub(crate) fn leave<R: Wait>(&self, rt: &R, lists: Vec<Vec<Line>>) {
+        let before = mem::replace(&mut *self.spent.lock(rt), lists);
+        drop(before);
+    }
+
+    /// A list whose lines are no longer needed, if there is one and they take up at least a quarter of its memory: lists
+    /// that are mostly empty are dropped, so that few are as large as that of the busiest resource.
+    fn take_spent(&self) -> Option<Vec<Line>> {
+        let list = self.spent.try_lock()?.pop()?;
+        if list.len() < list.capacity() / 4 {
+            return None;
+        }
+        Some(list)
     }
 }
 
@@ -83,11 +104,12 @@ impl Deal for Windows {
 
 impl Work for Windows {
     fn run(&self, alloc: Global, job: Job) -> TextedDone {
+        let spent = self.take_spent().unwrap_or(Vec::new(alloc));
         if !self.has_text.load(SeqCst) {
-            let done = job.run(alloc);
+            let done = job.run_over(alloc, spent);
             return TextedDone { done, text: None };
         }
-        let (done, text) = job.run_with_text(alloc, self.form, FEW);
+        let (done, text) = job.run_with_text(alloc, spent, self.form, FEW);
         TextedDone { done, text }
     }
 }

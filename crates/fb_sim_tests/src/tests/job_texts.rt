@@ -76,7 +76,7 @@ fn run_jobs<R: Abort>(
         return Vec::new(alloc);
     };
     let mut dones = run_jobs(rt, alloc, jobs, texts);
-    let (done, made) = last.run_with_text(alloc, Form::One, 0);
+    let (done, made) = last.run_with_text(alloc, Vec::new(alloc), Form::One, 0);
     let Some(text) = made else {
         panic!(rt; "memory");
     };

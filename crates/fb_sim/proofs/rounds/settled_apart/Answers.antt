@@ -1,11 +1,10 @@
-use Rattle.std.proofs.Common.{◌≡◌, List, Option, All, length, ap, subst, sym, ◌∙◌}
+use Rattle.std.proofs.Common.{List, Option, All, length, ap, subst, sym, ◌∙◌}
 use Rattle.std.specs.Prelude.{IfSome}
 use Rattle.std.specs.Global.{Vec}
 use Rattle.fb_types.specs.Headline.{Inputs, system_of}
 use Rattle.fb_types.specs.declared.run.Line.{Line}
 use Rattle.fb_system.specs.Lines.{BelongsTo}
 use Rattle.fb_trace.specs.Merging.{flat}
-use Rattle.fb_trace.specs.declared.marks.MarkedText.{MarkedText}
 use Rattle.fb_window.specs.Settling.{IsMerged}
 use Rattle.fb_sim.specs.Texts.{AreTextsFrom, AreTextsOf}
 use Rattle.fb_sim.specs.declared.marked.FinalTexts.{FinalTexts}
