@@ -26,7 +26,7 @@ use Rattle.fb_trace.specs.declared.last.Outcome.{Outcome}
 use Rattle.fb_trace.specs.declared.last.Outcome.TheVariants.{End, Stop}
 use Rattle.fb_wave.specs.Copying.{IsAfter}
 use Rattle.fb_wave.specs.Dumps.{last_tick}
-use Rattle.fb_wave.specs.Lines.{IsLineOf, IsTextOf}
+use Rattle.fb_wave.specs.Lines.{IsLast, IsLineOf, IsTextOf}
 use Rattle.fb_coverage.specs.declared.marks.Marks.{Marks}
 use Rattle.fb_net.proofs.Others.{get_set_other, get_set_same}
 use Rattle.fb_inspect.specs.Counted.{left_of}
@@ -35,12 +35,16 @@ use Rattle.fb_inspect.specs.Lines.{IsNext, IsNextLine}
 use Rattle.fb_inspect.specs.Markings.{TakingMarks}
 use Rattle.fb_inspect.specs.Looks.{IsTaking, Left, Look, Taking, left_at, most, opening_look, taking_text}
 use Rattle.fb_inspect.specs.Moves.{Goes, IsLineAt, shown_text}
-use Rattle.fb_inspect.specs.Walking.{AreCutOff, AreMarked, HasCovered, HasLimited, IsComplete, IsCutAfter, IsGone, IsLookOf, IsReadOn, IsSevered, MayEnd, WalkTakes, flag_at}
+use Rattle.fb_inspect.specs.Stepping.{EndsAfter, IsStopped, IsUsedUp, LineGoes, stop_at}
+use Rattle.fb_inspect.specs.Walking.{AreCutOff, AreMarked, HasAdvanced, HasCovered, HasLimited, IsComplete, IsCutAfter, IsGone, IsLookOf, IsReadOn, IsSevered, MayEnd, WalkTakes, flag_at}
+use Rattle.fb_inspect.specs.declared.ahead.Ahead.{Ahead}
 use Rattle.fb_inspect.specs.declared.blocks.Remembered.{Remembered}
 use Rattle.fb_inspect.specs.declared.reading.Next.{Next}
 use Rattle.fb_inspect.specs.declared.reading.Next.TheVariants as next
 use Rattle.fb_inspect.specs.declared.steps.TickSteps.{TickSteps}
 use Rattle.fb_inspect.specs.declared.trail.Trail.{Trail}
+use Rattle.fb_inspect.specs.declared.walk.Step.{Step}
+use Rattle.fb_inspect.specs.declared.walk.Step.TheVariants.{Taken, Ended, CutOff}
 use Rattle.fb_inspect.specs.declared.walk.Walk.{Walk}
 use Rattle.fb_inspect.proofs.Gone.{chain_more, each_of, gone_more, last_is, look_more, more_marked, none_more, nothing, rise_more, shown_if, stop_by, stop_more}
 use Rattle.fb_inspect.proofs.Moving.{lines-append, next_line}
@@ -399,8 +403,7 @@ module _ (types : List BlockType) (first : Marks) (sys : System) (form : Form) (
       within : line.instance < length sys.paths
       within = is.line.belongs.instance
 
-      module _ (done : Walk) (stop : Option Reason) (rest : Option (List ℕ)) (goes : WalkTakes types sys form most seen_last line stop w done remaining rest)
-          (next_is : IsNext sys form line.key.tick done.trail.reading.line.items done.trail.reading.next) where
+      module _ (done : Walk) (stop : Option Reason) (rest : Option (List ℕ)) (goes : WalkTakes types sys form most seen_last line stop w done remaining rest) where
         chained : AreTakings sys most (opening_look sys) (covered.gone.takings ++ goes.taking ∷ [])
         chained = chain_more sys most (opening_look sys) covered.gone.takings goes.taking covered.gone.chain covered.gone.goes_on goes.is_taking
 
@@ -414,9 +417,9 @@ module _ (types : List BlockType) (first : Marks) (sys : System) (form : Form) (
         marks_are = more_marked sys form only steps types w done covered.gone.takings line stop input remaining rest old mid covered.gone.gone later within most seen_last goes (inl chained) first covered.marked
 
         -- one more event is taken
-        pub taken_on : stop ≡ None → HasCovered types first sys form only steps done input rest old mid
+        taken_on : stop ≡ None → IsNext sys form line.key.tick done.trail.reading.line.items done.trail.reading.next → HasCovered types first sys form only steps done input rest old mid
         unfolding more gone_more
-        taken_on goes_on = record {
+        taken_on goes_on next_is = record {
           gone = record {
             takings = covered.gone.takings ++ goes.taking ∷ [];
             goes_on = none_more covered.gone.takings goes.taking covered.gone.goes_on (goes.stop_is ∙ goes_on);
@@ -429,87 +432,64 @@ module _ (types : List BlockType) (first : Marks) (sys : System) (form : Form) (
         }
 
         -- one more event is taken, and a reason other than the steps stops its resource
-        pub stopped_on :
-            (r : Reason) → stop ≡ Some r → (r ≡ Steps → ⊥) → done.trail.reading.next ≡ next.End (Stop (record { tick = line.key.tick; resource = line.key.resource; reason = r }))
-            → IsComplete types first sys form only steps done (Stop (record { tick = line.key.tick; resource = line.key.resource; reason = r })) input rest old mid
+        stopped_on :
+            (r : Reason) → stop ≡ Some r → (r ≡ Steps → ⊥) → IsLast sys done.trail.reading.line.items (stop_at line r) → IsAfter line.key.tick (stop_at line r)
+            → IsComplete types first sys form only steps done (stop_at line r) input rest old mid
         unfolding more gone_more
-        stopped_on r stops other last =
-            let mark : Outcome = Stop (record { tick = line.key.tick; resource = line.key.resource; reason = r }) in
-            let here = subst (λ (n : Next). IsNext sys form line.key.tick done.trail.reading.line.items n) last next_is in
+        stopped_on r stops other last after =
             let it = covered.gone.takings ++ goes.taking ∷ [] in
             record {
               takings = it;
               gone = more;
               ends = ends_stopped sys steps covered.gone.takings covered.gone.chain covered.gone.goes_on goes.taking line goes.first_is r goes.is_taking (goes.stop_is ∙ stops) other;
-              last = here.0;
-              after = subst (λ (t : ℕ). IsAfter t mark) (sym tick_is) here.1;
+              last = last;
+              after = subst (λ (t : ℕ). IsAfter t (stop_at line r)) (sym tick_is) after;
               marked = marks_are;
             }
 
       -- one more event is taken, and its resource runs out of these steps
-      pub ran_out_on :
+      ran_out_on :
           (done : Walk) (stop : Option Reason) (rest : Option (List ℕ)) (goes : WalkTakes types sys form steps (limited steps line.key.tick line.key.resource seen_last) line stop w done remaining rest)
-          → KeepSteps sys steps seen_last → KeepsLimit steps line.key.tick line.key.resource seen_last → (stop ≡ Some Steps) ⊎ ((stop ≡ None) × (left_at steps line.key.tick (goes.taking.after.steps line.key.resource) ≡ 0))
-          → IsNext sys form line.key.tick done.trail.reading.line.items done.trail.reading.next
-          → done.trail.reading.next ≡ next.End (Stop (record { tick = line.key.tick; resource = line.key.resource; reason = Steps }))
-          → IsComplete types first sys form only steps done (Stop (record { tick = line.key.tick; resource = line.key.resource; reason = Steps })) input rest old mid
+          → KeepSteps sys steps seen_last → KeepsLimit steps line.key.tick line.key.resource seen_last → RunsOut steps line.key.tick line.key.resource (limited steps line.key.tick line.key.resource seen_last) (goes.taking ∷ [])
+          → IsLast sys done.trail.reading.line.items (stop_at line Steps) → IsAfter line.key.tick (stop_at line Steps) → IsComplete types first sys form only steps done (stop_at line Steps) input rest old mid
       unfolding gone_more
-      ran_out_on done stop rest goes kept within_limit out next_is last =
-          let mark : Outcome = Stop (record { tick = line.key.tick; resource = line.key.resource; reason = Steps }) in
-          let here = subst (λ (n : Next). IsNext sys form line.key.tick done.trail.reading.line.items n) last next_is in
+      ran_out_on done stop rest goes kept within_limit out last after =
           let so = last_limited sys steps covered.gone.takings covered.gone.chain covered.gone.goes_on goes.taking line goes.first_is kept within_limit goes.is_taking in
           let taken : AreTaken sys steps (covered.gone.takings ++ goes.taking ∷ []) = inr (line.key.tick, line.key.resource, so) in
           let look : Look = limited steps line.key.tick line.key.resource seen_last in
           record {
             takings = covered.gone.takings ++ goes.taking ∷ [];
             gone = gone_more sys form only steps types w done covered.gone.takings line stop input remaining rest old mid covered.gone.gone later within steps look goes taken;
-            ends = ends_used sys steps covered.gone.takings covered.gone.chain covered.gone.goes_on goes.taking line goes.first_is kept within_limit goes.is_taking (out_by out);
-            last = here.0;
-            after = subst (λ (t : ℕ). IsAfter t mark)
-                (sym (last_is sys form only steps types w done covered.gone.takings line stop input remaining rest old mid covered.gone.gone later within steps look goes taken)) here.1;
+            ends = ends_used sys steps covered.gone.takings covered.gone.chain covered.gone.goes_on goes.taking line goes.first_is kept within_limit goes.is_taking out;
+            last = last;
+            after = subst (λ (t : ℕ). IsAfter t (stop_at line Steps))
+                (sym (last_is sys form only steps types w done covered.gone.takings line stop input remaining rest old mid covered.gone.gone later within steps look goes taken)) after;
             marked = more_marked sys form only steps types w done covered.gone.takings line stop input remaining rest old mid covered.gone.gone later within steps look goes taken first covered.marked;
           }
+
+      -- one more event is taken, and the trace ends after it
+      ended_on :
+          (done : Walk) (end : Outcome) (rest : Option (List ℕ)) → EndsAfter types sys form steps seen_last line end w done remaining rest
+          → IsComplete types first sys form only steps done end input rest old mid
+      ended_on done end rest ends = by ends.how
         where
-          out_by :
-              (stop ≡ Some Steps) ⊎ ((stop ≡ None) × (left_at steps line.key.tick (goes.taking.after.steps line.key.resource) ≡ 0))
-              → (goes.taking.stop ≡ Some Steps) ⊎ ((goes.taking.stop ≡ None) × (left_at steps line.key.tick (goes.taking.after.steps line.key.resource) ≡ 0))
-          out_by (inl stopped) = inl (goes.stop_is ∙ stopped)
-          out_by (inr (on, used)) = inr (goes.stop_is ∙ on, used)
+          by :
+              IsStopped types sys form seen_last line end w done remaining rest ⊎ IsUsedUp types sys form steps seen_last line end w done remaining rest
+              → IsComplete types first sys form only steps done end input rest old mid
+          by (inl x) =
+              subst (λ (e : Outcome). IsLast sys done.trail.reading.line.items e → IsAfter line.key.tick e → IsComplete types first sys form only steps done e input rest old mid) (sym x.is)
+              (stopped_on done (Some x.reason) rest x.goes x.reason refl x.other) ends.last ends.after
+          by (inr x) =
+              subst (λ (e : Outcome). IsLast sys done.trail.reading.line.items e → IsAfter line.key.tick e → IsComplete types first sys form only steps done e input rest old mid) (sym x.is)
+              (ran_out_on done x.stop rest x.goes x.kept x.within x.out) ends.last ends.after
 
-      -- the same of what a taking does whatever the blocks remember
-      pub free_on :
-          (limit : ℕ) (done : Walk) (stop : Option Reason) (rest : Option (List ℕ)) → limit ≡ most
-          → ((look : Look) → IsLookOf sys w.blocks.items w.steps.items look → WalkTakes types sys form limit look line stop w done remaining rest)
-          → IsNext sys form line.key.tick done.trail.reading.line.items done.trail.reading.next → stop ≡ None → HasCovered types first sys form only steps done input rest old mid
-      free_on limit done stop rest same goes next_is none =
-          taken_on done stop rest (subst (λ (n : ℕ). WalkTakes types sys form n seen_last line stop w done remaining rest) same (goes seen_last covered.gone.look)) next_is none
-
-      pub free_stop :
-          (limit : ℕ) (done : Walk) (stop : Option Reason) (rest : Option (List ℕ)) → limit ≡ most
-          → ((look : Look) → IsLookOf sys w.blocks.items w.steps.items look → WalkTakes types sys form limit look line stop w done remaining rest)
-          → IsNext sys form line.key.tick done.trail.reading.line.items done.trail.reading.next → (r : Reason) → stop ≡ Some r → (r ≡ Steps → ⊥)
-          → done.trail.reading.next ≡ next.End (Stop (record { tick = line.key.tick; resource = line.key.resource; reason = r }))
-          → IsComplete types first sys form only steps done (Stop (record { tick = line.key.tick; resource = line.key.resource; reason = r })) input rest old mid
-      free_stop limit done stop rest same goes next_is r stops other last =
-          stopped_on done stop rest (subst (λ (n : ℕ). WalkTakes types sys form n seen_last line stop w done remaining rest) same (goes seen_last covered.gone.look)) next_is r stops other last
-
-      pub last_on :
-          (between done : Walk) (stop : Option Reason) (rest : Option (List ℕ)) → ((look : Look) → IsLookOf sys w.blocks.items w.steps.items look → KeepSteps sys steps look) → between.shown ≡ w.shown → between.trail ≡ w.trail → between.blocks ≡ w.blocks
-          → HasLimited steps line.key w.steps.items between.steps.items
-          → ((look : Look) → IsLookOf sys between.blocks.items between.steps.items look → WalkTakes types sys form steps look line stop between done remaining rest)
-          → ((look : Look) → IsLookOf sys done.blocks.items done.steps.items look → (stop ≡ Some Steps) ⊎ ((stop ≡ None) × (left_at steps line.key.tick (look.steps line.key.resource) ≡ 0)))
-          → IsNext sys form line.key.tick done.trail.reading.line.items done.trail.reading.next
-          → done.trail.reading.next ≡ next.End (Stop (record { tick = line.key.tick; resource = line.key.resource; reason = Steps }))
-          → IsComplete types first sys form only steps done (Stop (record { tick = line.key.tick; resource = line.key.resource; reason = Steps })) input rest old mid
-      last_on between done stop rest kept shown_same trail_same blocks_same has goes out next_is last =
-          let look : Look = limited steps line.key.tick line.key.resource seen_last in
-          let is_look : IsLookOf sys between.blocks.items between.steps.items look =
-          subst (λ (b : Vec Remembered). IsLookOf sys b.items between.steps.items look) (sym blocks_same)
-          (look_limited sys steps line.key seen_last w.blocks.items w.steps.items between.steps.items covered.gone.look has) in
-          let own = taking_from types sys form steps look line stop w between done remaining rest shown_same trail_same (goes look is_look) in
-          ran_out_on done stop rest own (kept seen_last covered.gone.look)
-          (subst (λ (l : Left). most ≤ left_at most line.key.tick l + steps) (sym (covered.gone.look.lefts line.key.resource has.before has.stood)) has.within)
-          (out own.taking.after own.look_after) next_is last
+      -- the step that a walk makes with the line, where the trace is not cut off
+      pub advanced_on :
+          (done : Walk) (ahead : Ahead) (rest : Option (List ℕ)) (step : Step) → (step ≡ CutOff → ⊥) → LineGoes types sys form steps seen_last line w done ahead remaining rest step
+          → HasAdvanced types first sys form only steps done input rest old mid step
+      advanced_on done ahead rest Taken whole goes = taken_on done None rest goes.goes refl goes.next
+      advanced_on done ahead rest (Ended end) whole goes = ended_on done end rest goes
+      advanced_on done ahead rest CutOff whole goes = absurd (whole refl)
 
       -- the trace is cut off in the lines after it
       pub severed_on :

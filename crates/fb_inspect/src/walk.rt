@@ -483,9 +483,6 @@ impl Walk {
         requires is { IsTextOf fixed.now line.now self.old.trail.reading.line.items }
         requires look { HasLook fixed.now self.old }
         requires limit { fixed.now.limit ≡ most }
-        ensures goes { (first : Marks) (only : List Name) (steps : ℕ) (known remaining old new : Option (List ℕ))
-            → (covered : HasCovered fixed.now first only steps self.old known (unread ahead.old remaining) old new) → last_tick 0 covered.gone.gone.lines ≤ line.now.key.tick
-            → IfOk result (HasAdvanced fixed.now first only steps self.new known (unread ahead.new remaining) old new) }
         ensures takes { (look : Look) (steps : ℕ) (remaining : Option (List ℕ))
             → LooksAs fixed.now self.old look
             → IfOk result (LineGoes fixed.now steps look line.now self.old self.new ahead.new (unread ahead.old remaining) (unread ahead.new remaining)) }
@@ -520,9 +517,6 @@ impl Walk {
         requires is { IsTextOf fixed.now line.now self.old.trail.reading.line.items }
         requires look { HasLook fixed.now self.old }
         requires limit { fixed.now.limit ≡ most }
-        ensures goes { (first : Marks) (only : List Name) (known remaining old new : Option (List ℕ))
-            → (covered : HasCovered fixed.now first only steps self.old known (unread ahead.old remaining) old new) → last_tick 0 covered.gone.gone.lines ≤ line.now.key.tick
-            → IfOk result (HasAdvanced fixed.now first only steps self.new known (unread ahead.new remaining) old new) }
         ensures takes { (look : Look) (remaining : Option (List ℕ))
             → LooksAs fixed.now self.old look
             → IfOk result (LineGoes fixed.now steps look line.now self.old self.new ahead.new (unread ahead.old remaining) (unread ahead.new remaining)) }
@@ -549,9 +543,6 @@ impl Walk {
     ) -> Result<Step, InspectError>
         requires is { IsTextOf fixed.now line.now self.old.trail.reading.line.items }
         requires look { HasLook fixed.now self.old }
-        ensures goes { (first : Marks) (only : List Name) (known remaining old new : Option (List ℕ))
-            → (covered : HasCovered fixed.now first only steps self.old known (unread ahead.old remaining) old new) → last_tick 0 covered.gone.gone.lines ≤ line.now.key.tick
-            → IfOk result (HasAdvanced fixed.now first only steps self.new known (unread ahead.new remaining) old new) }
         ensures takes { (look : Look) (remaining : Option (List ℕ))
             → LooksAs fixed.now self.old look
             → IfOk result (LineGoes fixed.now steps look line.now self.old self.new ahead.new (unread ahead.old remaining) (unread ahead.new remaining)) }

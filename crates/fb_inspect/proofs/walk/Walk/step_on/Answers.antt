@@ -4,7 +4,7 @@ use Rattle.fb_types.specs.Headline.{system_of}
 use Rattle.fb_inspect.specs.Walking.{AreCutOff, unread}
 use Rattle.fb_inspect.proofs.OneStep.{line_reread, ok_both}
 use Rattle.fb_inspect.proofs.Placed.{ok_then}
-use Rattle.fb_inspect.proofs.Stepped.{none_ahead, reread_on, severed_on}
+use Rattle.fb_inspect.proofs.Stepped.{advanced_on, none_ahead, reread_on, severed_on}
 use Rattle.std.proofs.lemmas.Result.{err_from_is_err_and}
 use Rattle.fb_inspect.specs.Inspections.{last_look}
 use Rattle.fb_inspect.specs.Looks.{opening_look}
@@ -36,7 +36,10 @@ returns-then-is_near-clause-goes g c = λ first only known old new covered later
     let n = g.R.Read.remaining c.look.new.input in
     let again = reread_on types first sys fixed.form only c.args.terms.steps c.args.self.now known o (unread c.look.new.self n) old new
     ((c.in_ok-is_cut.ensures.whole c.if-is_cut.false).after known) covered c.args.line.now.key.tick later in
-    c.take_last.ensures.goes first only known n old new again.0 again.1
+    ok_both c.take_last.result _ _ _ c.take_last.ensures.whole (c.take_last.ensures.takes (last_look (opening_look sys) again.0.gone.takings) n again.0.gone.look)
+    (λ step whole goes.
+    advanced_on types first sys fixed.form only c.args.terms.steps c.args.self.now known (unread c.look.new.self n) old new again.0 c.args.line.now again.1 c.requires.is c.take_last.new.self c.take_last.new.ahead
+    (unread c.take_last.new.ahead n) step whole goes)
 
 pub returns-then-is_near-clause-cut : goal.returns-then-is_near-clause-cut
 returns-then-is_near-clause-cut g c = ok_then c.take_last.result _ _ c.take_last.ensures.whole (λ step never same. absurd (never same))
@@ -50,7 +53,10 @@ returns-clause-goes g c = λ first only known old new covered later.
     let n = g.R.Read.remaining c.look.new.input in
     let again = reread_on types first sys fixed.form only c.args.terms.steps c.args.self.now known o (unread c.look.new.self n) old new
     ((c.in_ok-is_cut.ensures.whole c.if-is_cut.false).after known) covered c.args.line.now.key.tick later in
-    c.take_watched.ensures.goes first only known n old new again.0 again.1
+    ok_both c.take_watched.result _ _ _ c.take_watched.ensures.whole (c.take_watched.ensures.takes (last_look (opening_look sys) again.0.gone.takings) n again.0.gone.look)
+    (λ step whole goes.
+    advanced_on types first sys fixed.form only c.args.terms.steps c.args.self.now known (unread c.look.new.self n) old new again.0 c.args.line.now again.1 c.requires.is c.take_watched.new.self c.take_watched.new.ahead
+    (unread c.take_watched.new.ahead n) step whole goes)
 
 pub returns-then-is_cut-clause-takes : goal.returns-then-is_cut-clause-takes
 returns-then-is_cut-clause-takes g c = λ look is.
