@@ -1,10 +1,14 @@
 //! The dump of a trace with the inside of basic blocks.
 
-ghost use Rattle.std.specs.Prelude.{◌≤◌, IfErr, IfOk, IfSome, OnErr, OnOk};
+ghost use Rattle.std.specs.Prelude.{◌≡◌, ◌≤◌, ℕ, List, Option, Some, IfErr, IfOk, IfSome, OnErr, OnOk, false};
+ghost use Rattle.std.specs.Io.KnownBytes.{Consumes};
+ghost use Rattle.fb_wave.specs.Copying.{IsFirstLine};
 ghost use Rattle.fb_wave.specs.OfSystem.{HasNames};
 ghost use Rattle.fb_inspect.specs.Looks.{most};
 ghost use Rattle.fb_inspect.specs.Refusals.{OfRefusal};
 ghost use Rattle.fb_inspect.specs.OfSystem.{BeginsWave, IsShownWith, IsWrongAt, WritesFront};
+ghost use Rattle.fb_inspect.specs.OfWalk as of_walk;
+ghost use Rattle.fb_inspect.specs.OfWalk.{BeginsText, IsNext};
 
 use crate::ahead::Ahead;
 use crate::before::Before;
@@ -42,6 +46,39 @@ fn begin(alloc: Global, system: &System, reading: Reading) -> Result<StateWave, 
     })
 }
 
+/// Goes through a trace from its first line, with which the dump was begun: to its end, or as far as it goes if it is
+/// cut off.
+fn go_through<R: BufRead, W: Write>(
+    wave: &mut StateWave,
+    fixed: &Fixed<'_, '_>,
+    terms: Terms,
+    refused: &mut RefusedLine,
+    input: &mut R,
+    out: &mut W,
+) -> Result<(), InspectError>
+    requires begins { BeginsWave fixed.now.table.now.system.now wave.old.walk.trail.reading wave.old }
+    requires next { IsNext fixed.now 0 wave.old.walk.trail.reading }
+    requires first { wave.old.walk.trail.reading.number ≡ 1 }
+    requires limit { fixed.now.limit ≡ most }
+    ensures whole { (known : Option (List ℕ))
+        → Consumes known (R.remaining input.old) wave.old.walk.trail.reading.line.items → IsFirstLine wave.old.walk.trail.reading.line.items known
+        → OnOk result (IfSome known (λ text. of_walk.IsShownWith terms.cut fixed.now terms.steps text (W.contents out.old) (W.contents out.new))) }
+    ensures fault { (known : Option (List ℕ))
+        → Consumes known (R.remaining input.old) wave.old.walk.trail.reading.line.items → IsFirstLine wave.old.walk.trail.reading.line.items known
+        → OnErr result (of_walk.WritesFront fixed.now terms.steps (W.contents out.old) (W.contents out.new)) }
+    ensures refused { (rest text : List ℕ)
+        → terms.steps ≤ most → of_walk.HasNames fixed.now → R.remaining input.old ≡ Some rest → BeginsText fixed.now wave.old.walk.trail.reading.line.items false rest text
+        → IfErr result (OfRefusal (λ n. of_walk.IsWrongAt fixed.now terms.steps n text)) }
+{
+    if is_severed(terms.cut, wave.walk.trail.reading.line.as_slice()) {
+        return wave.finish_cut(out);
+    }
+    let mut ahead = Ahead::new(fixed.alloc, fixed.table)?;
+    let gone = wave.go(fixed, terms, &mut ahead, input, out);
+    lend(fixed.alloc, fixed.form, &mut wave.walk.trail, refused);
+    gone
+}
+
 /// Reads a trace of the system of a table, and writes its dump with the inside of basic blocks.
 fn write_with<R: BufRead, W: Write>(
     alloc: Global,
@@ -58,23 +95,16 @@ fn write_with<R: BufRead, W: Write>(
 {
     let mut line = Vec::new(alloc);
     next_line(input, &mut line)?;
-    let is_short = is_severed(terms.cut, line.as_slice());
     let form = form_of(line.as_slice());
     let reading = first_reading(alloc, table, form, line)?;
     let mut wave = begin(alloc, table.system, reading)?;
-    if is_short {
-        return wave.finish_cut(out);
-    }
     let fixed = Fixed {
         alloc,
         table,
         form,
         limit: MOST_STEPS,
     };
-    let mut ahead = Ahead::new(alloc, table)?;
-    let gone = wave.go(&fixed, terms, &mut ahead, input, out);
-    lend(alloc, form, &mut wave.walk.trail, refused);
-    gone
+    go_through(&mut wave, &fixed, terms, refused, input, out)
 }
 
 /// Reads a trace of the system, in either form, and writes its value change dump with the inside of basic blocks. The
