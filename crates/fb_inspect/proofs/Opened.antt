@@ -1,5 +1,7 @@
 -- What is kept of the instances before the first event.
-use Rattle.std.proofs.Common.{◌≡◌, ◌+◌, ℕ, List, [], ◌∷◌, ◌++◌, map, Option, Some, None, refl, sym, ◌∙◌, ap, subst, length-append, rules, arith}
+use Rattle.std.proofs.Common.{◌≡◌, ◌<◌, ◌+◌, ℕ, Bool, false, length, List, [], ◌∷◌, ◌++◌, map, Option, Some, None, refl, sym, ◌∙◌, ap, subst, length-append, rules, arith}
+use Rattle.std.specs.Prelude.{unwrap_or}
+use Rattle.std.proofs.lemmas.Option.{slice_get_within}
 use Rattle.fb_types.specs.Blocks.{Basic, Composite, Event, Kind, ports_of_event_block, variable_names}
 use Rattle.fb_types.specs.Names.{Path}
 use Rattle.fb_types.specs.Numbers.{path_at}
@@ -12,7 +14,7 @@ use Rattle.fb_types.specs.declared.library.BasicType.{BasicType}
 use Rattle.fb_types.specs.declared.library.CompositeType.{CompositeType}
 use Rattle.fb_types.specs.declared.library.Ports.{Ports}
 use Rattle.fb_types.specs.declared.value.Value.{Value}
-use Rattle.fb_types.proofs.ByIndex.{slice_get-push}
+use Rattle.fb_types.proofs.ByIndex.{element_at, slice_get-push}
 use Rattle.fb_ecc.specs.declared.state.BasicState.{BasicState}
 use Rattle.fb_event.specs.Reactions.{FitInputs}
 use Rattle.fb_event.specs.State.{State}
@@ -26,14 +28,16 @@ use Rattle.fb_net.specs.declared.block.Block.TheViews.{out-Block, the_lemmas}
 use Rattle.fb_net.proofs.Components.{out_roll, own_basic, own_event}
 use Rattle.fb_net.proofs.Sampling.{ports-of_kind}
 use Rattle.fb_system.specs.Stimuli.{initial_inputs}
-use Rattle.fb_inspect.specs.Looks.{Seen, first_due, opening_look}
+use Rattle.fb_inspect.specs.Looks.{Seen, first_due, most, opening_look}
+use Rattle.fb_inspect.specs.Counted.{left_of}
 use Rattle.fb_inspect.specs.Notes.{own_variables}
 use Rattle.fb_inspect.specs.Timing.{IsBlockKept}
-use Rattle.fb_inspect.specs.Walking.{IsChartKept, IsKept, OpenAll, OpensAs}
+use Rattle.fb_inspect.specs.Walking.{AreUnused, IsChartKept, IsKept, OpenAll, OpensAs, flag_at}
 use Rattle.fb_inspect.specs.declared.blocks.Chart.{Chart}
 use Rattle.fb_inspect.specs.declared.blocks.EventBlock.{EventBlock}
 use Rattle.fb_inspect.specs.declared.blocks.Remembered.{Remembered}
 use Rattle.fb_inspect.specs.declared.blocks.Remembered.TheVariants as kept
+use Rattle.fb_inspect.specs.declared.steps.TickSteps.{TickSteps}
 use Rattle.fb_inspect.proofs.Sampled.{inputs_fit}
 
 -- ---- The kind of what represents an instance
@@ -129,3 +133,27 @@ open_more sys n old new b are here is = subst (λ (l : List Remembered). OpenAll
   all = let e = are.all in omega (arith, e, length-append old (b ∷ []));
   each = slice_get-push (λ j c. OpensAs sys j c) old b are.each (subst (λ (i : ℕ). OpensAs sys i b) (sym are.all) here);
 })
+
+pub unused_more :
+    (n : ℕ) (old new : List TickSteps) (s : TickSteps) → AreUnused n old → left_of s ≡ record { tick = None; left = 0; least = most } → new ≡ old ++ s ∷ [] → AreUnused (n + 1) new
+unused_more n old new s are here is = subst (λ (l : List TickSteps). AreUnused (n + 1) l) (sym is) (record {
+  all = let e = are.all in omega (arith, e, length-append old (s ∷ []));
+  each = slice_get-push (λ j t. left_of t ≡ record { tick = None; left = 0; least = most }) old s are.each here;
+})
+
+-- a flag for one more instance
+pub counted_more : (n : ℕ) (old new : List Bool) (b : Bool) → length old ≡ n → new ≡ old ++ b ∷ [] → length new ≡ n + 1
+counted_more n old new b counted is = let e = length-append old (b ∷ []) in ap length is ∙ omega (arith, e, counted)
+
+pub shown_more :
+    (F : ℕ → Bool) (n : ℕ) (old new : List Bool) (b : Bool) → length old ≡ n → ((k : ℕ) → k < n → flag_at old k ≡ F k) → b ≡ F n → new ≡ old ++ b ∷ []
+    → (k : ℕ) → k < n + 1 → flag_at new k ≡ F k
+shown_more F n old new b counted shown here is k below =
+    let all : List Bool = old ++ b ∷ [] in
+    let e = length-append old (b ∷ []) in
+    let long : length all ≡ n + 1 = omega (arith, e, counted) in
+    let own = element_at all k (subst (λ (j : ℕ). k < j) (sym long) below) in
+    let each =
+    slice_get-push (λ j c. c ≡ F j) old b (λ j c at. sym (ap (λ (o : Option Bool). unwrap_or o false) at) ∙ shown j (subst (λ (i : ℕ). j < i) counted (slice_get_within old j c at)))
+    (subst (λ (i : ℕ). b ≡ F i) (sym counted) here) in
+    ap (λ (l : List Bool). flag_at l k) is ∙ ap (λ (o : Option Bool). unwrap_or o false) own.1 ∙ each k own.0 own.1
