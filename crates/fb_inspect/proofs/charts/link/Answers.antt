@@ -1,5 +1,6 @@
-use Rattle.std.proofs.Common.{◌≡◌, ◌<◌, ◌++◌, ℕ, length, List, None, Ok, Option, Some, refl, sym, ap, subst, ◌∙◌}
-use Rattle.std.specs.Prelude.{IfNone, IfSome, option_map}
+use Rattle.std.proofs.Common.{◌≡◌, ◌<◌, ◌++◌, ℕ, length, List, None, Ok, Option, Some, refl, sym, ap, subst, ◌∙◌, arith}
+use Rattle.std.specs.Prelude.{IfNone, IfSome, OnSome, option_map}
+use Rattle.std.proofs.lemmas.Result.{err_from_is_err_and}
 use Rattle.fb_types.specs.Charts.{Position, actions_of, trial_at}
 use Rattle.fb_types.specs.Names.{Name}
 use Rattle.fb_types.specs.Numbers.{event_at}
@@ -23,7 +24,7 @@ use Rattle.fb_inspect.proofs.Placed.{entered_at, lost_any, marks_any, moved_at}
 use Rattle.fb_inspect.specs.Refusals.{ChartFails}
 use Rattle.fb_inspect.specs.declared.reading.Reading.{Reading}
 use Rattle.fb_inspect.proofs.ChartFailing.{link_fails}
-use Rattle.fb_inspect.proofs.Refused.{err_passed}
+use Rattle.fb_inspect.proofs.Refused.{err_passed, none_passed}
 use Rattle.fb_inspect.proofs.charts.link.Goals as goal
 
 pub returns-in-Err-clause-linked : goal.returns-in-Err-clause-linked
@@ -158,3 +159,107 @@ pub returns-in_ok-note_lost-in-Ok-None-clause-next :
     goal.returns-in_ok-note_lost-in-Ok-None-clause-next
 returns-in_ok-note_lost-in-Ok-None-clause-next g c =
     subst (λ (r : Reading). IsNext c.args.taking.now.fixed c.args.taking.now.line.now.key.tick r) (sym c.in_ok-note_lost-in-Ok-None.ensures.reading) c.requires.next
+
+pub note_cleared-requires : goal.note_cleared-requires
+note_cleared-requires g c = subst (λ (o : Option ℕ). IfSome o (λ k. k < length c.args.taking.now.block.now.transitions)) c.in-Ok-Some.field-0-is c.in-Ok-Some.ensures.within
+
+pub perform_all-requires-clause-chart : goal.perform_all-requires-clause-chart
+perform_all-requires-clause-chart g c = record { block = c.in-Ok-Some.ensures.block; own = c.requires.chart.own }
+
+pub returns-in-Err-clause-chart : goal.returns-in-Err-clause-chart
+returns-in-Err-clause-chart g c = record { block = c.in-Err.ensures.block; own = c.requires.chart.own }
+
+pub returns-in-Err-clause-less : goal.returns-in-Err-clause-less
+returns-in-Err-clause-less g c = λ same. absurd (cc)
+
+pub returns-in-Err-clause-fewer : goal.returns-in-Err-clause-fewer
+returns-in-Err-clause-fewer g c = c.in-Err.ensures.fewer
+
+pub returns-in-Err-clause-next : goal.returns-in-Err-clause-next
+returns-in-Err-clause-next g c = c.requires.next
+
+pub returns-in_ok-note_lost-in-Ok-None-clause-chart : goal.returns-in_ok-note_lost-in-Ok-None-clause-chart
+returns-in_ok-note_lost-in-Ok-None-clause-chart g c = record { block = c.in-Ok-None.ensures.block; own = c.requires.chart.own }
+
+pub returns-in_ok-note_lost-in-Ok-None-clause-less : goal.returns-in_ok-note_lost-in-Ok-None-clause-less
+returns-in_ok-note_lost-in-Ok-None-clause-less g c = λ same. absurd (cc)
+
+pub returns-in_ok-note_lost-in-Ok-None-clause-fewer : goal.returns-in_ok-note_lost-in-Ok-None-clause-fewer
+returns-in_ok-note_lost-in-Ok-None-clause-fewer g c = c.in-Ok-None.ensures.fewer
+
+pub returns-in_err-note_lost-in-Ok-None-clause-linked : goal.returns-in_err-note_lost-in-Ok-None-clause-linked
+returns-in_err-note_lost-in-Ok-None-clause-linked g c = let q = err_from_is_err_and c.from_residual.result c.from_residual.ensures.1 in rw q.1 tt
+
+pub returns-in_err-note_lost-in-Ok-None-clause-chart : goal.returns-in_err-note_lost-in-Ok-None-clause-chart
+returns-in_err-note_lost-in-Ok-None-clause-chart g c = let q = err_from_is_err_and c.from_residual.result c.from_residual.ensures.1 in rw q.1 tt
+
+pub returns-in_err-note_lost-in-Ok-None-clause-less : goal.returns-in_err-note_lost-in-Ok-None-clause-less
+returns-in_err-note_lost-in-Ok-None-clause-less g c = let q = err_from_is_err_and c.from_residual.result c.from_residual.ensures.1 in rw q.1 tt
+
+pub returns-in_err-note_lost-in-Ok-None-clause-next : goal.returns-in_err-note_lost-in-Ok-None-clause-next
+returns-in_err-note_lost-in-Ok-None-clause-next g c = let q = err_from_is_err_and c.from_residual.result c.from_residual.ensures.1 in rw q.1 tt
+
+pub returns-in_err-note_lost-in-Ok-None-clause-refused : goal.returns-in_err-note_lost-in-Ok-None-clause-refused
+returns-in_err-note_lost-in-Ok-None-clause-refused g c = λ names plain. none_passed _ _ _ c.from_residual.ensures.1 tt
+
+pub returns-in_err-note_cleared-in-Ok-Some-clause-linked : goal.returns-in_err-note_cleared-in-Ok-Some-clause-linked
+returns-in_err-note_cleared-in-Ok-Some-clause-linked g c = let q = err_from_is_err_and c.from_residual-in_err-note_cleared-in-Ok-Some.result c.from_residual-in_err-note_cleared-in-Ok-Some.ensures.1 in rw q.1 tt
+
+pub returns-in_err-note_cleared-in-Ok-Some-clause-chart : goal.returns-in_err-note_cleared-in-Ok-Some-clause-chart
+returns-in_err-note_cleared-in-Ok-Some-clause-chart g c = let q = err_from_is_err_and c.from_residual-in_err-note_cleared-in-Ok-Some.result c.from_residual-in_err-note_cleared-in-Ok-Some.ensures.1 in rw q.1 tt
+
+pub returns-in_err-note_cleared-in-Ok-Some-clause-less : goal.returns-in_err-note_cleared-in-Ok-Some-clause-less
+returns-in_err-note_cleared-in-Ok-Some-clause-less g c = let q = err_from_is_err_and c.from_residual-in_err-note_cleared-in-Ok-Some.result c.from_residual-in_err-note_cleared-in-Ok-Some.ensures.1 in rw q.1 tt
+
+pub returns-in_err-note_cleared-in-Ok-Some-clause-next : goal.returns-in_err-note_cleared-in-Ok-Some-clause-next
+returns-in_err-note_cleared-in-Ok-Some-clause-next g c = let q = err_from_is_err_and c.from_residual-in_err-note_cleared-in-Ok-Some.result c.from_residual-in_err-note_cleared-in-Ok-Some.ensures.1 in rw q.1 tt
+
+pub returns-in_err-note_cleared-in-Ok-Some-clause-refused : goal.returns-in_err-note_cleared-in-Ok-Some-clause-refused
+returns-in_err-note_cleared-in-Ok-Some-clause-refused g c = λ names plain. none_passed _ _ _ c.from_residual-in_err-note_cleared-in-Ok-Some.ensures.1 tt
+
+pub returns-in_err-reason-in-Ok-Some-clause-linked : goal.returns-in_err-reason-in-Ok-Some-clause-linked
+returns-in_err-reason-in-Ok-Some-clause-linked g c = let q = err_from_is_err_and c.from_residual-in_err-reason-in-Ok-Some.result c.from_residual-in_err-reason-in-Ok-Some.ensures.1 in rw q.1 tt
+
+pub returns-in_err-reason-in-Ok-Some-clause-chart : goal.returns-in_err-reason-in-Ok-Some-clause-chart
+returns-in_err-reason-in-Ok-Some-clause-chart g c = let q = err_from_is_err_and c.from_residual-in_err-reason-in-Ok-Some.result c.from_residual-in_err-reason-in-Ok-Some.ensures.1 in rw q.1 tt
+
+pub returns-in_err-reason-in-Ok-Some-clause-less : goal.returns-in_err-reason-in-Ok-Some-clause-less
+returns-in_err-reason-in-Ok-Some-clause-less g c = let q = err_from_is_err_and c.from_residual-in_err-reason-in-Ok-Some.result c.from_residual-in_err-reason-in-Ok-Some.ensures.1 in rw q.1 tt
+
+pub returns-in_err-reason-in-Ok-Some-clause-next : goal.returns-in_err-reason-in-Ok-Some-clause-next
+returns-in_err-reason-in-Ok-Some-clause-next g c = let q = err_from_is_err_and c.from_residual-in_err-reason-in-Ok-Some.result c.from_residual-in_err-reason-in-Ok-Some.ensures.1 in rw q.1 tt
+
+pub returns-in_err-note_lost-in-Ok-None-clause-fewer : goal.returns-in_err-note_lost-in-Ok-None-clause-fewer
+returns-in_err-note_lost-in-Ok-None-clause-fewer g c = c.in-Ok-None.ensures.fewer
+
+pub returns-in_err-note_cleared-in-Ok-Some-clause-fewer : goal.returns-in_err-note_cleared-in-Ok-Some-clause-fewer
+returns-in_err-note_cleared-in-Ok-Some-clause-fewer g c = c.in-Ok-Some.ensures.fewer
+
+pub returns-in_err-reason-in-Ok-Some-clause-fewer : goal.returns-in_err-reason-in-Ok-Some-clause-fewer
+returns-in_err-reason-in-Ok-Some-clause-fewer g c = omega (arith, c.perform_all.ensures.fewer, c.in-Ok-Some.ensures.fewer)
+
+pub returns-in-Some-clause-fewer : goal.returns-in-Some-clause-fewer
+returns-in-Some-clause-fewer g c = omega (arith, c.perform_all.ensures.fewer, c.in-Ok-Some.ensures.fewer)
+
+pub returns-in-None-clause-fewer : goal.returns-in-None-clause-fewer
+returns-in-None-clause-fewer g c = omega (arith, c.perform_all.ensures.fewer, c.in-Ok-Some.ensures.fewer)
+
+pub returns-in-Some-clause-chart : goal.returns-in-Some-clause-chart
+returns-in-Some-clause-chart g c = c.in_ok-reason-in-Ok-Some.ensures.chart
+
+pub returns-in-Some-clause-next : goal.returns-in-Some-clause-next
+returns-in-Some-clause-next g c = c.in_ok-reason-in-Ok-Some.ensures.next
+
+pub returns-in-None-clause-chart : goal.returns-in-None-clause-chart
+returns-in-None-clause-chart g c = c.in_ok-reason-in-Ok-Some.ensures.chart
+
+pub returns-in-None-clause-next : goal.returns-in-None-clause-next
+returns-in-None-clause-next g c = c.in_ok-reason-in-Ok-Some.ensures.next
+
+pub returns-in-Some-clause-less : goal.returns-in-Some-clause-less
+returns-in-Some-clause-less g c = λ same. absurd (cc)
+
+pub returns-in-None-clause-less : goal.returns-in-None-clause-less
+returns-in-None-clause-less g c = λ same.
+    let less = subst (λ (o : Option ℕ). OnSome o (c.clear.new.meter.left < c.args.meter.now.left)) c.in-Ok-Some.field-0-is c.in-Ok-Some.ensures.less in
+    omega (arith, less, c.perform_all.ensures.fewer)

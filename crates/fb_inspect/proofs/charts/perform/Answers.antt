@@ -1,5 +1,6 @@
 use Rattle.std.proofs.Common.{◌++◌, ℕ, List, [], ◌∷◌, length, map, Option, refl, sym, ◌∙◌, ap, subst}
 use Rattle.std.proofs.lemmas.List.{length-map}
+use Rattle.std.proofs.lemmas.Result.{err_from_is_err_and}
 use Rattle.fb_types.specs.Charts.{Acts, Position}
 use Rattle.fb_types.specs.Names.{Name}
 use Rattle.fb_types.specs.Numbers.{emission_of, path_at, ports_at}
@@ -78,3 +79,57 @@ returns-in_err-emit_all-clause-refused g c = λ a others at names plain.
 pub returns-in_err-end-clause-refused : goal.returns-in_err-end-clause-refused
 returns-in_err-end-clause-refused g c = λ a others at names plain.
     none_passed _ _ _ c.from_residual-in_err-end.ensures.1 c.in_err-end.ensures.fault
+
+pub returns-clause-chart : goal.returns-clause-chart
+returns-clause-chart g c = record { block = c.acted.ensures.block; own = c.requires.chart.own }
+
+pub returns-clause-state : goal.returns-clause-state
+returns-clause-state g c = c.acted.ensures.state
+
+pub returns-clause-fewer : goal.returns-clause-fewer
+returns-clause-fewer g c = c.acted.ensures.fewer
+
+pub returns-clause-next : goal.returns-clause-next
+returns-clause-next g c = c.in_ok-emit_all.ensures.next
+
+pub returns-in_err-keep_before-clause-chart : goal.returns-in_err-keep_before-clause-chart
+returns-in_err-keep_before-clause-chart g c = let q = err_from_is_err_and c.from_residual.result c.from_residual.ensures.1 in rw q.1 tt
+
+pub returns-in_err-keep_before-clause-next : goal.returns-in_err-keep_before-clause-next
+returns-in_err-keep_before-clause-next g c = let q = err_from_is_err_and c.from_residual.result c.from_residual.ensures.1 in rw q.1 tt
+
+pub returns-in_err-keep_before-clause-shown : goal.returns-in_err-keep_before-clause-shown
+returns-in_err-keep_before-clause-shown g c = λ a at. let q = err_from_is_err_and c.from_residual.result c.from_residual.ensures.1 in rw q.1 tt
+
+pub returns-in_err-keep_before-clause-refused : goal.returns-in_err-keep_before-clause-refused
+returns-in_err-keep_before-clause-refused g c = λ a others at names plain. none_passed _ _ _ c.from_residual.ensures.1 tt
+
+pub returns-in_err-end-clause-chart : goal.returns-in_err-end-clause-chart
+returns-in_err-end-clause-chart g c = let q = err_from_is_err_and c.from_residual-in_err-end.result c.from_residual-in_err-end.ensures.1 in rw q.1 tt
+
+pub returns-in_err-end-clause-next : goal.returns-in_err-end-clause-next
+returns-in_err-end-clause-next g c = let q = err_from_is_err_and c.from_residual-in_err-end.result c.from_residual-in_err-end.ensures.1 in rw q.1 tt
+
+pub returns-in_err-end-clause-shown : goal.returns-in_err-end-clause-shown
+returns-in_err-end-clause-shown g c = λ a at. let q = err_from_is_err_and c.from_residual-in_err-end.result c.from_residual-in_err-end.ensures.1 in rw q.1 tt
+
+pub returns-in_err-note_ran-clause-chart : goal.returns-in_err-note_ran-clause-chart
+returns-in_err-note_ran-clause-chart g c = let q = err_from_is_err_and c.from_residual-in_err-note_ran.result c.from_residual-in_err-note_ran.ensures.1 in rw q.1 tt
+
+pub returns-in_err-note_ran-clause-next : goal.returns-in_err-note_ran-clause-next
+returns-in_err-note_ran-clause-next g c = let q = err_from_is_err_and c.from_residual-in_err-note_ran.result c.from_residual-in_err-note_ran.ensures.1 in rw q.1 tt
+
+pub returns-in_err-note_ran-clause-shown : goal.returns-in_err-note_ran-clause-shown
+returns-in_err-note_ran-clause-shown g c = λ a at. let q = err_from_is_err_and c.from_residual-in_err-note_ran.result c.from_residual-in_err-note_ran.ensures.1 in rw q.1 tt
+
+pub returns-in_err-note_ran-clause-refused : goal.returns-in_err-note_ran-clause-refused
+returns-in_err-note_ran-clause-refused g c = λ a others at names plain. none_passed _ _ _ c.from_residual-in_err-note_ran.ensures.1 tt
+
+pub returns-in_err-emit_all-clause-chart : goal.returns-in_err-emit_all-clause-chart
+returns-in_err-emit_all-clause-chart g c = let q = err_from_is_err_and c.from_residual-in_err-emit_all.result c.from_residual-in_err-emit_all.ensures.1 in rw q.1 tt
+
+pub returns-in_err-emit_all-clause-next : goal.returns-in_err-emit_all-clause-next
+returns-in_err-emit_all-clause-next g c = let q = err_from_is_err_and c.from_residual-in_err-emit_all.result c.from_residual-in_err-emit_all.ensures.1 in rw q.1 tt
+
+pub returns-in_err-emit_all-clause-shown : goal.returns-in_err-emit_all-clause-shown
+returns-in_err-emit_all-clause-shown g c = λ a at. let q = err_from_is_err_and c.from_residual-in_err-emit_all.result c.from_residual-in_err-emit_all.ensures.1 in rw q.1 tt
