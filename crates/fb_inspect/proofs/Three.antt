@@ -1,6 +1,8 @@
 -- A text that begins with three words.
-use Rattle.std.proofs.Common.{◌≡◌, ℕ, List, ◌∷◌, ◌++◌, codes, sym, ap, ◌∙◌, append_assoc}
-use Rattle.fb_wave.specs.Words.{AreThree, IsCut}
+use Rattle.std.proofs.Common.{◌≡◌, ℕ, true, List, ◌∷◌, ◌++◌, Option, Some, None, codes, sym, ap, subst, ◌∙◌, append_assoc}
+use Rattle.std.proofs.lemmas.List.{append_cancel_left}
+use Rattle.std.specs.Prelude.{MatchOption}
+use Rattle.fb_wave.specs.Words.{AreThree, IsCut, is_word}
 
 three_parts : (u v w r : List ℕ) → (u ++ 32 ∷ (v ++ 32 ∷ w)) ++ r ≡ u ++ 32 ∷ (v ++ 32 ∷ (w ++ r))
 three_parts u v w r = simp append_assoc
@@ -18,3 +20,10 @@ are_three text u r0 t v r1 s w rest first blank second gap last =
       last = last.whole;
       ended = last.ended;
     }
+
+-- a blank, and a word that is cut off after it
+pub next_from :
+    {P : Type 0} (word rest : P → List ℕ) (o : Option P) (text t : List ℕ) → text ≡ codes " " ++ t → MatchOption o (is_word t ≡ true) (λ p. IsCut t (word p) (rest p))
+    → MatchOption o ((s : List ℕ) → text ≡ codes " " ++ s → is_word s ≡ true) (λ p. (s : List ℕ) × (text ≡ codes " " ++ s) × IsCut s (word p) (rest p))
+next_from word rest None text t blank whole = λ s other. subst (λ (l : List ℕ). is_word l ≡ true) (append_cancel_left (codes " ") t s (sym blank ∙ other)) whole
+next_from word rest (Some p) text t blank cut = (t, blank, cut)

@@ -1,8 +1,8 @@
 //! The words of a line.
 
-ghost use Rattle.std.specs.Prelude.{◌≡◌, ◌==◌, ◌++◌, ◌∷◌, List, ℕ, true, not, IfSome, MatchOption};
+ghost use Rattle.std.specs.Prelude.{◌≡◌, ◌==◌, ◌++◌, ◌∷◌, List, ℕ, true, codes, not, IfSome, MatchOption};
 ghost use Rattle.std.specs.List.{list_all};
-ghost use Rattle.fb_wave.specs.Words.{AreThree, HasNoThree};
+ghost use Rattle.fb_wave.specs.Words.{AreThree, HasNoThree, IsCut, is_word};
 ghost use Rattle.fb_inspect.specs.LineFaults.{IsNamed};
 
 use fb_wave::words::{after_front, cut};
@@ -17,13 +17,20 @@ pub(crate) struct ThreeWords<'a> {
     pub(crate) rest: &'a [u8],
 }
 
+/// The word that comes after a blank with which a text begins, and what comes after the word.
+fn next_word(text: &[u8]) -> Option<(&[u8], &[u8])>
+    ensures { MatchOption result ((t : List ℕ) → text.now ≡ codes " " ++ t → is_word t ≡ true) (λ p. (t : List ℕ) × (text.now ≡ codes " " ++ t) × IsCut t p.0.now p.1.now) }
+{
+    cut(after_front(text, b" ")?)
+}
+
 /// The three words with which a text begins.
 pub(crate) fn three_words(text: &[u8]) -> Option<ThreeWords<'_>>
     ensures { MatchOption result (HasNoThree text.now) (λ w. AreThree text.now w.resource.now w.sign.now w.port.now w.rest.now) }
 {
     let resource = cut(text)?;
-    let sign = cut(after_front(resource.1, b" ")?)?;
-    let port = cut(after_front(sign.1, b" ")?)?;
+    let sign = next_word(resource.1)?;
+    let port = next_word(sign.1)?;
     Some(ThreeWords {
         resource: resource.0,
         sign: sign.0,
@@ -50,6 +57,6 @@ pub(crate) fn halves(text: &[u8], mark: u8) -> Option<(&[u8], &[u8])>
 pub(crate) fn named_value(text: &[u8]) -> Option<(&[u8], &[u8])>
     ensures { IfSome result (λ p. (rest : List ℕ) × IsNamed text.now p.0.now p.1.now rest) }
 {
-    let parts = cut(after_front(text, b" ")?)?;
-    halves(parts.0, b'=')
+    let word = next_word(text)?;
+    halves(word.0, b'=')
 }

@@ -2,23 +2,24 @@ use Rattle.fb_wave.proofs.Finding.{no_second, no_third, second_whole, third_whol
 use Rattle.fb_inspect.proofs.Three.{are_three}
 use Rattle.fb_inspect.proofs.fault_words.three_words.Goals as goal
 
-pub returns-in_err-after_front : goal.returns-in_err-after_front
-returns-in_err-after_front c = rw c.from_residual-in_err-after_front.ensures (no_second c.args.text.now _ _ c.in_ok-resource.ensures c.in_err-after_front.ensures)
-
 pub returns-in_err-sign : goal.returns-in_err-sign
 returns-in_err-sign c =
-    rw c.from_residual-in_err-sign.ensures (second_whole c.args.text.now _ _ c.in_ok-resource.ensures _ c.in_ok-after_front.ensures c.in_err-sign.ensures)
-
-pub returns-in_err-after_front-2 : goal.returns-in_err-after_front-2
-returns-in_err-after_front-2 c =
-    rw c.from_residual-in_err-after_front-2.ensures
-    (no_third c.args.text.now _ _ c.in_ok-resource.ensures _ c.in_ok-after_front.ensures _ _ c.in_ok-sign.ensures c.in_err-after_front-2.ensures)
+    let text = c.args.text.now in
+    let one = c.in_ok-resource.ensures in
+    rw c.from_residual-in_err-sign.ensures
+    (λ u v w rest are. no_second text _ _ one (λ t blank. second_whole text _ _ one t blank (c.in_err-sign.ensures t blank) u v w rest are) u v w rest are)
 
 pub returns-in_err-port : goal.returns-in_err-port
 returns-in_err-port c =
+    let text = c.args.text.now in
+    let one = c.in_ok-resource.ensures in
+    let two = c.in_ok-sign.ensures in
     rw c.from_residual-in_err-port.ensures
-    (third_whole c.args.text.now _ _ c.in_ok-resource.ensures _ c.in_ok-after_front.ensures _ _ c.in_ok-sign.ensures _ c.in_ok-after_front-2.ensures c.in_err-port.ensures)
+    (λ u v w rest are.
+    no_third text _ _ one two.0 two.1 _ _ two.2 (λ s blank. third_whole text _ _ one two.0 two.1 _ _ two.2 s blank (c.in_err-port.ensures s blank) u v w rest are) u v w rest are)
 
 pub returns : goal.returns
 returns c =
-    are_three c.args.text.now _ _ _ _ _ _ _ _ c.in_ok-resource.ensures c.in_ok-after_front.ensures c.in_ok-sign.ensures c.in_ok-after_front-2.ensures c.in_ok-port.ensures
+    let two = c.in_ok-sign.ensures in
+    let three = c.in_ok-port.ensures in
+    are_three c.args.text.now _ _ _ _ _ _ _ _ c.in_ok-resource.ensures two.1 two.2 three.1 three.2
