@@ -8,6 +8,22 @@ use Rattle.fb_inspect.proofs.Bound.{no_value_at, same_variable}
 use Rattle.fb_inspect.proofs.Named.{alike}
 use Rattle.fb_inspect.proofs.fault_values.unbound_fault.Goals as goal
 
+pub returns-in_default : goal.returns-in_default
+returns-in_default c = λ all first.
+    (c.args.place, c.args.text.now, record { listed = c.requires.place; is = refl; within = c.requires.within c.args.place 0 c.requires.place }, first, c.requires.unbound)
+
+pub returns-then-not-is_known : goal.returns-then-not-is_known
+returns-then-not-is_known c = λ all first.
+    (c.args.place, c.args.text.now, c.in-Some.ensures.0, c.in-Some.named.1.now, first, c.in-Some.ensures.1, c.is_known.ensures c.if-not-is_known.true)
+
+pub returns-then-ne : goal.returns-then-ne
+returns-then-ne c = λ all first.
+    (c.args.place, c.args.text.now, record { listed = c.requires.place; is = refl; within = c.requires.within c.args.place 0 c.requires.place }, first, c.requires.unbound)
+
+pub returns-in-Some-value_of : goal.returns-in-Some-value_of
+returns-in-Some-value_of c = λ all first.
+    (c.args.place, c.args.text.now, record { listed = c.requires.place; is = refl; within = c.requires.within c.args.place 0 c.requires.place }, first, c.requires.unbound)
+
 pub returns-in-None : goal.returns-in-None
 returns-in-None c = λ all first.
     let us = c.args.variables.now in
