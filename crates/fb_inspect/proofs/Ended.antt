@@ -23,7 +23,7 @@ use Rattle.fb_wave.specs.declared.truncation.Cut.TheVariants as cut
 use Rattle.fb_wave.proofs.Copied.{ends_after}
 use Rattle.fb_coverage.specs.declared.marks.Marks.{Marks}
 use Rattle.fb_inspect.specs.Covering.{Covers, IsCovered, IsCoveredBy, IsCutCovered}
-use Rattle.fb_inspect.specs.Happenings.{History, together}
+use Rattle.fb_inspect.specs.Happenings.{History}
 use Rattle.fb_inspect.specs.Inspections.{IsCutInspected, IsCutShown, IsInspected, IsShown, IsShownBy, ShowsFront, all_text, cut_note, one_text}
 use Rattle.fb_inspect.specs.Lines.{IsNext}
 use Rattle.fb_inspect.specs.Looks.{Taking}
@@ -35,7 +35,7 @@ use Rattle.fb_inspect.specs.declared.reading.Reading.{Reading}
 use Rattle.fb_inspect.specs.declared.walk.Extent.{Extent}
 use Rattle.fb_inspect.specs.declared.walk.Extent.TheVariants.{CutOff, Whole}
 use Rattle.fb_inspect.specs.declared.walk.Walk.{Walk}
-use Rattle.fb_inspect.proofs.Happened.{marked_by, marked_none}
+use Rattle.fb_inspect.proofs.Happened.{marked_by}
 use Rattle.fb_inspect.proofs.Severing.{cut_whole, on_some}
 
 -- ---- The end
@@ -205,35 +205,6 @@ module _ (i : Inputs) (form : Form) (only : List Name) (steps : ℕ) (first : Ma
     text = empty;
     marked = record { charts = ap (λ (m : Marks). m.charts) same; ports = ap (λ (m : Marks). m.ports) same };
   }
-
--- such a trace covers no more than before
-pub severed_covers :
-    (may : Cut) (i : Inputs) (only : List Name) (steps : ℕ) (input remaining : Option (List ℕ)) (line : List ℕ) (marks : Marks) → may ≡ cut.Allowed → Consumes input remaining line
-    → IsFirstLine line input → is_unended line ≡ true → IfSome input (λ text. Covers may i steps text marks marks CutOff)
-severed_covers may i only steps input remaining line marks allowed read one short =
-    on_some input _ _ (cut_whole input remaining line read one short)
-    (λ text after. record {
-      only = only;
-      history = together [];
-      goes = (
-        allowed,
-        cut_note,
-        record {
-          form = One;
-          lines = [];
-          untaken = [];
-          trace = record { lines = record { each = All-nil (IsLineOf (system_of i)); rise = tt }; part = after.part; unended = after.unended; is = after.is };
-          of_one = tt;
-          takings = [];
-          lines_are = refl;
-          chain = tt;
-          goes_on = tt;
-          written = refl;
-        },
-        refl,
-      );
-      marked = marked_none i marks marks refl;
-    })
 
 -- where a trace may be cut off or not
 pub shown_whole :

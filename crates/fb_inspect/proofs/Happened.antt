@@ -345,9 +345,6 @@ pub marked_by :
     → AreMarkedBy i h old new
 marked_by i accepted h old new charts ports = record { charts = takings_mark i accepted h.takings old.charts new.charts charts; ports = lines_mark h.lines old.ports new.ports ports }
 
-pub marked_none : (i : Inputs) (m n : Marks) → n ≡ m → AreMarkedBy i (together []) m n
-marked_none i m n same = record { charts = marks_none i m.charts n.charts (ap (λ (b : Marks). b.charts) same); ports = lines_mark [] m.ports n.ports (ap (λ (b : Marks). b.ports) same) }
-
 pub marked_more :
     (i : Inputs) (h : History) (hs : List History) (m o n : Marks) → AreMarkedBy i h m o → AreMarkedBy i (together hs) o n → AreMarkedBy i (together (h ∷ hs)) m n
 marked_more i h hs m o n first rest = record {

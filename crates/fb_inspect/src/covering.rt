@@ -7,19 +7,15 @@ ghost use Rattle.fb_inspect.specs.Looks.{most};
 ghost use Rattle.fb_inspect.specs.Refusals.{OfRefusal};
 ghost use Rattle.fb_inspect.specs.OfSystem.{IsWrongAt};
 
-use crate::ahead::Ahead;
 use crate::error::InspectError;
 use crate::finding::RefusedLine;
-use crate::insides::{begun, first_reading, is_severed, lend};
-use crate::trail::Fixed;
+use crate::insides::{Inspection, inspect_and_mark};
 use crate::walk::{Extent, Terms};
 use fb_coverage::Marks;
 use fb_system::System;
-use fb_types::{MOST_STEPS, Name};
-use fb_wave::{PortTable, SystemPorts, form_of, next_line};
+use fb_types::Name;
 use std::alloc::{AllocError, Global};
 use std::io::{BufRead, sink};
-use std::mem;
 
 /// A path that no instance has: with it alone, no instance is shown.
 ///
@@ -59,46 +55,6 @@ impl Covered {
     }
 }
 
-/// Reads a trace of the system of a table, and marks what it covers next to what others covered.
-fn cover_with<R: BufRead>(
-    alloc: Global,
-    table: &PortTable<'_>,
-    terms: Terms,
-    marks: Marks,
-    refused: &mut RefusedLine,
-    input: &mut R,
-) -> Result<Covered, InspectError>
-    ensures covered { IfOk result (λ covered. IfSome (R.remaining input.old) (λ text. Covers terms.cut table.now.system.now terms.steps text marks covered.marks covered.extent)) }
-    ensures refused { HasNames table.now.system.now → terms.steps ≤ most
-        → IfErr result (OfRefusal (λ n. IfSome (R.remaining input.old) (IsWrongAt table.now.system.now terms.steps n))) }
-{
-    table.system.facts();
-    let mut line = Vec::new(alloc);
-    next_line(input, &mut line)?;
-    if is_severed(terms.cut, line.as_slice()) {
-        return Ok(Covered {
-            marks,
-            extent: Extent::CutOff,
-        });
-    }
-    let form = form_of(line.as_slice());
-    let reading = first_reading(alloc, table, form, line)?;
-    let only = none_shown(alloc)?;
-    let mut walk = begun(alloc, table.system, only.as_slice(), marks, reading)?;
-    let fixed = Fixed {
-        alloc,
-        table,
-        form,
-        limit: MOST_STEPS,
-    };
-    let mut ahead = Ahead::new(alloc, table)?;
-    let gone = walk.go(&fixed, terms, &mut ahead, input, &mut sink());
-    lend(alloc, form, &mut walk.trail, refused);
-    let extent = gone?;
-    let marks = mem::replace(&mut walk.trail.marks, Marks::none(alloc));
-    Ok(Covered { marks, extent })
-}
-
 /// Reads a trace of the system, in either form, and marks what it covers next to what others covered: exactly what its
 /// takings do. Of a trace that is cut off, the event after which only lines of its own block come in its tick is not
 /// counted.
@@ -117,9 +73,18 @@ pub fn cover<R: BufRead>(
     ensures refused { HasNames system.now → terms.steps ≤ most
         → IfErr result (OfRefusal (λ n. IfSome (R.remaining input.old) (IsWrongAt system.now terms.steps n))) }
 {
-    let ports = SystemPorts::of(alloc, system)?;
-    let Some(table) = PortTable::of(alloc, &ports)? else {
-        return Err(InspectError::Names);
+    let only = none_shown(alloc)?;
+    let inspection = Inspection {
+        only: only.as_slice(),
+        terms,
     };
-    cover_with(alloc, &table, terms, marks, refused, input)
+    inspect_and_mark(
+        alloc,
+        system,
+        inspection,
+        marks,
+        refused,
+        input,
+        &mut sink(),
+    )
 }

@@ -1,20 +1,26 @@
 //! What happens inside the blocks of a trace.
 
-ghost use Rattle.std.specs.Prelude.{◌≡◌, ◌≤◌, IfErr, IfOk, IfSome, IsTrue, OnErr, OnOk, true};
+ghost use Rattle.std.specs.Prelude.{◌≡◌, ◌≤◌, ℕ, List, Option, Some, IfErr, IfOk, IfSome, IsTrue, OnErr, OnOk, false, true};
+ghost use Rattle.std.specs.Io.KnownBytes.{Consumes};
 ghost use Rattle.std.specs.List.{list_any};
-ghost use Rattle.fb_types.specs.Names.{Path};
+ghost use Rattle.fb_types.specs.Names.{Name, Path};
 ghost use Rattle.fb_types.specs.Text.{path_text};
 ghost use Rattle.fb_types.specs.OfSystem.{resource_count};
+ghost use Rattle.fb_wave.specs.Copying.{IsFirstLine};
 ghost use Rattle.fb_wave.specs.CutOff.{is_unended};
+ghost use Rattle.fb_inspect.specs.Covering.{Covers};
 ghost use Rattle.fb_inspect.specs.Inspections as spec;
 ghost use Rattle.fb_wave.specs.OfSystem.{HasNames};
 ghost use Rattle.fb_inspect.specs.Looks.{most};
 ghost use Rattle.fb_inspect.specs.Refusals.{OfRefusal};
 ghost use Rattle.fb_inspect.specs.Walking.{AreUnused};
 ghost use Rattle.fb_inspect.specs.OfSystem.{BeginsWalk, IsNext, IsShownBy, IsWrongAt, ShowsFront, ShowsOf};
+ghost use Rattle.fb_inspect.specs.OfWalk as of_walk;
+ghost use Rattle.fb_inspect.specs.OfWalk.{BeginsText, IsCoveredBy, Starts};
 
 use crate::ahead::Ahead;
 use crate::blocks::opened_all;
+use crate::covering::Covered;
 use crate::error::InspectError;
 use crate::fault_names::instance_of;
 use crate::finding::{Finding, RefusedLine};
@@ -22,7 +28,7 @@ use crate::page::Page;
 use crate::reading::{Reading, judged};
 use crate::steps::TickSteps;
 use crate::trail::{Fixed, PassedLines, Trail};
-use crate::walk::{Terms, Walk};
+use crate::walk::{Extent, Terms, Walk};
 use fb_coverage::Marks;
 use fb_system::System;
 use fb_types::{Form, MOST_STEPS, Name};
@@ -191,41 +197,99 @@ pub fn lend(alloc: Global, form: Form, trail: &mut Trail, refused: &mut RefusedL
     refused.finding = mem::replace(&mut trail.finding, Finding::Line);
 }
 
-/// Reads a trace of the system of a table, and writes it with what happens inside the blocks between its lines.
+/// Goes through a trace from its first line, which the walk has read: to its end, or as far as it goes if it is cut off.
+fn go_through<R: BufRead, W: Write>(
+    walk: &mut Walk,
+    fixed: &Fixed<'_, '_>,
+    terms: Terms,
+    refused: &mut RefusedLine,
+    input: &mut R,
+    out: &mut W,
+) -> Result<Extent, InspectError>
+    requires starts { (only : List Name) × Starts fixed.now only walk.old }
+    requires limit { fixed.now.limit ≡ most }
+    ensures whole { (only : List Name) (known : Option (List ℕ))
+        → Starts fixed.now only walk.old → Consumes known (R.remaining input.old) walk.old.trail.reading.line.items → IsFirstLine walk.old.trail.reading.line.items known
+        → OnOk result (IfSome known (λ text. of_walk.IsShownBy terms.cut fixed.now only terms.steps text (W.contents out.old) (W.contents out.new))) }
+    ensures covered { (only : List Name) (known : Option (List ℕ))
+        → Starts fixed.now only walk.old → Consumes known (R.remaining input.old) walk.old.trail.reading.line.items → IsFirstLine walk.old.trail.reading.line.items known
+        → IfOk result (λ extent. IfSome known (λ text. IsCoveredBy terms.cut fixed.now only terms.steps text walk.old.trail.marks walk.new.trail.marks extent)) }
+    ensures fault { (only : List Name) (known : Option (List ℕ))
+        → Starts fixed.now only walk.old → Consumes known (R.remaining input.old) walk.old.trail.reading.line.items → IsFirstLine walk.old.trail.reading.line.items known
+        → OnErr result (of_walk.ShowsFront fixed.now only terms.steps (W.contents out.old) (W.contents out.new)) }
+    ensures refused { (only : List Name) (rest text : List ℕ)
+        → terms.steps ≤ most → of_walk.HasNames fixed.now → Starts fixed.now only walk.old → R.remaining input.old ≡ Some rest → BeginsText fixed.now walk.old.trail.reading.line.items false rest text
+        → IfErr result (OfRefusal (λ n. of_walk.IsWrongAt fixed.now terms.steps n text)) }
+{
+    if is_severed(terms.cut, walk.trail.reading.line.as_slice()) {
+        walk.finish_cut(out)?;
+        return Ok(Extent::CutOff);
+    }
+    let mut ahead = Ahead::new(fixed.alloc, fixed.table)?;
+    let gone = walk.go(fixed, terms, &mut ahead, input, out);
+    lend(fixed.alloc, fixed.form, &mut walk.trail, refused);
+    gone
+}
+
+/// Reads a trace of the system of a table, writes it with what happens inside the blocks between its lines, and marks
+/// what it covers next to what others covered.
 fn inspect_with<R: BufRead, W: Write>(
     alloc: Global,
     table: &PortTable<'_>,
     inspection: Inspection<'_>,
+    marks: Marks,
     refused: &mut RefusedLine,
     input: &mut R,
     out: &mut W,
-) -> Result<(), InspectError>
+) -> Result<Covered, InspectError>
     ensures whole { OnOk result (IfSome (R.remaining input.old) (λ text. IsShownBy inspection.entry.terms.cut table.now.system.now inspection.entry.only.now inspection.entry.terms.steps text (W.contents out.old) (W.contents out.new))) }
+    ensures covered { IfOk result (λ covered. IfSome (R.remaining input.old) (λ text. Covers inspection.entry.terms.cut table.now.system.now inspection.entry.terms.steps text marks covered.marks covered.extent)) }
     ensures fault { OnErr result (ShowsFront table.now.system.now inspection.entry.only.now inspection.entry.terms.steps (W.contents out.old) (W.contents out.new)) }
     ensures refused { HasNames table.now.system.now → inspection.entry.terms.steps ≤ most
         → IfErr result (OfRefusal (λ n. IfSome (R.remaining input.old) (IsWrongAt table.now.system.now inspection.entry.terms.steps n))) }
 {
+    table.system.facts();
     let mut line = Vec::new(alloc);
     next_line(input, &mut line)?;
-    let is_short = is_severed(inspection.terms.cut, line.as_slice());
     let form = form_of(line.as_slice());
     let reading = first_reading(alloc, table, form, line)?;
-    let marks = Marks::none(alloc);
     let mut walk = begun(alloc, table.system, inspection.only, marks, reading)?;
-    if is_short {
-        return walk.finish_cut(out);
-    }
     let fixed = Fixed {
         alloc,
         table,
         form,
         limit: MOST_STEPS,
     };
-    let mut ahead = Ahead::new(alloc, table)?;
-    let gone = walk.go(&fixed, inspection.terms, &mut ahead, input, out);
-    lend(alloc, form, &mut walk.trail, refused);
-    gone?;
-    Ok(())
+    let extent = go_through(&mut walk, &fixed, inspection.terms, refused, input, out)?;
+    let marks = mem::replace(&mut walk.trail.marks, Marks::none(alloc));
+    Ok(Covered { marks, extent })
+}
+
+/// Reads a trace of the system, writes it with what happens inside the blocks between its lines, and marks what it
+/// covers next to what others covered.
+///
+/// # Errors
+/// As those of `inspect`. The marks are lost then.
+pub(crate) fn inspect_and_mark<R: BufRead, W: Write>(
+    alloc: Global,
+    system: &System,
+    inspection: Inspection<'_>,
+    marks: Marks,
+    refused: &mut RefusedLine,
+    input: &mut R,
+    out: &mut W,
+) -> Result<Covered, InspectError>
+    ensures whole { OnOk result (IfSome (R.remaining input.old) (λ text. IsShownBy inspection.entry.terms.cut system.now inspection.entry.only.now inspection.entry.terms.steps text (W.contents out.old) (W.contents out.new))) }
+    ensures covered { IfOk result (λ covered. IfSome (R.remaining input.old) (λ text. Covers inspection.entry.terms.cut system.now inspection.entry.terms.steps text marks covered.marks covered.extent)) }
+    ensures fault { OnErr result (ShowsFront system.now inspection.entry.only.now inspection.entry.terms.steps (W.contents out.old) (W.contents out.new)) }
+    ensures refused { HasNames system.now → inspection.entry.terms.steps ≤ most
+        → IfErr result (OfRefusal (λ n. IfSome (R.remaining input.old) (IsWrongAt system.now inspection.entry.terms.steps n))) }
+{
+    let ports = SystemPorts::of(alloc, system)?;
+    let Some(table) = PortTable::of(alloc, &ports)? else {
+        return Err(InspectError::Names);
+    };
+    inspect_with(alloc, &table, inspection, marks, refused, input, out)
 }
 
 /// Reads a trace of the system, in either form, and writes it with what happens inside the blocks between its lines.
@@ -259,9 +323,7 @@ pub fn inspect<R: BufRead, W: Write>(
     if !have_paths(system, inspection.only) {
         return Err(InspectError::Unknown);
     }
-    let ports = SystemPorts::of(alloc, system)?;
-    let Some(table) = PortTable::of(alloc, &ports)? else {
-        return Err(InspectError::Names);
-    };
-    inspect_with(alloc, &table, inspection, refused, input, out)
+    let marks = Marks::none(alloc);
+    inspect_and_mark(alloc, system, inspection, marks, refused, input, out)?;
+    Ok(())
 }

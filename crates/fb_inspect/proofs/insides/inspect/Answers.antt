@@ -1,48 +1,19 @@
-use Rattle.std.proofs.Common.{subst, ◌∙◌}
-use Rattle.std.specs.Prelude.{IfErr, IfSome, OnErr, OnOk, ◌≤◌}
-use Rattle.fb_types.specs.Headline.{Inputs, system_of}
-use Rattle.fb_inspect.specs.Inspections.{IsShownBy, ShowsFront}
+use Rattle.std.proofs.lemmas.Result.{err_from_is_err_and}
+use Rattle.fb_types.specs.Headline.{system_of}
 use Rattle.fb_inspect.proofs.Ended.{front_none}
-use Rattle.fb_inspect.proofs.Placed.{err_any, of_table}
-use Rattle.fb_wave.specs.Named.{HasNames}
-use Rattle.fb_inspect.specs.Looks.{most}
-use Rattle.fb_inspect.specs.Refusals.{IsWrongAt, OfRefusal}
+use Rattle.fb_inspect.proofs.Placed.{err_any}
 use Rattle.fb_inspect.proofs.insides.inspect.Goals as goal
 
 pub returns-then-not-have_paths-clause-fault : goal.returns-then-not-have_paths-clause-fault
 returns-then-not-have_paths-clause-fault g c =
     front_none (system_of c.args.system.now) c.args.inspection.only.now c.args.inspection.terms.steps (g.W.Write.contents c.args.out.now)
 
-pub returns-in_err-ports-clause-fault : goal.returns-in_err-ports-clause-fault
-returns-in_err-ports-clause-fault g c =
-    err_any c.from_residual.result _ (front_none (system_of c.args.system.now) c.args.inspection.only.now c.args.inspection.terms.steps (g.W.Write.contents c.args.out.now))
-
-pub returns-in_err-table-clause-fault : goal.returns-in_err-table-clause-fault
-returns-in_err-table-clause-fault g c =
-    err_any c.from_residual-in_err-table.result _ (front_none (system_of c.args.system.now) c.args.inspection.only.now c.args.inspection.terms.steps (g.W.Write.contents c.args.out.now))
-
-pub returns-in_default-clause-fault : goal.returns-in_default-clause-fault
-returns-in_default-clause-fault g c = front_none (system_of c.args.system.now) c.args.inspection.only.now c.args.inspection.terms.steps (g.W.Write.contents c.args.out.now)
-
 pub returns-clause-whole : goal.returns-clause-whole
-returns-clause-whole g c =
-    let x = c.args.inspection in
-    let old = g.W.Write.contents c.args.out.now in
-    let new = g.W.Write.contents c.inspect_with.new.out in
-    subst (λ (s : Inputs). OnOk c.inspect_with.result (IfSome (g.R.Read.remaining c.args.input.now) (λ text. IsShownBy x.terms.cut (system_of s) x.only.now x.terms.steps text old new)))
-    (of_table _ c.in-Some.table _ c.in-Some.is c.in_ok-table.ensures.system ∙ c.in_ok-ports.ensures) c.inspect_with.ensures.whole
+returns-clause-whole g c = c.in_ok-inspect_and_mark.ensures.whole
 
-pub returns-clause-fault : goal.returns-clause-fault
-returns-clause-fault g c =
-    let x = c.args.inspection in
-    let old = g.W.Write.contents c.args.out.now in
-    let new = g.W.Write.contents c.inspect_with.new.out in
-    subst (λ (s : Inputs). OnErr c.inspect_with.result (ShowsFront (system_of s) x.only.now x.terms.steps old new))
-    (of_table _ c.in-Some.table _ c.in-Some.is c.in_ok-table.ensures.system ∙ c.in_ok-ports.ensures) c.inspect_with.ensures.fault
+pub returns-in_err-inspect_and_mark-clause-fault : goal.returns-in_err-inspect_and_mark-clause-fault
+returns-in_err-inspect_and_mark-clause-fault g c = err_any c.from_residual.result _ c.in_err-inspect_and_mark.ensures.fault
 
-pub returns-clause-refused : goal.returns-clause-refused
-returns-clause-refused g c =
-    let x = c.args.inspection in
-    subst
-    (λ (s : Inputs). HasNames (system_of s) → x.terms.steps ≤ most → IfErr c.inspect_with.result (OfRefusal (λ n. IfSome (g.R.Read.remaining c.args.input.now) (IsWrongAt (system_of s) x.terms.steps n))))
-    (of_table _ c.in-Some.table _ c.in-Some.is c.in_ok-table.ensures.system ∙ c.in_ok-ports.ensures) c.inspect_with.ensures.refused
+pub returns-in_err-inspect_and_mark-clause-refused : goal.returns-in_err-inspect_and_mark-clause-refused
+returns-in_err-inspect_and_mark-clause-refused g c = λ names few.
+    let q = err_from_is_err_and c.from_residual.result c.from_residual.ensures.1 in rw (q.1, q.2) (c.in_err-inspect_and_mark.ensures.refused names few)
