@@ -31,6 +31,7 @@ use Rattle.fb_inspect.specs.Pages.{IsCutShort}
 use Rattle.fb_inspect.specs.Walking.{Begins, Finishes, FinishesCut, IsComplete, IsCutAfter, IsGone, IsSevered, SendsCutPart, SendsPart, Starts}
 use Rattle.fb_inspect.specs.declared.error.InspectError.{InspectError}
 use Rattle.fb_inspect.specs.declared.error.InspectError.TheVariants.{Refused, Names, Unknown, Memory, Read, Write}
+use Rattle.fb_inspect.specs.declared.page.Page.{Page}
 use Rattle.fb_inspect.specs.declared.reading.Reading.{Reading}
 use Rattle.fb_inspect.specs.declared.walk.Extent.{Extent}
 use Rattle.fb_inspect.specs.declared.walk.Extent.TheVariants.{CutOff, Whole}
@@ -289,6 +290,24 @@ front_none sys only steps old = record {
   parts = refl;
   appended = Appends-nil old;
 }
+
+-- a part of what waits was sent
+pub short_sent :
+    (old new : Option (List ℕ)) (page : Page) (e : InspectError) → IsCutShort old new page e
+    → (got : List ℕ) × (rest : List ℕ) × ((page.text.items ≡ got ++ rest) × Appends old new got)
+short_sent old new page (Refused n) short = absurd short
+short_sent old new page Names short = absurd short
+short_sent old new page Unknown short = absurd short
+short_sent old new page Memory short = absurd short
+short_sent old new page Read short = absurd short
+short_sent old new page (Write n) short = (short.sent, short.missing, (short.parts, short.got))
+
+-- nothing of it was
+pub nothing_sent : (walk : Walk) (old : Option (List ℕ)) → SendsPart walk old old
+nothing_sent walk old = record { got = []; rest = walk.trail.page.text.items ++ walk.trail.reading.line.items; parts = refl; appended = Appends-nil old }
+
+pub no_cut_sent : (walk : Walk) (old : Option (List ℕ)) → SendsCutPart walk old old
+no_cut_sent walk old = record { got = []; rest = walk.trail.page.text.items ++ cut_note; parts = refl; appended = Appends-nil old }
 
 -- some text is that of a line and what is left after it
 pub some_text : (remaining : Option (List ℕ)) (line : List ℕ) → (known : Option (List ℕ)) × Consumes known remaining line

@@ -1,17 +1,19 @@
 //! The lines of a trace, with a look at the next one.
 
-ghost use Rattle.std.specs.Prelude.{IfErr, IfOk, OnOk, ◌≡◌, ◌+◌};
-ghost use Rattle.std.specs.Io.KnownBytes.{Consumes};
+ghost use Rattle.std.specs.Prelude.{IfErr, IfOk, IfSome, IsTrue, OnOk, ◌≡◌, ◌<◌, ◌+◌, false, length};
+ghost use Rattle.std.specs.Io.KnownBytes.{Consumes, IsAtEnd};
 ghost use Rattle.fb_wave.specs.Copying.{IsFirstLine};
 ghost use Rattle.fb_inspect.specs.Lines.{IsPlain};
 ghost use Rattle.fb_inspect.specs.OfSystem.{IsNext};
 ghost use Rattle.fb_inspect.specs.Refusals.{IsNoRefusal, OfRefusal};
+ghost use Rattle.fb_inspect.specs.Walking.{unread};
 ghost use Rattle.fb_inspect.specs.declared.error.InspectError.TheVariants.{Refused};
 
+use crate::ahead::Ahead;
 use crate::error::InspectError;
 use fb_trace::Outcome;
 use fb_types::{Form, Key, Line};
-use fb_wave::{Guess, PortTable, can_end, next_line, read_last, read_line};
+use fb_wave::{Guess, PortTable, can_end, is_over, next_line, read_last, read_line};
 use std::alloc::{AllocError, Global};
 use std::io::BufRead;
 
@@ -125,6 +127,23 @@ impl Reading {
         let line = self.line.as_slice();
         self.next = judged(alloc, table, &mut self.guess, form, tick, line)?;
         Ok(())
+    }
+
+    /// Whether nothing comes after the last line. Otherwise it was read ahead, or this reads it.
+    pub(crate) fn is_at_end<R: BufRead>(
+        &mut self,
+        ahead: &Ahead,
+        input: &mut R,
+    ) -> Result<bool, InspectError>
+        ensures over { IfOk result (λ over. IsTrue over → IsAtEnd (unread ahead.now (R.remaining input.old))) }
+        ensures more { IfOk result (λ over. over ≡ false → IfSome (unread ahead.now (R.remaining input.old)) (λ rest. 0 < length rest)) }
+        ensures number { self.new.number ≡ self.old.number }
+        ensures fault { IfErr result IsNoRefusal }
+    {
+        if !ahead.text.is_empty() {
+            return Ok(false);
+        }
+        Ok(is_over(input, &mut self.line)?)
     }
 
     /// The line that was the next one is it again.

@@ -1,7 +1,7 @@
 //! Through a trace, taking by taking.
 
 ghost use Rattle.std.specs.Prelude.{◌≡◌, ◌<◌, ◌≤◌, ◌+◌, ◌∷◌, ◌++◌, ℕ, List, Option, Some, [], All, IfErr, IfOk, IfSome, IsTrue, OnErr, OnOk, length, true, false};
-ghost use Rattle.std.specs.Io.KnownBytes.{Consumes, IsAtEnd};
+ghost use Rattle.std.specs.Io.KnownBytes.{Consumes};
 ghost use Rattle.fb_types.specs.Systems.{System as Flat};
 ghost use Rattle.fb_types.specs.declared.run.Line as run;
 ghost use Rattle.fb_types.specs.OfSystem.{IsInstance, kind_at, path_at};
@@ -22,12 +22,12 @@ use crate::before::Before;
 use crate::error::InspectError;
 use crate::page::Page;
 use crate::port_dump::PortDump;
-use crate::reading::{Next, Reading};
+use crate::reading::Next;
 use crate::trail::Fixed;
 use crate::walk::{Step, Walk};
 use fb_system::System;
 use fb_trace::Outcome;
-use fb_wave::{Cut, is_over};
+use fb_wave::Cut;
 use std::alloc::AllocError;
 use std::io::{BufRead, Write};
 
@@ -88,23 +88,6 @@ fn is_cut_off(step: Step) -> bool
         Step::CutOff => true,
         Step::Taken | Step::Ended(_) => false,
     }
-}
-
-/// Whether nothing comes after the last line. Otherwise it was read ahead, or this reads it.
-fn is_at_end<R: BufRead>(
-    ahead: &Ahead,
-    reading: &mut Reading,
-    input: &mut R,
-) -> Result<bool, InspectError>
-    ensures over { IfOk result (λ over. IsTrue over → IsAtEnd (unread ahead.now (R.remaining input.old))) }
-    ensures more { IfOk result (λ over. over ≡ false → IfSome (unread ahead.now (R.remaining input.old)) (λ rest. 0 < length rest)) }
-    ensures number { reading.new.number ≡ reading.old.number }
-    ensures fault { IfErr result IsNoRefusal }
-{
-    if !ahead.text.is_empty() {
-        return Ok(false);
-    }
-    Ok(is_over(input, &mut reading.line)?)
 }
 
 impl StateWave {
@@ -199,7 +182,7 @@ impl StateWave {
         self.dump.end(system, end, &mut self.page.text)?;
         let reading = &mut self.walk.trail.reading;
         reading.after_end = true;
-        if !is_at_end(ahead, reading, input)? {
+        if !reading.is_at_end(ahead, input)? {
             return Err(reading.refusal_after());
         }
         self.page.flush(out)

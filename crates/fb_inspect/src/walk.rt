@@ -37,7 +37,7 @@ use crate::trail::{Fixed, Trail, is_stop, put_line};
 use fb_st::Meter;
 use fb_trace::Outcome;
 use fb_types::{Key, LATEST_TICK, Line, MOST_STEPS, Reason, StopMark};
-use fb_wave::{Cut, is_over, read_last};
+use fb_wave::{Cut, read_last};
 use std::alloc::AllocError;
 use std::io::{BufRead, Write};
 use std::mem;
@@ -689,15 +689,12 @@ impl Walk {
     {
         let line = self.trail.reading.line.as_slice();
         put_line(&mut self.trail.page.text, line, true)?;
-        self.trail.reading.after_end = true;
-        if !ahead.text.is_empty() {
-            return Err(self.trail.reading.refusal_after());
+        let reading = &mut self.trail.reading;
+        reading.after_end = true;
+        if !reading.is_at_end(ahead, input)? {
+            return Err(reading.refusal_after());
         }
-        match is_over(input, &mut self.trail.reading.line) {
-            Ok(true) => self.trail.page.flush(out),
-            Ok(false) => Err(self.trail.reading.refusal_after()),
-            Err(fault) => Err(InspectError::from(fault)),
-        }
+        self.trail.page.flush(out)
     }
 
     /// Adds that the trace is cut off, and writes all that waits.

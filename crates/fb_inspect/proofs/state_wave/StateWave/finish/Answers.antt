@@ -43,7 +43,7 @@ returns-clause-fault g c =
 pub returns-then-not-branch-clause-refused : goal.returns-then-not-branch-clause-refused
 returns-then-not-branch-clause-refused g c =
     let r = unread c.args.ahead.now (g.R.Read.remaining c.args.input.now) in
-    refused_then c.refusal_after.result (λ n. n ≡ c.is_at_end.new.reading.number + 1) (λ n. (n ≡ c.args.self.now.walk.trail.reading.number + 1) × IfSome r (λ rest. 0 < length rest)) c.refusal_after.ensures
+    refused_then c.refusal_after.result (λ n. n ≡ c.is_at_end.new.self.number + 1) (λ n. (n ≡ c.args.self.now.walk.trail.reading.number + 1) × IfSome r (λ rest. 0 < length rest)) c.refusal_after.ensures
     (λ n is. (is ∙ ap (λ (k : ℕ). k + 1) c.is_at_end.ensures.number, c.in_ok-is_at_end.ensures.more c.if-not-branch.true))
 
 pub returns-in_err-is_at_end-clause-refused : goal.returns-in_err-is_at_end-clause-refused
