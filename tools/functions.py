@@ -71,7 +71,7 @@ def module_of(path):
 
 def impl_of(head):
     """Returns what rattle calls the impl that these words begin, `Type`, or `TypeTrait` with the type in the trait's brackets,
-    and its kind."""
+    and its kind. That of `Drop` is called `Type`."""
     if not head.startswith("impl"):
         return re.search(r"\btrait (\w+)", head)[1], "any"
     head, is_generic = head.removeprefix("impl").replace("->", "").partition("{")[0], False
@@ -84,6 +84,9 @@ def impl_of(head):
         return "", "any"
     if not of_trait:
         return of_type[1], "own"
+    if of_trait[1] == "Drop":
+        # (rattle puts a drop among the type's own functions)
+        return of_type[1], "any" if is_generic else "trait"
     held = "".join(it[0].upper() + it[1:] for it in (of_trait[2] or "").split("::") if it)
     return of_type[1] + of_trait[1] + held, "any" if is_generic else "trait"
 

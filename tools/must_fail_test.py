@@ -10,7 +10,7 @@ import os
 import sys
 import tempfile
 
-from functions import Function
+from functions import Function, impl_of
 from kit import rt, rtlib
 from must_fail import REFUSED, refusal, try_all
 
@@ -141,6 +141,21 @@ CASES = [
 ]
 
 
+# What an impl begins with, what rattle calls it, and its kind.
+IMPLS = [
+    ("impl Range {", "Range", "own"),
+    ("impl Model for Range {", "RangeModel", "trait"),
+    ("impl From<AllocError> for Range {", "RangeFromAllocError", "trait"),
+    ("impl Drop for Range {", "Range", "trait"),
+    ("impl<T> Drop for Range<T> {", "Range", "any"),
+]
+
+
+def test_on_impls():
+    """Returns the impls that would be looked for at another place than rattle's."""
+    return [head for head, *named in IMPLS if [*impl_of(head)] != named]
+
+
 def test_on_what_is_said():
     """Has `refusal` judge sentences of the prover, and returns those that it judges wrongly."""
     outside = Function("src/exec.rt", "exec", "", "free", (1, 3, 8))
@@ -149,10 +164,11 @@ def test_on_what_is_said():
 
 
 def main():
-    failed = test_on_what_is_said() + test_on_a_crate()
+    failed = test_on_impls() + test_on_what_is_said() + test_on_a_crate()
     for it in failed:
         print(f"FAILED: {it}")
-    print(f"wrong implementations: {len(CASES) + len(EDITS) - len(failed)} of {len(CASES) + len(EDITS)} are judged as they must be")
+    tried = len(IMPLS) + len(CASES) + len(EDITS)
+    print(f"wrong implementations: {tried - len(failed)} of {tried} are judged as they must be")
     return 1 if failed else 0
 
 
