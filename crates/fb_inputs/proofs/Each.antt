@@ -5,7 +5,7 @@ use Rattle.std.specs.List.{filter}
 use Rattle.std.specs.Prelude.{Result, Ok, Err}
 use Rattle.std.proofs.lemmas.List.{length_push}
 use Rattle.fb_inputs.specs.Lists.{all_after, each_at, each_in, placed}
-use Rattle.fb_inputs.specs.Refusals.{and_then}
+use Rattle.fb_inputs.specs.Refusals.{and_then, or_refuse}
 
 -- ---- a loop over the elements, whose rest is known
 
@@ -26,10 +26,14 @@ unfolding each_at
 more_at why f front x xs rest y total split found so_far =
     rw split at so_far ∙ (rw (found, length_push front y) (regroup_at front y (each_at why f (length front + 1) xs)))
 
-pub fails_at : {A B N : Type 0} (why : ℕ → N) (f : A → Option B) (front : List B) (x : A) (xs rest : List A) (total : Result (List B) N) → rest ≡ x ∷ xs → f x ≡ None
-    → total ≡ all_after front (each_at why f (length front) rest) → total ≡ Err (why (length front))
+pub fails_at : {A B N : Type 0} (why : ℕ → N) (f : A → Option B) (front : List B) (x : A) (xs rest : List A) (n : N) (total : Result (List B) N) → rest ≡ x ∷ xs → or_refuse (why (length front)) (f x) ≡ Err n
+    → total ≡ all_after front (each_at why f (length front) rest) → total ≡ Err n
 unfolding each_at
-fails_at why f front x xs rest total split found so_far = rw split at so_far ∙ rw found refl
+fails_at why f front x xs rest n total split found so_far = rw split at so_far ∙ rw found refl
+
+pub not_refused : {A N : Type 0} (n : N) (o : Option A) (y : A) → or_refuse n o ≡ Ok y → o ≡ Some y
+not_refused n None y h = absurd cc
+not_refused {A} n (Some x) y h = let same : x ≡ y = cc in ap (λ (z : A). Some z) same
 
 pub done_at : {A B N : Type 0} (why : ℕ → N) (f : A → Option B) (front : List B) (rest : List A) (total : Result (List B) N) → length rest ≤ 0
     → total ≡ all_after front (each_at why f (length front) rest) → total ≡ Ok front

@@ -1,10 +1,16 @@
--- The parts of a text before and after a mark.
+-- The parts of a text.
 use Rattle.std.proofs.Common.{◌≡◌, ℕ, ◌+◌, ◌-◌, ◌<◌, ◌≤◌, ltb, nat_eq, true, false, length, get_or, take, drop, Some, None, refl, arith}
 use Rattle.std.proofs.lemmas.List.{take_all, length-drop}
 use Rattle.std.proofs.lemmas.Bool.{lt-ltb}
 use Rattle.std.proofs.lemmas.List.Sums.{position_or_len_is}
 use Rattle.std.specs.List.{position_or_len}
 use Rattle.fb_inputs.specs.Words.{Text, parted}
+
+-- the text from an offset on, as a slice has it
+pub from_there : (z : Text) (i : ℕ) → take (length z - i) (drop i z) ≡ drop i z
+from_there z i = take_all (length z - i) (drop i z) (omega (arith, length-drop i z))
+
+-- ---- Before and after a mark
 
 pub parted_at : (mark : ℕ) (z : Text) (i : ℕ) → i < length z → ((k : ℕ) → k < i → nat_eq mark (get_or z k 0) ≡ false) → nat_eq mark (get_or z i 0) ≡ true
     → Some (take i z, take (length z - (i + 1)) (drop (i + 1) z)) ≡ parted mark z

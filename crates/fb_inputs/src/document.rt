@@ -6,6 +6,7 @@ ghost use Rattle.fb_inputs.specs.Lists as lists;
 ghost use Rattle.fb_inputs.specs.DeployPlaces.{AnswersInDocument, AnswersInTable, element_at, shape_in};
 ghost use Rattle.fb_inputs.specs.DeployPlaces as places;
 ghost use Rattle.fb_inputs.specs.Documents as spec;
+ghost use Rattle.fb_inputs.specs.Refusals.{or_refuse};
 
 use crate::deploy_location::{DeployFault, DeployKey, TableError, TableFault, at_top};
 use crate::paired::{placed, then_pair};
@@ -54,15 +55,28 @@ trait Piece: Drop {
         ensures { IfOk result (λ r. r ≡ meaning (view value.now)) };
 }
 
+/// What the value with this index of the array at a key represents.
+fn element<T: Piece>(
+    alloc: Global,
+    value: &Value,
+    key: DeployKey,
+    index: usize,
+) -> Result<T, TableError>
+    ensures { AnswersInTable (λ t. t) (or_refuse (element_at key index) (T.meaning (view value.now))) result }
+{
+    match T::read(alloc, value)? {
+        Some(piece) => Ok(piece),
+        None => Err(TableError::At(TableFault::Element(key, index))),
+    }
+}
+
 /// What the values of the array at a key represent. The first one that is not of that kind is at fault.
 fn each<T: Piece>(alloc: Global, values: &[Value], key: DeployKey) -> Result<Items<T>, TableError>
     ensures { AnswersInTable (λ t. t) (lists.each_at (element_at key) T.meaning 0 (map view values.now)) result }
 {
     let mut found = Items::new(alloc);
     for value in values {
-        let Some(piece) = T::read(alloc, value)? else {
-            return Err(TableError::At(TableFault::Element(key, found.len())));
-        };
+        let piece = element::<T>(alloc, value, key, found.len())?;
         found.push(piece)?;
     }
     Ok(found)
@@ -176,13 +190,10 @@ impl Piece for LatencyDraft {
         let [start, ticks] = values.as_slice() else {
             return Ok(None);
         };
-        let Some(start) = start.as_integer() else {
-            return Ok(None);
-        };
-        let Some(ticks) = ticks.as_integer() else {
-            return Ok(None);
-        };
-        Ok(Some(LatencyDraft { start, ticks }))
+        match (start.as_integer(), ticks.as_integer()) {
+            (Some(start), Some(ticks)) => Ok(Some(LatencyDraft { start, ticks })),
+            _ => Ok(None),
+        }
     }
 }
 

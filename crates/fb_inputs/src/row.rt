@@ -3,6 +3,7 @@
 ghost use Rattle.std.specs.Prelude.{◌≡◌, ◌++◌, [], ◌∷◌, length, not, ◌==◌, if◌then◌else◌, IfOk, option_map};
 ghost use Rattle.fb_inputs.specs.Lists.{each_at};
 ghost use Rattle.fb_inputs.specs.Places.{AnswersInRow, value_at, word_at};
+ghost use Rattle.fb_inputs.specs.Refusals.{or_refuse};
 ghost use Rattle.fb_inputs.specs.Rows as spec;
 
 use crate::location::{RowError, RowFault};
@@ -61,6 +62,16 @@ fn word_of(alloc: Global, text: &[u8]) -> Result<Option<Word>, AllocError>
     Ok(Some(Word { variable, value }))
 }
 
+/// The word with this index.
+fn read_word(alloc: Global, text: &[u8], index: usize) -> Result<Word, RowError>
+    ensures { AnswersInRow (λ w. w) (or_refuse (word_at index) (spec.word text.now)) result }
+{
+    match word_of(alloc, text)? {
+        Some(word) => Ok(word),
+        None => Err(RowError::At(RowFault::Word(index))),
+    }
+}
+
 /// The words between spaces. The first one that is not `NAME=VALUE` is at fault.
 fn words(alloc: Global, text: &[u8]) -> Result<Items<Word>, RowError>
     ensures { AnswersInRow (λ w. w) (each_at word_at spec.word 0 (spec.words text.now)) result }
@@ -70,9 +81,7 @@ fn words(alloc: Global, text: &[u8]) -> Result<Items<Word>, RowError>
         if part.is_empty() {
             continue;
         }
-        let Some(word) = word_of(alloc, part)? else {
-            return Err(RowError::At(RowFault::Word(found.len())));
-        };
+        let word = read_word(alloc, part, found.len())?;
         found.push(word)?;
     }
     Ok(found)
@@ -95,17 +104,25 @@ pub fn draft_of(alloc: Global, at: &[u8], values: &[u8]) -> Result<Draft, RowErr
     })
 }
 
+/// The value for the slot of the word with this index.
+fn setting_of(word: Word, index: usize) -> Result<Setting, RowError>
+    ensures { AnswersInRow (λ s. s) (or_refuse (value_at index) (spec.setting word)) result }
+{
+    let Word { variable, value } = word;
+    match value {
+        Some(value) => Ok(Setting { variable, value }),
+        None => Err(RowError::At(RowFault::Value(index))),
+    }
+}
+
 /// The values for the slots. The first one that is not a value is at fault.
 pub fn settings(alloc: Global, words: Items<Word>) -> Result<Items<Setting>, RowError>
     ensures { AnswersInRow (λ s. s) (each_at value_at spec.setting 0 words) result }
 {
     let mut found = Items::new(alloc);
     for word in words.into_vec() {
-        let Word { variable, value } = word;
-        let Some(value) = value else {
-            return Err(RowError::At(RowFault::Value(found.len())));
-        };
-        found.push(Setting { variable, value })?;
+        let setting = setting_of(word, found.len())?;
+        found.push(setting)?;
     }
     Ok(found)
 }

@@ -81,6 +81,24 @@ pub(crate) fn reader_of(alloc: Global, text: &[u8]) -> RecordReader<'_>
     }
 }
 
+/// Begins again, with a reader that has read nothing.
+fn begin_again<'a>(alloc: Global, text: &'a [u8], reader: &mut RecordReader<'a>)
+    ensures { IsReaderOf text.now reader.new }
+{
+    *reader = reader_of(alloc, text);
+}
+
+/// Keeps a record that was read, and counts it.
+fn keep(reader: &mut RecordReader<'_>, row: ByteRecord)
+    requires { reader.old.read + 1 < 2 ^ 64 }
+    ensures rows { reader.new.rows ≡ reader.old.rows }
+    ensures read { reader.new.read ≡ reader.old.read + 1 }
+    ensures last { reader.new.last ≡ Some row }
+{
+    reader.last = Some(row);
+    reader.read += 1;
+}
+
 /// Reads one record more, if there is one, and returns whether there was. After the last one it begins again.
 fn read_next<'a>(
     alloc: Global,
@@ -94,12 +112,11 @@ fn read_next<'a>(
 {
     match next_row(&mut reader.rows)? {
         Some(row) => {
-            reader.last = Some(row);
-            reader.read += 1;
+            keep(reader, row);
             Ok(true)
         }
         None => {
-            *reader = reader_of(alloc, text);
+            begin_again(alloc, text, reader);
             Ok(false)
         }
     }
@@ -129,7 +146,7 @@ fn go_back<'a>(alloc: Global, text: &'a [u8], reader: &mut RecordReader<'a>, cou
     ensures { IsReaderOf text.now reader.new }
 {
     if count < reader.read {
-        *reader = reader_of(alloc, text);
+        begin_again(alloc, text, reader);
     }
 }
 

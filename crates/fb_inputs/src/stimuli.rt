@@ -1,6 +1,6 @@
 //! Stimuli.
 
-ghost use Rattle.std.specs.Prelude.{◌≡◌, [], ◌∷◌, length, IfErr, IfOk, MatchOption, option_map};
+ghost use Rattle.std.specs.Prelude.{◌≡◌, [], ◌∷◌, length, IfErr, IfOk, MatchOption, nat_le, not, ◌^◌, option_map};
 ghost use Rattle.csv.specs.Reading.{error_kind, strip_bom};
 ghost use Rattle.csv.specs.Records.{fields_of};
 ghost use Rattle.fb_inputs.specs.Readers.{IsAdded, IsAt, IsOpened, IsRead, Opens, kept_of, rows_from};
@@ -25,10 +25,10 @@ use std::alloc::{AllocError, Global};
 fn columns(row: &ByteRecord) -> Option<(&[u8], &[u8], &[u8])>
     ensures { option_map (λ f. (f.0.now, f.1.now, f.2.now)) result ≡ spec.three (fields_of row.now) }
 {
-    if row.len() != 3 {
-        return None;
+    match (row.len(), row.get(0), row.get(1), row.get(2)) {
+        (3, Some(tick), Some(event), Some(values)) => Some((tick, event, values)),
+        _ => None,
     }
-    Some((row.get(0)?, row.get(1)?, row.get(2)?))
 }
 
 /// Whether the record is `tick,event,values`.
@@ -52,6 +52,13 @@ fn is_heading(row: ByteRecord) -> bool
     is_head(&row)
 }
 
+/// Whether a tick is over the greatest one.
+fn is_late(tick: u128) -> bool
+    ensures { result ≡ not (nat_le tick (10 ^ 12)) }
+{
+    tick > LATEST_TICK as u128
+}
+
 /// The stimulus of a row of three fields, after this number of rows.
 #[tactic(auto, unfolding(crate::specs::Stimuli::stimulus, crate::specs::Stimuli::three))]
 fn stimulus_of(
@@ -73,7 +80,7 @@ fn stimulus_of(
         words,
     } = draft;
     let (ends, settings) = then_pair((instance, event), settings(alloc, words))?;
-    if tick > LATEST_TICK as u128 {
+    if is_late(tick) {
         return Err(RowError::At(RowFault::Late));
     }
     if before >= MOST_STIMULI {

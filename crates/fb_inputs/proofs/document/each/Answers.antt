@@ -1,25 +1,31 @@
-use Rattle.std.proofs.Common.{◌+◌, map, drop, sym, ◌∙◌, arith}
+use Rattle.std.proofs.Common.{◌+◌, map, drop, arith}
 use Rattle.std.proofs.lemmas.List.{length-map, length-drop}
+use Rattle.std.proofs.lemmas.Result.{err_from_is_err_and}
 use Rattle.toml.specs.View.{view}
-use Rattle.fb_inputs.specs.DeployPlaces.{element_at}
-use Rattle.fb_inputs.proofs.Each.{nothing_before, more_at, fails_at, done_at}
+use Rattle.fb_inputs.specs.DeployPlaces.{element_at, fault_of}
+use Rattle.fb_inputs.specs.declared.deploy_location.TableFault.{TableFault}
+use Rattle.fb_inputs.proofs.Each.{nothing_before, more_at, fails_at, not_refused, done_at}
+use Rattle.fb_inputs.proofs.Placing.{if-some}
 use Rattle.fb_inputs.proofs.Values.{next_view}
 use Rattle.fb_inputs.proofs.document.each.Goals as goal
 
 pub loop-value-init : goal.loop-value-init
 loop-value-init g c = rw c.new-found.ensures (nothing_before _)
 
-pub returns-in_default : goal.returns-in_default
-returns-in_default g c =
+pub returns-in_err-piece : goal.returns-in_err-piece
+returns-in_err-piece g c =
     let next = next_view c.args.values.now c.loop-value.value-index c.value-item.result c.loop-value-test.true c.value-item.is in
-    rw c.len.ensures (fails_at (element_at c.args.key) g.T.Piece.meaning c.loop-value.found (view c.value-item.result) (map view (drop (c.loop-value.value-index + 1) c.args.values.now)) _ _ next
-    (sym c.in_ok-piece.ensures ∙ c.in_default.is) c.loop-value.invariant)
+    let p = err_from_is_err_and c.from_residual.result c.from_residual.ensures.1 in
+    let f = c.in_err-piece.field-0.0 in
+    rw (p.1, p.2) (if-some (fault_of f) _ _
+    (λ (why : TableFault) e. fails_at (element_at c.args.key) g.T.Piece.meaning c.loop-value.found (view c.value-item.result) (map view (drop (c.loop-value.value-index + 1) c.args.values.now)) _ why _ next e c.loop-value.invariant)
+    (rw c.len.ensures at c.in_err-piece.ensures))
 
 pub loop-value-preserved : goal.loop-value-preserved
 loop-value-preserved g c =
     let next = next_view c.args.values.now c.loop-value.value-index c.value-item.result c.loop-value-test.true c.value-item.is in
     rw c.in_ok-push.ensures.ok (more_at (element_at c.args.key) g.T.Piece.meaning c.loop-value.found (view c.value-item.result) (map view (drop (c.loop-value.value-index + 1) c.args.values.now)) _ _ _ next
-    (sym c.in_ok-piece.ensures ∙ c.in-Some.is) c.loop-value.invariant)
+    (not_refused _ _ _ (rw c.len.ensures at c.in_ok-piece.ensures)) c.loop-value.invariant)
 
 pub returns : goal.returns
 returns g c =

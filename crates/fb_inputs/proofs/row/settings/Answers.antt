@@ -1,19 +1,26 @@
-use Rattle.std.proofs.Common.{refl, ap, arith, length}
-use Rattle.fb_inputs.proofs.Each.{more_at, fails_at, done_at}
-use Rattle.fb_inputs.specs.Places.{value_at}
+use Rattle.std.proofs.Common.{ap, arith, length}
+use Rattle.std.proofs.lemmas.Result.{err_from_is_err_and}
+use Rattle.fb_inputs.proofs.Each.{more_at, fails_at, not_refused, done_at}
+use Rattle.fb_inputs.proofs.Placing.{if-some}
+use Rattle.fb_inputs.specs.Places.{fault_of, value_at}
 use Rattle.fb_inputs.specs.Rows.{setting}
+use Rattle.fb_inputs.specs.declared.location.RowFault.{RowFault}
 use Rattle.fb_inputs.proofs.row.settings.Goals as goal
 
-pub returns-in_default : goal.returns-in_default
-returns-in_default c =
+pub returns-in_err-setting : goal.returns-in_err-setting
+returns-in_err-setting c =
     let step = rw c.in-Some.is at c.next.ensures.steps in
-    rw c.len.ensures (fails_at value_at setting c.loop-word.found c.in-Some.word c.next.new.self.rest.items _ _ step.0 (rw c.in_default.is refl) c.loop-word.invariant.found)
+    let p = err_from_is_err_and c.from_residual.result c.from_residual.ensures.1 in
+    let f = c.in_err-setting.field-0.0 in
+    rw (p.1, p.2) (if-some (fault_of f) _ _
+    (λ (why : RowFault) e. fails_at value_at setting c.loop-word.found c.in-Some.word c.next.new.self.rest.items _ why _ step.0 e c.loop-word.invariant.found)
+    (rw c.len.ensures at c.in_err-setting.ensures))
 
 pub loop-word-preserved : goal.loop-word-preserved
 loop-word-preserved c =
     let step = rw c.in-Some.is at c.next.ensures.steps in
     record {
-      found = rw c.in_ok-push.ensures.ok (more_at value_at setting c.loop-word.found c.in-Some.word c.next.new.self.rest.items _ _ _ step.0 (rw c.in-Some-value.is refl) c.loop-word.invariant.found);
+      found = rw c.in_ok-push.ensures.ok (more_at value_at setting c.loop-word.found c.in-Some.word c.next.new.self.rest.items _ _ _ step.0 (not_refused _ _ _ (rw c.len.ensures at c.in_ok-setting.ensures)) c.loop-word.invariant.found);
       counted = let before = c.loop-word.invariant.counted in let sizes = ap length step.0 in omega arith;
     }
 

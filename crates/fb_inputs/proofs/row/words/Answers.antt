@@ -1,13 +1,16 @@
-use Rattle.std.proofs.Common.{◌≡◌, not, ◌==◌, true, false, List, [], length, nat_eq, drop, sym, ap, ◌∙◌, arith, refl, rules, tests}
+use Rattle.std.proofs.Common.{◌≡◌, not, ◌==◌, true, false, List, [], length, nat_eq, drop, ap, ◌∙◌, arith, refl, rules, tests}
 use Rattle.std.specs.List.{filter, slice_split}
 use Rattle.std.proofs.lemmas.List.{length_push, drop_all}
+use Rattle.std.proofs.lemmas.Result.{err_from_is_err_and}
 use Rattle.std.proofs.lemmas.Iterator.Splits.{YieldsList-from_slice_split}
 use Rattle.std.proofs.lemmas.Iterator.Consumers.{YieldsList-turn, YieldsList-end}
 use Rattle.fb_inputs.specs.Lists.{all_after, each_at}
-use Rattle.fb_inputs.specs.Places.{word_at}
+use Rattle.fb_inputs.specs.Places.{fault_of, word_at}
 use Rattle.fb_inputs.specs.Rows.{word, words}
 use Rattle.fb_inputs.specs.Words.{Text}
-use Rattle.fb_inputs.proofs.Each.{nothing_before, more_at, fails_at, done_at, filter_skips, filter_takes}
+use Rattle.fb_inputs.specs.declared.location.RowFault.{RowFault}
+use Rattle.fb_inputs.proofs.Each.{nothing_before, more_at, fails_at, not_refused, done_at, filter_skips, filter_takes}
+use Rattle.fb_inputs.proofs.Placing.{if-some}
 use Rattle.fb_inputs.proofs.row.words.Goals as goal
 
 pub loop-part-init : goal.loop-part-init
@@ -24,15 +27,18 @@ loop-part-preserved-then-is_empty c =
     let skips = filter_skips (λ w. not (length w == 0)) (slice_split (nat_eq 32) c.args.text.now) (length c.loop-part.yielded) c.in-Some.part.now t none in
     rw (length_push c.loop-part.yielded c.in-Some.part) (c.loop-part.invariant ∙ ap (λ (rest : List Text). all_after c.loop-part.found (each_at word_at word (length c.loop-part.found) rest)) skips)
 
-pub returns-in_default : goal.returns-in_default
-returns-in_default c =
+pub returns-in_err-word : goal.returns-in_err-word
+returns-in_err-word c =
     let start = c.into_iter-part-iterator.ensures.into_iter_gives in
     let split = c.split-part-items.ensures in
     let all = YieldsList-from_slice_split _ (nat_eq 32) c.args.text.now (rw start split.rest) (rw start split.done) refl (λ x r q k. search (rules, tests)) in
     let t = YieldsList-turn all c.loop-part.yielded _ c.loop-part.yielded_by _ _ c.in-Some.part c.in-Some.is c.next.ensures.steps in
     let some : not (length c.in-Some.part.now == 0) ≡ true = search rules in
     let takes = filter_takes (λ w. not (length w == 0)) (slice_split (nat_eq 32) c.args.text.now) (length c.loop-part.yielded) c.in-Some.part.now t some in
-    rw c.len.ensures (fails_at word_at word c.loop-part.found c.in-Some.part.now _ _ _ takes (sym c.in_ok-word.ensures ∙ c.in_default.is) c.loop-part.invariant)
+    let p = err_from_is_err_and c.from_residual.result c.from_residual.ensures.1 in
+    let f = c.in_err-word.field-0.0 in
+    rw (p.1, p.2) (if-some (fault_of f) _ _ (λ (why : RowFault) e. fails_at word_at word c.loop-part.found c.in-Some.part.now _ _ why _ takes e c.loop-part.invariant)
+    (rw c.len.ensures at c.in_err-word.ensures))
 
 pub loop-part-preserved : goal.loop-part-preserved
 loop-part-preserved c =
@@ -42,7 +48,7 @@ loop-part-preserved c =
     let t = YieldsList-turn all c.loop-part.yielded _ c.loop-part.yielded_by _ _ c.in-Some.part c.in-Some.is c.next.ensures.steps in
     let some : not (length c.in-Some.part.now == 0) ≡ true = search rules in
     let takes = filter_takes (λ w. not (length w == 0)) (slice_split (nat_eq 32) c.args.text.now) (length c.loop-part.yielded) c.in-Some.part.now t some in
-    rw (c.in_ok-push.ensures.ok, length_push c.loop-part.yielded c.in-Some.part) (more_at word_at word c.loop-part.found c.in-Some.part.now _ _ _ _ takes (sym c.in_ok-word.ensures ∙ c.in-Some-2.is) c.loop-part.invariant)
+    rw (c.in_ok-push.ensures.ok, length_push c.loop-part.yielded c.in-Some.part) (more_at word_at word c.loop-part.found c.in-Some.part.now _ _ _ _ takes (not_refused _ _ _ (rw c.len.ensures at c.in_ok-word.ensures)) c.loop-part.invariant)
 
 pub returns : goal.returns
 returns c =

@@ -1,4 +1,3 @@
-use Rattle.std.proofs.Common.{refl}
 use Rattle.fb_inputs.proofs.ReadOn.{one_read}
 use Rattle.fb_inputs.proofs.row_positions.read_next.Goals as goal
 
@@ -7,4 +6,5 @@ next_row-requires c = (c.requires.reader.left, c.requires.reader.here)
 
 pub returns-in-Some-clause-reader : goal.returns-in-Some-clause-reader
 returns-in-Some-clause-reader c =
-    one_read c.args.text.now c.args.reader.now _ c.in-Some.row c.requires.reader (rw c.in-Some.is at (rw c.in_ok-row.was at (c.next_row.ensures c.requires.reader.left c.requires.reader.here))) refl refl
+    let next = rw c.in-Some.is at (rw c.in_ok-row.was at (c.next_row.ensures c.requires.reader.left c.requires.reader.here)) in
+    one_read c.args.text.now c.args.reader.now _ c.in-Some.row c.requires.reader (rw c.keep.ensures.rows next) c.keep.ensures.read c.keep.ensures.last

@@ -1,0 +1,16 @@
+use Rattle.std.proofs.Common.{◌+◌, refl, arith}
+use Rattle.fb_inputs.proofs.Parts.{from_there}
+use Rattle.fb_inputs.proofs.near_stimuli.scanned_field.Goals as goal
+
+pub returns : goal.returns
+returns c = λ record_index begins. record {
+  begin = c.args.begin;
+  record_begins = begins;
+  inner = c.in_ok-start.field-0;
+  field_begins = rw (from_there c.args.text.now c.args.begin) at c.in_ok-start.ensures.0;
+  start = refl;
+  len = c.field_len.result;
+  has_length = rw (from_there c.args.text.now (c.args.begin + c.in_ok-start.field-0)) at c.field_len.ensures;
+  end = refl;
+  within = omega arith;
+}
