@@ -15,3 +15,4 @@ pub mod Placing
 pub mod DeployLaws
 pub mod ReadOn
 pub mod Nearest
+pub mod Keywords

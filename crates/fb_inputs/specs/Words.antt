@@ -1,31 +1,17 @@
 -- Names and keywords (IEC 61499-1, Annex B, and IEC 61131-3, 6.1, in manner; letter case is this project's
 -- profile: it is nowhere significant, and names are kept in upper case).
-use Rattle.std.specs.Prelude.{ℕ, ◌+◌, ◌-◌, Bool, false, not, ◌&&◌, ◌||◌, if◌then◌else◌, ◌==◌, nat_le, nat_eq, List, [], ◌∷◌, map, take, drop, position, Option, Some, None, option_map, codes}
+use Rattle.std.specs.Prelude.{ℕ, ◌+◌, Bool, false, not, ◌&&◌, ◌||◌, if◌then◌else◌, nat_eq, List, [], ◌∷◌, take, drop, position, Option, Some, None, option_map, codes}
 use Rattle.std.specs.List.{list_all}
-use Rattle.std.specs.Char.{is_ascii_digit, is_ascii_alphabetic}
 use Rattle.std.specs.Str.{bytes_eq}
+pub use Rattle.fb_read.specs.Words.{is_letter, is_word, upper, in_upper}
 
 abbrev pub Text : Type 0
 Text = List ℕ
-
--- a byte that a name may begin with
-abbrev pub is_letter : ℕ → Bool
-is_letter b = is_ascii_alphabetic b || b == 95
-
--- a letter, a digit or an underscore
-abbrev pub is_word : ℕ → Bool
-is_word b = is_letter b || is_ascii_digit b
 
 -- a letter, and letters, digits and underscores after it
 abbrev pub is_identifier : Text → Bool
 is_identifier [] = false
 is_identifier (b ∷ z) = is_letter b && list_all is_word z
-
-abbrev pub upper : ℕ → ℕ
-upper b = if nat_le 97 b && nat_le b 122 then b - 32 else b
-
-abbrev pub in_upper : Text → Text
-in_upper = map upper
 
 -- whether the word is one of these
 abbrev pub is_among : List Text → Text → Bool

@@ -4,21 +4,10 @@ ghost use Rattle.std.specs.Prelude.{◌≡◌, IfOk, option_map};
 ghost use Rattle.std.specs.List.{list_all};
 ghost use Rattle.fb_inputs.specs.Words as spec;
 
-use crate::keyword::is_keyword;
-use fb_types::{Items, Name};
+use fb_read::keyword::keyword;
+use fb_read::word::{in_upper, is_letter, is_word};
+use fb_types::Name;
 use std::alloc::{AllocError, Global};
-
-fn is_letter(b: u8) -> bool
-    ensures { result ≡ spec.is_letter b }
-{
-    b.is_ascii_alphabetic() || b == b'_'
-}
-
-fn is_word(b: u8) -> bool
-    ensures { result ≡ spec.is_word b }
-{
-    is_letter(b) || b.is_ascii_digit()
-}
 
 fn are_words(text: &[u8]) -> bool
     ensures { result ≡ list_all spec.is_word text.now }
@@ -40,20 +29,11 @@ fn is_identifier(text: &[u8]) -> bool
     }
 }
 
-fn upper(b: u8) -> u8
-    ensures { result ≡ spec.upper b }
+/// Whether a word in upper case is a keyword.
+fn is_keyword(word: &[u8]) -> bool
+    ensures { result ≡ spec.is_keyword word.now }
 {
-    if b.is_ascii_lowercase() { b - 32 } else { b }
-}
-
-fn in_upper(alloc: Global, text: &[u8]) -> Result<Items<u8>, AllocError>
-    ensures { IfOk result (λ t. t ≡ spec.in_upper text.now) }
-{
-    let mut bytes = Vec::with_capacity(alloc, text.len())?;
-    for byte in text {
-        bytes.push(upper(*byte))?;
-    }
-    Ok(Items::from_vec(bytes))
+    keyword(word).is_some()
 }
 
 /// The name of a text, in upper case. A keyword is no name.

@@ -9,7 +9,7 @@
 //! `ports`, `network`, `chart`, `operator`, `expression` and `statement`. Then `refused`, where a text is refused;
 //! `expected`, what could be there instead; `nesting`, where the search for a nesting begins; `laws`; `discarding`,
 //! which frees what was read. The modules from tokens to rules are public for `fb_read_positions`, which reads a text
-//! again up to a position.
+//! again up to a position; `keyword` and `word` are for the names of `fb_inputs`.
 #![tactic(auto)]
 
 mod blank;
@@ -22,7 +22,7 @@ pub mod expected;
 mod expression;
 pub mod fault;
 pub mod front;
-mod keyword;
+pub mod keyword;
 pub mod laws;
 mod nesting;
 mod network;
@@ -36,7 +36,7 @@ mod statement;
 mod time;
 pub mod token;
 pub mod tokens;
-mod word;
+pub mod word;
 
 pub use discarding::discard;
 pub use error::ReadError;

@@ -1,4 +1,0 @@
-use Rattle.fb_inputs.proofs.keyword.is_statement_word.Goals as goal
-
-pub returns : goal.returns
-returns c = c.is_among.ensures

@@ -1,6 +1,0 @@
-use Rattle.std.proofs.Common.{◌≡◌, map, take}
-use Rattle.fb_inputs.specs.Words.{upper}
-use Rattle.fb_inputs.proofs.text.in_upper.Given as goal
-
-abbrev pub invariant-loop-byte : goal.invariant-loop-byte
-invariant-loop-byte l = l.bytes.items ≡ map upper (take l.byte-index l.text)
