@@ -36,19 +36,6 @@ struct Nest {
 }
 
 impl Nest {
-    /// Nothing is pending.
-    fn empty() -> Nest {
-        let none = Pending {
-            level: SIGN,
-            nesting: 0,
-        };
-        Nest {
-            pending: [none; DEEPEST],
-            height: 0,
-            nesting: 0,
-        }
-    }
-
     /// Begins another expression.
     fn clear(&mut self) {
         self.height = 0;
@@ -159,15 +146,19 @@ struct Opened {
 impl Opened {
     /// Nothing is open.
     fn none() -> Opened {
+        let none = Pending {
+            level: SIGN,
+            nesting: 0,
+        };
+        let expression = Nest {
+            pending: [none; DEEPEST],
+            height: 0,
+            nesting: 0,
+        };
         Opened {
             statements: 0,
-            expression: Nest::empty(),
+            expression,
         }
-    }
-
-    /// Whether a statement that begins here nests too deep.
-    fn holds_no_statement(&self) -> bool {
-        self.statements >= MOST_NESTING
     }
 
     /// Counts a mark. Returns whether it or what follows it nests too deep.
@@ -190,9 +181,9 @@ impl Opened {
             }
             Mark::Repeat => {
                 self.statements = self.statements.saturating_add(1);
-                self.holds_no_statement()
+                self.statements >= MOST_NESTING
             }
-            Mark::Then | Mark::Else | Mark::Do | Mark::Colon => self.holds_no_statement(),
+            Mark::Then | Mark::Else | Mark::Do | Mark::Colon => self.statements >= MOST_NESTING,
             Mark::EndIf | Mark::EndCase | Mark::EndFor | Mark::EndWhile | Mark::EndRepeat => {
                 self.statements = self.statements.saturating_sub(1);
                 false

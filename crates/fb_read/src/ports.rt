@@ -44,18 +44,14 @@ impl Rule for Declaration {
 }
 
 /// Adds a variable for each name of a declaration.
-fn declare(
-    variables: Items<Variable>,
-    declaration: Declaration,
-) -> Result<Items<Variable>, AllocError>
-    ensures { IfOk result (λ all. all ≡ variables ++ spec.variables_of declaration) }
+fn declare(all: &mut Items<Variable>, declaration: Declaration) -> Result<(), AllocError>
+    ensures { IfOk result (λ _. all.new ≡ all.old ++ spec.variables_of declaration) }
 {
     let Declaration { names, ty, initial } = declaration;
-    let mut all = variables;
     for name in names.into_vec() {
         all.push(Variable { name, ty, initial })?;
     }
-    Ok(all)
+    Ok(())
 }
 
 /// The variables of all of the declarations.
@@ -64,7 +60,7 @@ fn declared(alloc: Global, declarations: Items<Declaration>) -> Result<Items<Var
 {
     let mut all = Items::new(alloc);
     for declaration in declarations.into_vec() {
-        all = declare(all, declaration)?;
+        declare(&mut all, declaration)?;
     }
     Ok(all)
 }

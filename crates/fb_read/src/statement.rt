@@ -16,10 +16,12 @@ use fb_types::{Body, Branch, Choice, Expr, Items, Label, MOST_NESTING, Name, Ref
 fn bound(cursor: &mut Cursor<'_>) -> Result<i128, ParseFault>
     ensures { Reads (spec.bound cursor.old) result cursor.new }
 {
-    if cursor.eat(Mark::Minus) {
-        Ok(cursor.whole()?.negative())
+    let negative = cursor.eat(Mark::Minus);
+    let whole = cursor.whole()?;
+    if negative {
+        Ok(whole.negative())
     } else {
-        Ok(cursor.whole()?.positive())
+        Ok(whole.positive())
     }
 }
 
