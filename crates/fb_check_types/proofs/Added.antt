@@ -49,3 +49,8 @@ three_added {X} a b c d p q r first second last =
 pub if_ok : {T E : Type 0} {P Q : T → Type 0} (r : Result T E) → ((x : T) → P x → Q x) → IfOk r P → IfOk r Q
 if_ok (Ok x) f h = f x h
 if_ok (Err e) f h = tt
+
+-- what holds of no value
+pub in_any_case : {T E P : Type 0} (r : Result T E) → P → IfOk r (λ _. P)
+in_any_case (Ok x) p = p
+in_any_case (Err e) p = tt

@@ -18,6 +18,7 @@ mod BlockLocations
 mod DeploymentLocations
 mod AllLocations
 mod Mentioned
+mod Unmet
 pub mod Witnesses
 pub mod AllThere
 mod BlockNumbers

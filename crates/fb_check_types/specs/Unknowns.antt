@@ -1,6 +1,6 @@
 -- All locations at which nothing of the required kind has a name (E21), in the order of the declaration: the positions of
 -- names, without those at which a name is known.
-use Rattle.std.specs.Prelude.{ℕ, List, [], ◌++◌, Option, Some, None}
+use Rattle.std.specs.Prelude.{ℕ, Bool, true, List, [], ◌++◌, Option, Some, None}
 use Rattle.fb_types.specs.Repeated.{OwnedNetwork}
 use Rattle.fb_types.specs.Syntax.{body_of}
 use Rattle.fb_types.specs.Unknown.{Required, Mention, is_known, mentions_body, required_parameters}
@@ -38,6 +38,11 @@ use Rattle.fb_check_names.specs.declared.location.UnknownName.{UnknownName}
 use Rattle.fb_check_names.specs.declared.location.UnknownName.TheVariants as location
 use Rattle.fb_check_names.specs.Listed.{each_at, unless}
 use Rattle.fb_check_types.specs.Unknown.{events_of, is_instance, is_resource, is_side_known, is_type_met, required_action, required_transition, variables_for}
+
+-- a name that may be required
+abbrev pub is_optional_met : Option Required → Bool
+is_optional_met None = true
+is_optional_met (Some w) = is_met w
 
 -- a location at which a name may be required
 abbrev pub unmet_at : Option Required → UnknownName → List UnknownName

@@ -6,17 +6,15 @@ ghost use Rattle.fb_types.specs.declared.library.BlockType.TheVariants.{Basic};
 ghost use Rattle.fb_check_names.specs.Types.{AreTypes};
 ghost use Rattle.fb_check_types.specs.Checks.{guard_mentions};
 ghost use Rattle.fb_check_types.specs.declared.basics.Naming.TheVariants as naming;
-ghost use Rattle.fb_check_names.specs.declared.location.Direction.TheVariants as direction;
 ghost use Rattle.fb_check_names.specs.Listed.{each_at, unless};
 ghost use Rattle.fb_check_types.specs.Mentions.{meant};
-ghost use Rattle.fb_check_types.specs.Unknowns.{mention_in, unknown_in_block, unknown_in_body, unknown_in_chart, unknown_in_transition, unknown_mentions, unknown_withs};
+ghost use Rattle.fb_check_types.specs.Unknowns.{mention_in, unknown_in_block, unknown_in_body, unknown_in_chart, unknown_in_transition, unknown_mentions};
 
 use crate::charts::{push_in_states, push_in_withs, push_names};
-use crate::interface::Interface;
 use crate::mentions::{Mention, is_mention_known, push_body, push_expression};
 use crate::scope::Scope;
 use fb_check_names::types::Types;
-use fb_check_names::{Direction, PortKind, UnknownName, push_unless};
+use fb_check_names::{UnknownName, push_unless};
 use fb_types::{Algorithm, BasicType, Transition};
 use std::alloc::{AllocError, Global};
 
@@ -162,42 +160,6 @@ fn push_in_chart(
     push_in_bodies(alloc, found, scope, block, basic.algorithms.as_slice())
 }
 
-/// Adds the names in the WITH lists of event inputs that are no data inputs.
-pub fn push_in_input_withs(
-    found: &mut Vec<UnknownName>,
-    block: usize,
-    interface: &Interface,
-) -> Result<(), AllocError>
-    ensures { IfOk result (λ _. found.new.items ≡ found.old.items ++ unknown_withs block direction.Input interface.now.ports) }
-{
-    push_in_withs(
-        found,
-        interface,
-        PortKind::Input,
-        block,
-        Direction::Input,
-        interface.ports().event_inputs.as_slice(),
-    )
-}
-
-/// Adds the names in the WITH lists of event outputs that are no data outputs.
-pub fn push_in_output_withs(
-    found: &mut Vec<UnknownName>,
-    block: usize,
-    interface: &Interface,
-) -> Result<(), AllocError>
-    ensures { IfOk result (λ _. found.new.items ≡ found.old.items ++ unknown_withs block direction.Output interface.now.ports) }
-{
-    push_in_withs(
-        found,
-        interface,
-        PortKind::Output,
-        block,
-        Direction::Output,
-        interface.ports().event_outputs.as_slice(),
-    )
-}
-
 /// Adds the unknown names of the basic type at an index.
 pub fn push_in_basic(
     alloc: Global,
@@ -212,8 +174,6 @@ pub fn push_in_basic(
 {
     let indexes = &types.catalog.blocks[block];
     let scope = Scope::new(basic, indexes);
-    let interface = scope.interface();
-    push_in_input_withs(found, block, &interface)?;
-    push_in_output_withs(found, block, &interface)?;
+    push_in_withs(found, block, &scope.interface())?;
     push_in_chart(alloc, found, &scope, block)
 }

@@ -8,7 +8,8 @@ ghost use Rattle.fb_check_names.specs.Unknown.{AreBlocks, IsBlockNumbers};
 ghost use Rattle.fb_check_types.specs.Unknowns.{unknown_in_block};
 ghost use Rattle.fb_check_names.specs.Listed.{each_at};
 
-use crate::basics::{push_in_basic, push_in_input_withs, push_in_output_withs};
+use crate::basics::push_in_basic;
+use crate::charts::push_in_withs;
 use crate::ends::NetworkScope;
 use crate::interface::Interface;
 use crate::networks::network_numbers;
@@ -32,8 +33,7 @@ fn composite_numbers(
 {
     let indexes = &types.catalog.blocks[block];
     let interface = Interface::new(&composite.ports, &[], &indexes.ports);
-    push_in_input_withs(found, block, &interface)?;
-    push_in_output_withs(found, block, &interface)?;
+    push_in_withs(found, block, &interface)?;
     let scope = NetworkScope {
         composite: Some((composite, &indexes.ports)),
         network: &composite.network,

@@ -1,18 +1,16 @@
 //! Names in WITH lists and in execution control charts that are unknown (IEC 61499-1, 5.1 and 5.2).
 
-ghost use Rattle.std.specs.Prelude.{◌≡◌, ◌++◌, IfOk};
+ghost use Rattle.std.specs.Prelude.{◌≡◌, ◌++◌, IfOk, option_map};
+ghost use Rattle.fb_types.specs.Repeated.{algorithm_names};
 ghost use Rattle.fb_check_names.specs.PortKinds.{names_of_kind};
-ghost use Rattle.fb_check_names.specs.declared.location.ActionPart.TheVariants as actions;
-ghost use Rattle.fb_check_names.specs.declared.location.TransitionPart.TheVariants as part;
-ghost use Rattle.fb_check_names.specs.declared.location.UnknownName.TheVariants as location;
+ghost use Rattle.fb_check_names.specs.declared.location.Direction.TheVariants as direction;
 ghost use Rattle.fb_check_names.specs.Listed.{each_at};
-ghost use Rattle.fb_check_types.specs.Unknown.{required_action, required_transition};
-ghost use Rattle.fb_check_types.specs.Unknowns.{unknown_in_action, unknown_in_state, unknown_names, unknown_variables, unmet_at};
+ghost use Rattle.fb_check_types.specs.Unknowns.{is_optional_met, unknown_in_action, unknown_in_state, unknown_names, unknown_variables, unknown_withs};
 
 use crate::interface::Interface;
 use crate::scope::Scope;
 use fb_check_names::{ActionPart, Direction, PortKind, TransitionPart, UnknownName, push_unless};
-use fb_types::{Action, EventPort, State, Transition};
+use fb_types::{Action, EventPort, Name, State, Transition};
 use std::alloc::AllocError;
 
 /// Adds the variables in the WITH list of an event that are not of the kind.
@@ -41,8 +39,8 @@ fn push_variables(
     Ok(())
 }
 
-/// The same for all events of one direction of a block type.
-pub fn push_in_withs(
+/// The same for these events of a block type.
+fn push_in_events(
     found: &mut Vec<UnknownName>,
     interface: &Interface,
     port_kind: PortKind,
@@ -60,26 +58,41 @@ pub fn push_in_withs(
     Ok(())
 }
 
-/// Adds the event of a transition, if it is unknown.
-fn push_event(
+/// Adds the names in the WITH lists of a block type that are no data inputs, at event inputs, or no data outputs, at event
+/// outputs.
+pub fn push_in_withs(
     found: &mut Vec<UnknownName>,
-    scope: &Scope,
     block: usize,
-    transition: usize,
-    declared: &Transition,
+    interface: &Interface,
 ) -> Result<(), AllocError>
-    ensures { IfOk result (λ _. found.new.items ≡ found.old.items ++ unmet_at (required_transition scope.now declared.now part.Event) (location.Transition block transition part.Event)) }
+    ensures { IfOk result (λ _. found.new.items ≡ found.old.items ++ (unknown_withs block direction.Input interface.now.ports ++ unknown_withs block direction.Output interface.now.ports)) }
 {
-    let Some(event) = &declared.condition.event else {
-        return Ok(());
-    };
-    let is_event = scope.interface().has_port(PortKind::EventInput, event);
-    let location = UnknownName::Transition {
-        block,
-        transition,
-        part: TransitionPart::Event,
-    };
-    push_unless(found, is_event, location)
+    let (inputs, outputs) = (Direction::Input, Direction::Output);
+    let ports = interface.ports();
+    let events = ports.event_inputs.as_slice();
+    push_in_events(found, interface, PortKind::Input, block, inputs, events)?;
+    let events = ports.event_outputs.as_slice();
+    push_in_events(found, interface, PortKind::Output, block, outputs, events)
+}
+
+/// Whether a name, if there is one, is that of an event port of the kind.
+fn is_event(scope: &Scope, port_kind: PortKind, name: &Option<Name>) -> bool
+    ensures { result ≡ is_optional_met (option_map (λ n. (n, names_of_kind port_kind scope.now.ports)) name.now) }
+{
+    match name {
+        Some(name) => scope.interface().has_port(port_kind, name),
+        None => true,
+    }
+}
+
+/// Whether a name, if there is one, is that of an algorithm.
+fn is_algorithm(scope: &Scope, name: &Option<Name>) -> bool
+    ensures { result ≡ is_optional_met (option_map (λ n. (n, algorithm_names scope.now)) name.now) }
+{
+    match name {
+        Some(name) => scope.is_algorithm(name),
+        None => true,
+    }
 }
 
 /// Adds the names of a transition that are unknown.
@@ -104,54 +117,13 @@ pub fn push_names(
         part: TransitionPart::To,
     };
     push_unless(found, scope.is_state(&declared.to), to)?;
-    push_event(found, scope, block, transition, declared)
-}
-
-/// Adds the algorithm of an action, if it is unknown.
-fn push_algorithm(
-    found: &mut Vec<UnknownName>,
-    scope: &Scope,
-    block: usize,
-    state: usize,
-    action: usize,
-    declared: &Action,
-) -> Result<(), AllocError>
-    ensures { IfOk result (λ _. found.new.items ≡ found.old.items ++ unmet_at (required_action scope.now declared.now actions.Algorithm) (location.Action block state action actions.Algorithm)) }
-{
-    let Some(algorithm) = &declared.algorithm else {
-        return Ok(());
-    };
-    let location = UnknownName::Action {
+    let event = UnknownName::Transition {
         block,
-        state,
-        action,
-        part: ActionPart::Algorithm,
+        transition,
+        part: TransitionPart::Event,
     };
-    push_unless(found, scope.is_algorithm(algorithm), location)
-}
-
-/// Adds the output event of an action, if it is unknown.
-fn push_output(
-    found: &mut Vec<UnknownName>,
-    scope: &Scope,
-    block: usize,
-    state: usize,
-    action: usize,
-    declared: &Action,
-) -> Result<(), AllocError>
-    ensures { IfOk result (λ _. found.new.items ≡ found.old.items ++ unmet_at (required_action scope.now declared.now actions.Output) (location.Action block state action actions.Output)) }
-{
-    let Some(output) = &declared.output else {
-        return Ok(());
-    };
-    let is_output = scope.interface().has_port(PortKind::EventOutput, output);
-    let location = UnknownName::Action {
-        block,
-        state,
-        action,
-        part: ActionPart::Output,
-    };
-    push_unless(found, is_output, location)
+    let is_known = is_event(scope, PortKind::EventInput, &declared.condition.event);
+    push_unless(found, is_known, event)
 }
 
 /// Adds the names of an action that are unknown.
@@ -165,8 +137,21 @@ fn push_in_action(
 ) -> Result<(), AllocError>
     ensures { IfOk result (λ _. found.new.items ≡ found.old.items ++ unknown_in_action scope.now block state action declared.now) }
 {
-    push_algorithm(found, scope, block, state, action, declared)?;
-    push_output(found, scope, block, state, action, declared)
+    let algorithm = UnknownName::Action {
+        block,
+        state,
+        action,
+        part: ActionPart::Algorithm,
+    };
+    push_unless(found, is_algorithm(scope, &declared.algorithm), algorithm)?;
+    let output = UnknownName::Action {
+        block,
+        state,
+        action,
+        part: ActionPart::Output,
+    };
+    let is_known = is_event(scope, PortKind::EventOutput, &declared.output);
+    push_unless(found, is_known, output)
 }
 
 /// The same for the actions of a state.

@@ -5,7 +5,7 @@ ghost use Rattle.fb_check_names.specs.Indexes.{index_in};
 ghost use Rattle.fb_check_types.specs.There.{each_there, ends_in, mapped_unless, sides_unless, some_of};
 ghost use Rattle.fb_check_names.specs.Listed.{each_at};
 
-use crate::there::push_some;
+use crate::there::{push_found, push_some};
 use fb_check_names::{Indexes, LinkEnds, Side, UnknownName, index_of_name, push_unless};
 use fb_types::{Items, Link, Name, ResourceEntry};
 use std::alloc::{AllocError, Global};
@@ -25,8 +25,7 @@ fn listed_of(
     for (instance, name) in names.iter().enumerate() {
         let number = index_of_name(instances, name);
         let location = UnknownName::Mapped { resource, instance };
-        push_unless(found, number.is_some(), location)?;
-        push_some(&mut numbers, number)?;
+        push_found(&mut numbers, found, number, location)?;
     }
     Ok(numbers)
 }
@@ -83,8 +82,7 @@ fn push_link(
         side: Side::To,
     };
     push_unless(found, to.is_some(), location)?;
-    push_some(all, link_between(from, to))?;
-    Ok(())
+    push_some(all, link_between(from, to))
 }
 
 /// The resources of each link. Adds the ends that are no resources.

@@ -179,8 +179,7 @@ fn push_wire(
     )?;
     let to = side_of(types, scope, kinds, flow, Side::To, declared);
     push_unless(found, to.is_some(), end(site, flow, connection, Side::To))?;
-    push_some(wires, connection_between(from, to))?;
-    Ok(())
+    push_some(wires, connection_between(from, to))
 }
 
 /// The connections of a network that carry the same, by number. Adds the ends that are unknown.

@@ -2,7 +2,7 @@
 
 ghost use Rattle.std.specs.Prelude.{◌≡◌, ◌∷◌, ◌++◌, [], IfOk};
 ghost use Rattle.fb_types.specs.Syntax.{body_of, expr_of, stmt_of};
-ghost use Rattle.fb_types.specs.Unknown.{is_known, mentions, mentions_all, mentions_body, mentions_branches, mentions_choices, mentions_in};
+ghost use Rattle.fb_types.specs.Unknown.{OfVariable, is_known, mentions, mentions_all, mentions_body, mentions_branches, mentions_choices, mentions_in};
 ghost use Rattle.fb_check_types.specs.Trees.{all_of, arguments_of, branches_of, choices_of};
 ghost use Rattle.fb_check_types.specs.Mentions.{meant, meant_all, mentions_of_control, mentions_of_step};
 
@@ -82,6 +82,18 @@ fn push_control<'a>(
     push_step(all, step)
 }
 
+/// The same for an assignment: its variable and what is assigned.
+fn push_assignment<'a>(
+    all: &mut Vec<Mention<'a>>,
+    variable: &'a Reference,
+    expr: &'a Expr,
+) -> Result<(), AllocError>
+    ensures { IfOk result (λ _. meant_all all.new.items ≡ meant_all all.old.items ++ (OfVariable variable.now ∷ mentions (expr_of expr.now))) }
+{
+    push_mention(all, Mention::Variable(variable.name()))?;
+    push_expression(all, expr)
+}
+
 /// Adds what the statements of an algorithm name, in the order of the definitions.
 pub fn push_body<'a>(all: &mut Vec<Mention<'a>>, body: &'a Body) -> Result<(), AllocError>
     ensures { IfOk result (λ _. meant_all all.new.items ≡ meant_all all.old.items ++ mentions_body (body_of body.now)) }
@@ -95,10 +107,7 @@ fn push_statement<'a>(all: &mut Vec<Mention<'a>>, statement: &'a Stmt) -> Result
 {
     match statement {
         Stmt::Empty | Stmt::Exit | Stmt::Return => Ok(()),
-        Stmt::Assign(variable, expr) => {
-            push_mention(all, Mention::Variable(variable.name()))?;
-            push_expression(all, expr)
-        }
+        Stmt::Assign(variable, expr) => push_assignment(all, variable, expr),
         Stmt::If(choices, others) => {
             push_choices(all, choices.as_slice())?;
             push_statements(all, others.as_slice())

@@ -5,7 +5,7 @@ ghost use Rattle.fb_types.specs.Kinds.{KindWrong};
 ghost use Rattle.fb_types.specs.Flat.{kind_of};
 ghost use Rattle.fb_types.specs.Repeated as repeated;
 ghost use Rattle.fb_types.specs.declared.deploy.Plan.{Plan};
-ghost use Rattle.fb_types.specs.declared.library.BlockType.TheVariants.{Composite};
+ghost use Rattle.fb_types.specs.declared.library.BlockType.TheVariants.{Basic, Composite};
 ghost use Rattle.fb_check_names.specs.Catalog.{IsBlock, IsCatalog};
 ghost use Rattle.fb_check_names.specs.Numbers.{IsResolved};
 ghost use Rattle.fb_check_types.specs.Checks.{AreBlocks, is_guard_right};
@@ -14,13 +14,15 @@ ghost use Rattle.fb_check_names.specs.Listed.{each_at};
 ghost use Rattle.fb_check_types.specs.MisfitLists.{misfit_guard, misfit_initial, misfits_all, misfits_in_block, misfits_in_body, misfits_initial, misfits_inside};
 ghost use Rattle.fb_check_types.specs.Misfits.{IsMisfitAt};
 
+use crate::Scope;
 use crate::statements::push_in_body;
-use crate::{Scope, is_condition};
 use fb_check_names::{
     BlockIndexes, Catalog, Misfit, NetworkNumbers, Resolved, Site, Variables, push_unless,
 };
 use fb_check_networks::push_wrong_parameters;
-use fb_types::{Algorithm, BlockType, CompositeType, Items, Library, Transition, Variable};
+use fb_types::{
+    Algorithm, BasicType, BlockType, CompositeType, Items, Library, Transition, ValueKind, Variable,
+};
 use std::alloc::{AllocError, Global};
 
 /// Adds the variables that are declared with a value not of their type.
@@ -72,7 +74,7 @@ fn is_guard_right(scope: &Scope, transition: &Transition) -> bool
     ensures { result ≡ is_guard_right scope.now transition.now }
 {
     match &transition.condition.guard {
-        Some(guard) => is_condition(guard, scope),
+        Some(guard) => scope.has_kind(ValueKind::TruthValue, guard),
         None => true,
     }
 }
@@ -107,6 +109,22 @@ fn push_in_bodies(
         push_in_body(alloc, found, scope, block, algorithm, declared)?;
     }
     Ok(())
+}
+
+/// Adds the wrong guards and statements of a basic type. The indexes are those of its names.
+fn push_in_basic(
+    alloc: Global,
+    found: &mut Vec<Misfit>,
+    block: usize,
+    basic: &BasicType,
+    indexes: &BlockIndexes,
+) -> Result<(), AllocError>
+    requires { IsBlock (Basic basic.now) indexes.now }
+    ensures { IfOk result (λ _. found.new.items ≡ found.old.items ++ (each_at (misfit_guard basic.now block) basic.now.transitions ++ each_at (misfits_in_body basic.now block) basic.now.algorithms)) }
+{
+    let scope = Scope::new(basic, indexes);
+    push_guards(found, &scope, block, basic.transitions.as_slice())?;
+    push_in_bodies(alloc, found, &scope, block, basic.algorithms.as_slice())
 }
 
 /// Adds the wrong parameters inside a composite type.
@@ -145,11 +163,7 @@ fn push_inside(
     ensures { IfOk result (λ _. found.new.items ≡ found.old.items ++ misfits_inside library.now block declared.now) }
 {
     match declared {
-        BlockType::Basic(basic) => {
-            let scope = Scope::new(basic, indexes);
-            push_guards(found, &scope, block, basic.transitions.as_slice())?;
-            push_in_bodies(alloc, found, &scope, block, basic.algorithms.as_slice())
-        }
+        BlockType::Basic(basic) => push_in_basic(alloc, found, block, basic, indexes),
         BlockType::Composite(composite) => {
             push_in_composite(found, library, block, composite, numbers)
         }
@@ -204,31 +218,6 @@ fn push_in_blocks(
     Ok(())
 }
 
-/// The list of all such locations.
-fn all_misfits(
-    alloc: Global,
-    library: &Library,
-    catalog: &Catalog,
-    numbers: &Resolved,
-) -> Result<Vec<Misfit>, AllocError>
-    requires catalog { (plan : Plan) × IsCatalog library.now plan catalog.now }
-    requires numbers { (plan : Plan) × IsResolved library.now plan numbers.now }
-    ensures { IfOk result (λ found. found.items ≡ misfits_all library.now) }
-{
-    let mut found = Vec::new(alloc);
-    let indexes = catalog.blocks.as_slice();
-    push_in_blocks(alloc, &mut found, library, indexes, &numbers.blocks)?;
-    let network = &library.application.network;
-    push_wrong_parameters(
-        &mut found,
-        library,
-        Site::Application,
-        network,
-        &numbers.application,
-    )?;
-    Ok(found)
-}
-
 /// All locations at which a value, an expression or a statement has the wrong kind, in the order of the declaration. The
 /// indexes and the numbers are those of the declaration.
 ///
@@ -247,5 +236,16 @@ pub fn misfit_locations(
     ensures each { IfOk result (λ found. All (IsMisfitAt library.now) found.items) }
     ensures none { IfOk result (λ found. found.items ≡ [] → ¬ (KindWrong library.now)) }
 {
-    all_misfits(alloc, library, catalog, numbers)
+    let mut found = Vec::new(alloc);
+    let indexes = catalog.blocks.as_slice();
+    push_in_blocks(alloc, &mut found, library, indexes, &numbers.blocks)?;
+    let network = &library.application.network;
+    push_wrong_parameters(
+        &mut found,
+        library,
+        Site::Application,
+        network,
+        &numbers.application,
+    )?;
+    Ok(found)
 }

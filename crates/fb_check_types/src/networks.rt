@@ -11,11 +11,9 @@ ghost use Rattle.fb_check_names.specs.Listed.{each_at, unless};
 ghost use Rattle.fb_check_names.specs.declared.location.UnknownName.TheVariants as location;
 
 use crate::ends::{NetworkScope, wires_of};
-use crate::there::push_some;
+use crate::there::{push_found, push_one};
 use fb_check_names::types::Types;
-use fb_check_names::{
-    FlowKind, NetworkNumbers, PortKind, Site, TypeNumber, UnknownName, push_unless,
-};
+use fb_check_names::{FlowKind, NetworkNumbers, PortKind, Site, TypeNumber, UnknownName};
 use fb_types::{Instance, Items, Parameter};
 use std::alloc::{AllocError, Global};
 
@@ -42,8 +40,7 @@ fn inputs_of(
             instance,
             parameter,
         };
-        push_unless(found, input.is_some(), location)?;
-        push_some(&mut inputs, input)?;
+        push_found(&mut inputs, found, input, location)?;
     }
     Ok(inputs)
 }
@@ -77,14 +74,12 @@ fn push_instance(
             kinds.push(number)?;
             let parameters = declared.parameters.as_slice();
             let set = inputs_of(alloc, found, types, number, site, instance, parameters)?;
-            inputs.push(set)?;
-            Ok(())
+            inputs.push(set)
         }
         None => {
-            found.push(UnknownName::InstanceType { site, instance })?;
+            push_one(found, UnknownName::InstanceType { site, instance })?;
             kinds.push(no_type(types))?;
-            inputs.push(Items::new(alloc))?;
-            Ok(())
+            inputs.push(Items::new(alloc))
         }
     }
 }

@@ -1,15 +1,17 @@
 //! The meaning of the names in the chart and the bodies of a basic type.
 
 ghost use Rattle.std.specs.Prelude.{◌≡◌, is_some};
-ghost use Rattle.fb_types.specs.Blocks.{among, is_input, variable_names, variables_of};
+ghost use Rattle.fb_types.specs.Blocks.{among, is_input, types_of, variable_names, variables_of};
+ghost use Rattle.fb_types.specs.Kinds.{is_value_kind, value_kind_of};
+ghost use Rattle.fb_types.specs.Syntax.{expr_of};
 ghost use Rattle.fb_types.specs.Repeated.{algorithm_names, state_names};
 ghost use Rattle.fb_types.specs.declared.library.BlockType.TheVariants.{Basic};
 ghost use Rattle.fb_check_names.specs.Catalog.{IsBlock};
 
 use crate::interface::Interface;
-use crate::value_kinds::Typing;
+use crate::value_kinds::{Typing, is_value_kind};
 use fb_check_names::{BlockIndexes, PortKind, index_of_name};
-use fb_types::{BasicType, Name, Ty};
+use fb_types::{BasicType, Expr, Name, Ty, ValueKind};
 use std::marker::Model;
 
 /// A basic type, whose names have indexes. Contracts see the type.
@@ -83,6 +85,13 @@ impl<'a, 'n> Scope<'a, 'n> {
         ensures { result ≡ is_input self.now.ports name.now }
     {
         self.interface().has_port(PortKind::Input, name)
+    }
+
+    /// Whether an expression has the kind.
+    pub(crate) fn has_kind(&self, value_kind: ValueKind, expr: &Expr) -> bool
+        ensures { result ≡ is_value_kind value_kind (value_kind_of (types_of self.now) (expr_of expr.now)) }
+    {
+        is_value_kind(value_kind, expr, self)
     }
 
     /// Whether a name is that of a variable: an input, an output or an internal one.

@@ -1,6 +1,6 @@
 //! Statements of algorithms, and those with a part of the wrong kind (IEC 61131-3, 7.3.3).
 
-ghost use Rattle.std.specs.Prelude.{◌≡◌, ◌∷◌, ◌++◌, [], IfOk, true, false};
+ghost use Rattle.std.specs.Prelude.{◌≡◌, ◌++◌, IfOk, true, false};
 ghost use Rattle.fb_types.specs.Kinds.{context_in};
 ghost use Rattle.fb_types.specs.Syntax.{Assign, For, body_of, expr_of, no_stmt, stmt_of, step_of};
 ghost use Rattle.fb_check_types.specs.Checks.{in_place};
@@ -10,10 +10,7 @@ ghost use Rattle.fb_check_types.specs.MisfitLists.{misfits_in_body, misfits_in_s
 ghost use Rattle.fb_check_types.specs.Statements.{all_standing, each_in_body, each_in_branches, each_in_choices, each_inside, standing_of};
 
 use crate::there::push_one;
-use crate::{
-    Scope, Typing, are_same, is_condition, is_step_whole, is_value_kind, is_whole,
-    value_kind_of_type,
-};
+use crate::{Scope, Typing, are_same, is_step_whole, value_kind_of_type};
 use fb_check_names::{Misfit, StatementPart, push_unless};
 use fb_types::{Algorithm, Body, Branch, Choice, Expr, Reference, Stmt, ValueKind};
 use std::alloc::{AllocError, Global};
@@ -27,17 +24,6 @@ pub struct Standing<'a> {
     pub in_loop: bool,
 }
 
-/// Adds a statement.
-fn push_standing<'a>(
-    all: &mut Vec<Standing<'a>>,
-    statement: &'a Stmt,
-    in_loop: bool,
-) -> Result<(), AllocError>
-    ensures { IfOk result (λ _. all_standing all.new.items ≡ all_standing all.old.items ++ ((in_loop, stmt_of statement.now) ∷ [])) }
-{
-    push_one(all, Standing { statement, in_loop })
-}
-
 /// Adds statements, including those inside them, in the order in which they begin in the text.
 #[cycle(statement)]
 fn push_statements<'a>(
@@ -48,7 +34,7 @@ fn push_statements<'a>(
     ensures { IfOk result (λ _. all_standing all.new.items ≡ all_standing all.old.items ++ each_in_body in_loop (all_of statements.now)) }
 {
     for statement in statements {
-        push_standing(all, statement, in_loop)?;
+        push_one(all, Standing { statement, in_loop })?;
         push_inside(all, statement, in_loop)?;
     }
     Ok(())
@@ -155,7 +141,7 @@ fn push_choice_parts(
     ensures { IfOk result (λ _. found.new.items ≡ found.old.items ++ wrong_choices (part_at at) (context_in scope.now) 0 (choices_of choices.now)) }
 {
     for (index, choice) in choices.iter().enumerate() {
-        let is_right = is_condition(&choice.condition, scope);
+        let is_right = scope.has_kind(ValueKind::TruthValue, &choice.condition);
         push_part(found, at, is_right, StatementPart::Choice(index))?;
     }
     Ok(())
@@ -174,7 +160,7 @@ fn push_assignment_parts(
     let is_assignable = !scope.is_input(variable.name());
     push_part(found, at, is_assignable, StatementPart::Assigned)?;
     let kind = value_kind_of_type(scope.type_of(variable.name()));
-    let is_of_kind = is_value_kind(kind, expr, scope);
+    let is_of_kind = scope.has_kind(kind, expr);
     push_part(found, at, is_of_kind, StatementPart::Value)
 }
 
@@ -207,8 +193,10 @@ fn push_for_parts(
     ensures { IfOk result (λ _. found.new.items ≡ found.old.items ++ wrong_parts (part_at at) (context_in scope.now) (For variable.now (expr_of start.now) (expr_of end.now) (step_of step.now) no_stmt)) }
 {
     push_control_parts(found, scope, at, variable)?;
-    push_part(found, at, is_whole(start, scope), StatementPart::Start)?;
-    push_part(found, at, is_whole(end, scope), StatementPart::End)?;
+    let is_number = scope.has_kind(ValueKind::WholeNumber, start);
+    push_part(found, at, is_number, StatementPart::Start)?;
+    let is_number = scope.has_kind(ValueKind::WholeNumber, end);
+    push_part(found, at, is_number, StatementPart::End)?;
     let is_number = is_step_whole(step, scope);
     push_part(found, at, is_number, StatementPart::Step)
 }
@@ -228,18 +216,18 @@ fn push_parts(
         Stmt::Assign(variable, expr) => push_assignment_parts(found, scope, at, variable, expr),
         Stmt::If(choices, _) => push_choice_parts(found, scope, at, choices.as_slice()),
         Stmt::Case(selector, _, _) => {
-            let is_number = is_whole(selector, scope);
+            let is_number = scope.has_kind(ValueKind::WholeNumber, selector);
             push_part(found, at, is_number, StatementPart::Selector)
         }
         Stmt::For(variable, start, end, step, _) => {
             push_for_parts(found, scope, at, variable, start, end, step)
         }
         Stmt::While(condition, _) => {
-            let is_right = is_condition(condition, scope);
+            let is_right = scope.has_kind(ValueKind::TruthValue, condition);
             push_part(found, at, is_right, StatementPart::Condition)
         }
         Stmt::Repeat(_, condition) => {
-            let is_right = is_condition(condition, scope);
+            let is_right = scope.has_kind(ValueKind::TruthValue, condition);
             push_part(found, at, is_right, StatementPart::Until)
         }
     }

@@ -1,6 +1,11 @@
-use Rattle.std.proofs.Common.{length, refl, arith}
+use Rattle.std.proofs.Common.{◌++◌, length, append_assoc, refl, sym, ◌∙◌, ap, arith}
 use Rattle.std.proofs.lemmas.Option.{slice_get_read}
+use Rattle.fb_types.specs.declared.library.BasicType.{BasicType}
 use Rattle.fb_types.specs.declared.library.BlockType.TheVariants as block
+use Rattle.fb_check_names.specs.declared.location.Direction.TheVariants.{Input, Output}
+use Rattle.fb_check_types.specs.Roles.{Declared}
+use Rattle.fb_check_types.specs.Unknowns.{unknown_in_chart, unknown_withs}
+use Rattle.fb_check_types.proofs.Added.{then_added}
 use Rattle.fb_check_types.proofs.BlockNumbers.{has_indexes}
 use Rattle.fb_check_types.proofs.basics.push_in_basic.Goals as goal
 
@@ -16,3 +21,17 @@ new-scope-requires c =
     let t = block.Basic c.args.basic.now in
     c.requires.types.has.blocks c.args.block t c.index-indexes.result.now c.requires.index
     (slice_get_read ds (length ds) c.args.block c.index-indexes.result.now refl (has_indexes types.library.now types.catalog.now c.args.block t c.requires.types.has c.requires.index) c.index-indexes.ensures)
+
+pub returns : goal.returns
+returns c =
+    let b = c.args.block in
+    let t = c.args.basic.now in
+    let s = c.new-scope.result in
+    let ins = unknown_withs b Input t.ports in
+    let outs = unknown_withs b Output t.ports in
+    let f0 = c.args.found.now.items in
+    then_added c.push_in_chart.result f0 c.push_in_withs.new.found.items c.push_in_chart.new.found.items (ins ++ outs) (unknown_in_chart s b) _
+    (ap (λ (x : BasicType). ins ++ (outs ++ unknown_in_chart x b)) (sym c.new-scope.ensures) ∙ sym (append_assoc ins outs (unknown_in_chart s b)))
+    (c.in_ok-push_in_withs.ensures ∙ ap (λ (d : Declared). f0 ++ (unknown_withs b Input d.ports ++ unknown_withs b Output d.ports)) c.interface.ensures
+    ∙ ap (λ (x : BasicType). f0 ++ (unknown_withs b Input x.ports ++ unknown_withs b Output x.ports)) c.new-scope.ensures)
+    c.push_in_chart.ensures

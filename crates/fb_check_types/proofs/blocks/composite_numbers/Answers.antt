@@ -1,4 +1,4 @@
-use Rattle.std.proofs.Common.{◌≡◌, ◌++◌, [], length, Some, ℕ, Bor, refl, ◌∙◌, subst, arith}
+use Rattle.std.proofs.Common.{◌≡◌, ◌++◌, [], length, Some, ℕ, Bor, append_assoc, refl, sym, ◌∙◌, ap, subst, arith}
 use Rattle.std.specs.BTreeMap.{BTreeMap}
 use Rattle.std.proofs.lemmas.Option.{same_Some, slice_get_read}
 use Rattle.fb_types.specs.Names.{Name}
@@ -8,8 +8,9 @@ use Rattle.fb_check_names.specs.PortKinds.{AreIndexesOf}
 use Rattle.fb_check_names.specs.declared.location.Direction.TheVariants.{Input, Output}
 use Rattle.fb_check_names.specs.declared.location.Site.TheVariants.{Inside}
 use Rattle.fb_check_names.proofs.Listing.{none_right}
+use Rattle.fb_check_types.specs.Roles.{Declared}
 use Rattle.fb_check_types.specs.Unknowns.{unknown_in_network, unknown_withs}
-use Rattle.fb_check_types.proofs.Added.{if_ok}
+use Rattle.fb_check_types.proofs.Added.{if_ok, then_added}
 use Rattle.fb_check_types.proofs.BlockNumbers.{composite_ports, composite_instances, has_indexes}
 use Rattle.fb_check_types.proofs.blocks.composite_numbers.Goals as goal
 
@@ -34,6 +35,18 @@ network_numbers-requires-clause-scope c =
           (composite_ports _ _ _ _ c.index-indexes.result.now c.requires.types.has c.requires.index c.index-indexes.ensures);
       instances = composite_instances _ _ _ _ c.index-indexes.result.now c.requires.types.has c.requires.index c.index-indexes.ensures;
     }
+
+pub returns-clause-listed : goal.returns-clause-listed
+returns-clause-listed c =
+    let t = c.args.composite.now in
+    let b = c.args.block in
+    let ins = unknown_withs b Input t.ports in
+    let outs = unknown_withs b Output t.ports in
+    let inside = unknown_in_network c.args.types.now.library.now (Inside b) (Some t, t.network) in
+    let f0 = c.args.found.now.items in
+    then_added c.network_numbers.result f0 c.push_in_withs.new.found.items c.network_numbers.new.found.items (ins ++ outs) inside _ (sym (append_assoc ins outs inside))
+    (c.in_ok-push_in_withs.ensures ∙ ap (λ (d : Declared). f0 ++ (unknown_withs b Input d.ports ++ unknown_withs b Output d.ports)) c.new-interface.ensures)
+    c.network_numbers.ensures.listed
 
 pub returns-clause-numbers : goal.returns-clause-numbers
 returns-clause-numbers c =

@@ -3,7 +3,8 @@ use Rattle.std.specs.Prelude.{is_some}
 use Rattle.fb_check_names.specs.Indexes.{index_in}
 use Rattle.fb_check_types.specs.There.{each_there, mapped_unless, some_of}
 use Rattle.fb_check_names.specs.declared.location.UnknownName.TheVariants as location
-use Rattle.fb_check_names.proofs.Listing.{added_unless, each_done, each_more}
+use Rattle.fb_check_names.specs.Listed.{unless}
+use Rattle.fb_check_names.proofs.Listing.{each_done, each_more}
 use Rattle.fb_check_types.proofs.Added.{list_added, one_added}
 use Rattle.fb_check_types.proofs.deployment.listed_of.Goals as goal
 
@@ -16,11 +17,11 @@ loop-instance-preserved c =
     let k = c.loop-instance.instance in
     let x = c.index-names-instance.result in
     let number = c.index_of_name-number.ensures in (
-      each_more (mapped_unless m c.args.resource) c.args.names.now k x c.loop-instance.found.items c.push_unless.new.found.items _ c.loop-instance-test.true c.index-names-instance.is
-          (added_unless c.loop-instance.found.items c.push_unless.new.found.items c.is_some.result (is_some (index_in m x)) (location.Mapped c.args.resource k) (c.is_some.ensures ∙ ap is_some number) c.in_ok-push_unless.ensures)
+      each_more (mapped_unless m c.args.resource) c.args.names.now k x c.loop-instance.found.items c.push_found.new.found.items _ c.loop-instance-test.true c.index-names-instance.is
+          (c.in_ok-push_found.ensures.listed ∙ ap (λ (o : Option ℕ). c.loop-instance.found.items ++ unless (is_some o) (location.Mapped c.args.resource k)) number)
           c.loop-instance.invariant.0,
-      one_added (each_there (index_in m)) (λ x. some_of (index_in m x)) c.args.names.now k x c.loop-instance.numbers c.push_some.new.items _ (λ y ys. refl)
-          c.loop-instance-test.true c.index-names-instance.is (c.in_ok-push_some.ensures ∙ ap (λ (o : Option ℕ). c.loop-instance.numbers ++ some_of o) number) c.loop-instance.invariant.1,
+      one_added (each_there (index_in m)) (λ x. some_of (index_in m x)) c.args.names.now k x c.loop-instance.numbers c.push_found.new.items _ (λ y ys. refl)
+          c.loop-instance-test.true c.index-names-instance.is (c.in_ok-push_found.ensures.item ∙ ap (λ (o : Option ℕ). c.loop-instance.numbers ++ some_of o) number) c.loop-instance.invariant.1,
     )
 
 pub returns-clause-listed : goal.returns-clause-listed

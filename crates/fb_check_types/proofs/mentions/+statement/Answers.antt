@@ -6,7 +6,7 @@ use Rattle.fb_types.specs.declared.text.Choice.{Choice}
 use Rattle.fb_types.specs.declared.text.Stmt.{Stmt}
 use Rattle.fb_check_types.specs.Trees.{all_of, branch_of, branches_of, choice_of, choices_of}
 use Rattle.fb_check_types.specs.Mentions.{meant_all}
-use Rattle.fb_check_types.proofs.Added.{both_added, list_added, one_added, then_added}
+use Rattle.fb_check_types.proofs.Added.{all_added, both_added, list_added, one_added, then_added}
 use Rattle.fb_check_types.proofs.Mentioned.{assign_names, branch_names, case_names, choice_names, for_names, if_names, repeat_names, while_names}
 use Rattle.fb_check_types.proofs.mentions.+statement.Goals as goal
 
@@ -37,11 +37,11 @@ push_choices-returns t c =
     list_added (λ (cs : List Choice). mentions_choices (choices_of cs)) c.args.choices.now c.loop-choice.choice-index (meant_all c.loop-choice.all.items) _ refl
     c.loop-choice-test.false c.loop-choice.invariant
 
-pub push_statement-returns-in_ok-push_mention-in-Assign : goal.push_statement-returns-in_ok-push_mention-in-Assign
-push_statement-returns-in_ok-push_mention-in-Assign t c =
-    then_added c.push_expression.result (meant_all c.args.all.now.items) (meant_all c.push_mention.new.all.items) (meant_all c.push_expression.new.all.items) _ _ _
-    (assign_names c.args.statement.now c.name.result.now c.in-Assign.variable c.in-Assign.expr c.in-Assign.is c.name.ensures)
-    c.in_ok-push_mention-in-Assign.ensures c.push_expression.ensures
+pub push_statement-returns-in-Assign : goal.push_statement-returns-in-Assign
+push_statement-returns-in-Assign t c =
+    all_added c.push_assignment.result (meant_all c.args.all.now.items) (meant_all c.push_assignment.new.all.items) _ _
+    (assign_names c.args.statement.now c.in-Assign.variable c.in-Assign.variable c.in-Assign.expr c.in-Assign.is refl)
+    c.push_assignment.ensures
 
 pub push_statement-returns-in_ok-push_choices-in-If : goal.push_statement-returns-in_ok-push_choices-in-If
 push_statement-returns-in_ok-push_choices-in-If t c =
@@ -55,7 +55,7 @@ push_statement-returns-in_ok-push_branches-in-Case t c =
     (meant_all c.push_statements-in-Case.new.all.items) _ _ _
     (case_names c.args.statement.now c.in-Case.selector c.as_slice-in-Case.result.now c.in-Case.branches c.as_slice-in-Case-2.result.now c.in-Case.others
     c.in-Case.is c.as_slice-in-Case.ensures c.as_slice-in-Case-2.ensures)
-    (both_added (meant_all c.args.all.now.items) (meant_all c.push_expression-in-Case.new.all.items) _ _ _
+    (both_added (meant_all c.args.all.now.items) (meant_all c.push_expression.new.all.items) _ _ _
     c.in_ok-push_expression-in-Case.ensures c.in_ok-push_branches-in-Case.ensures)
     c.push_statements-in-Case.ensures
 

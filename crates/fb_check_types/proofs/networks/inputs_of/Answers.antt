@@ -7,7 +7,7 @@ use Rattle.fb_check_types.specs.There.{each_there, some_of}
 use Rattle.fb_check_names.specs.Listed.{unless}
 use Rattle.fb_check_names.specs.declared.location.UnknownName.{UnknownName}
 use Rattle.fb_check_names.specs.declared.location.UnknownName.TheVariants as location
-use Rattle.fb_check_names.proofs.Listing.{added_unless, each_done, each_more}
+use Rattle.fb_check_names.proofs.Listing.{each_done, each_more}
 use Rattle.fb_check_types.proofs.Added.{list_added, one_added}
 use Rattle.fb_check_types.proofs.networks.inputs_of.Goals as goal
 
@@ -21,12 +21,12 @@ loop-parameter-preserved c =
     let f : Parameter → Option ℕ = λ x. port_number c.args.types.now.library.now c.args.number data_ins x.name in
     let at : ℕ → UnknownName = λ p. location.Parameter c.args.site c.args.instance p in
     let x = c.index-parameters-parameter.result in (
-      each_more (λ p (x : Parameter). unless (is_some (f x)) (at p)) c.args.parameters.now c.loop-parameter.parameter x c.loop-parameter.found.items c.push_unless.new.found.items _
+      each_more (λ p (x : Parameter). unless (is_some (f x)) (at p)) c.args.parameters.now c.loop-parameter.parameter x c.loop-parameter.found.items c.push_found.new.found.items _
           c.loop-parameter-test.true c.index-parameters-parameter.is
-          (added_unless c.loop-parameter.found.items c.push_unless.new.found.items c.is_some.result (is_some (f x)) (at c.loop-parameter.parameter) (c.is_some.ensures ∙ ap is_some c.port_of-input.ensures) c.in_ok-push_unless.ensures)
+          (c.in_ok-push_found.ensures.listed ∙ ap (λ (o : Option ℕ). c.loop-parameter.found.items ++ unless (is_some o) (at c.loop-parameter.parameter)) c.port_of-input.ensures)
           c.loop-parameter.invariant.0,
-      one_added (each_there f) (λ x. some_of (f x)) c.args.parameters.now c.loop-parameter.parameter x c.loop-parameter.inputs c.push_some.new.items _ (λ y ys. refl)
-          c.loop-parameter-test.true c.index-parameters-parameter.is (c.in_ok-push_some.ensures ∙ ap (λ (o : Option ℕ). c.loop-parameter.inputs ++ some_of o) c.port_of-input.ensures) c.loop-parameter.invariant.1,
+      one_added (each_there f) (λ x. some_of (f x)) c.args.parameters.now c.loop-parameter.parameter x c.loop-parameter.inputs c.push_found.new.items _ (λ y ys. refl)
+          c.loop-parameter-test.true c.index-parameters-parameter.is (c.in_ok-push_found.ensures.item ∙ ap (λ (o : Option ℕ). c.loop-parameter.inputs ++ some_of o) c.port_of-input.ensures) c.loop-parameter.invariant.1,
     )
 
 pub returns-clause-listed : goal.returns-clause-listed

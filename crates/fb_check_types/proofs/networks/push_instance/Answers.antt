@@ -1,4 +1,5 @@
 use Rattle.std.proofs.Common.{◌∷◌, ◌++◌, [], List, Option, ℕ, sym, ◌∙◌, ap}
+use Rattle.std.proofs.lemmas.Result.{IfOk-equal}
 use Rattle.fb_types.specs.Unknown.{data_ins}
 use Rattle.fb_types.specs.declared.library.Parameter.{Parameter}
 use Rattle.fb_check_names.specs.Types.{port_number}
@@ -7,32 +8,35 @@ use Rattle.fb_check_names.specs.declared.location.UnknownName.{UnknownName}
 use Rattle.fb_check_names.specs.declared.location.UnknownName.TheVariants as location
 use Rattle.fb_check_types.specs.Scopes.{inputs_of_type}
 use Rattle.fb_check_types.specs.There.{each_there}
+use Rattle.fb_check_types.proofs.Added.{in_any_case}
 use Rattle.fb_check_types.proofs.NetworkLocations.{no_parameters}
 use Rattle.fb_check_types.proofs.Numbered.{known_instance, no_kind, type_unmet}
 use Rattle.fb_check_types.proofs.networks.push_instance.Goals as goal
 
-pub returns-in_ok-push-in-Some-2-clause-listed : goal.returns-in_ok-push-in-Some-2-clause-listed
-returns-in_ok-push-in-Some-2-clause-listed c =
+pub returns-in_ok-set-in-Some-clause-listed : goal.returns-in_ok-set-in-Some-clause-listed
+returns-in_ok-set-in-Some-clause-listed c =
     let lib = c.args.types.now.library.now in
     let i = c.args.declared.now in
-    c.in_ok-set-in-Some.ensures.listed
+    in_any_case c.push-in-Some.result
+    (c.in_ok-set-in-Some.ensures.listed
     ∙ ap (λ (ps : List UnknownName). c.args.found.now.items ++ ps)
-    (known_instance lib c.args.site c.args.instance i c.in-Some.number c.as_slice-parameters.result.now (sym c.number_of.ensures ∙ c.in-Some.is) c.as_slice-parameters.ensures)
+    (known_instance lib c.args.site c.args.instance i c.in-Some.number c.as_slice-parameters.result.now (sym c.number_of.ensures ∙ c.in-Some.is) c.as_slice-parameters.ensures))
 
-pub returns-in_ok-push-in-Some-2-clause-inputs : goal.returns-in_ok-push-in-Some-2-clause-inputs
-returns-in_ok-push-in-Some-2-clause-inputs c =
+pub returns-in_ok-set-in-Some-clause-inputs : goal.returns-in_ok-set-in-Some-clause-inputs
+returns-in_ok-set-in-Some-clause-inputs c =
     let lib = c.args.types.now.library.now in
     let i = c.args.declared.now in
     let f : Parameter → Option ℕ = λ x. port_number lib c.in-Some.number data_ins x.name in
-    c.in_ok-push-in-Some-2.ensures.ok
-    ∙ ap (λ (ks : List ℕ). c.args.inputs.now ++ ks ∷ [])
-    (c.in_ok-set-in-Some.ensures.numbers ∙ ap (each_there f) c.as_slice-parameters.ensures ∙ ap (inputs_of_type lib i) (sym (sym c.number_of.ensures ∙ c.in-Some.is)))
+    IfOk-equal c.push-in-Some.result c.push-in-Some.new.self _ _ c.push-in-Some.ensures.ok
+    (ap (λ (ks : List ℕ). c.args.inputs.now ++ ks ∷ [])
+    (c.in_ok-set-in-Some.ensures.numbers ∙ ap (each_there f) c.as_slice-parameters.ensures ∙ ap (inputs_of_type lib i) (sym (sym c.number_of.ensures ∙ c.in-Some.is))))
 
-pub returns-in_ok-push-in-None-3-clause-listed : goal.returns-in_ok-push-in-None-3-clause-listed
-returns-in_ok-push-in-None-3-clause-listed c =
+pub returns-in_ok-push-in-None-clause-listed : goal.returns-in_ok-push-in-None-clause-listed
+returns-in_ok-push-in-None-clause-listed c =
     let lib = c.args.types.now.library.now in
     let i = c.args.declared.now in
     let unknown = sym c.number_of.ensures ∙ c.in-None.is in
-    c.in_ok-push-in-None.ensures.items
+    in_any_case c.push-in-None-2.result
+    (c.in_ok-push_one-in-None.ensures
     ∙ ap (λ b. c.args.found.now.items ++ unless b (location.InstanceType c.args.site c.args.instance)) (sym (type_unmet lib i unknown))
-    ∙ no_parameters lib c.args.site c.args.instance i c.args.found.now.items (no_kind lib i unknown)
+    ∙ no_parameters lib c.args.site c.args.instance i c.args.found.now.items (no_kind lib i unknown))

@@ -1,10 +1,11 @@
 use Rattle.std.proofs.Common.{◌∷◌, ◌++◌, List, refl, sym, ◌∙◌, ap}
+use Rattle.std.proofs.lemmas.List.{map-append}
 use Rattle.fb_types.specs.Syntax.{stmt_of}
 use Rattle.fb_types.specs.declared.text.Branch.{Branch}
 use Rattle.fb_types.specs.declared.text.Choice.{Choice}
 use Rattle.fb_types.specs.declared.text.Stmt.{Stmt}
 use Rattle.fb_check_types.specs.Trees.{all_of, branch_of, branches_of, choice_of, choices_of}
-use Rattle.fb_check_types.specs.Statements.{all_standing, each_in_body, each_in_branches, each_in_choices, each_inside}
+use Rattle.fb_check_types.specs.Statements.{all_standing, each_in_body, each_in_branches, each_in_choices, each_inside, standing_of}
 use Rattle.fb_check_types.proofs.Added.{all_added, both_added, list_added, one_added, then_added}
 use Rattle.fb_check_types.proofs.Inside.{inside_branch, inside_case, inside_choice, inside_if, inside_loop}
 use Rattle.fb_check_types.proofs.statements.+statement.Goals as goal
@@ -58,7 +59,7 @@ push_statements-loop-statement-preserved t c =
     one_added (λ (ss : List Stmt). each_in_body l (all_of ss)) (λ (s : Stmt). (l, stmt_of s) ∷ each_inside l (stmt_of s)) c.args.statements.now
     c.loop-statement.statement-index c.statement-item.result (all_standing c.loop-statement.all.items) (all_standing c.push_inside.new.all.items) _ (λ _ _. refl)
     c.loop-statement-test.true c.statement-item.is
-    (both_added (all_standing c.loop-statement.all.items) (all_standing c.push_standing.new.all.items) _ _ _ c.in_ok-push_standing.ensures
+    (both_added (all_standing c.loop-statement.all.items) (all_standing c.push_one.new.all.items) _ _ _ (ap all_standing c.in_ok-push_one.ensures ∙ map-append standing_of c.loop-statement.all.items _)
     c.in_ok-push_inside.ensures)
     c.loop-statement.invariant
 

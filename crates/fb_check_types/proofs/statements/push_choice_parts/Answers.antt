@@ -18,7 +18,7 @@ loop-index-preserved c =
     let new = c.push_part.new.found.items in
     walk_more (λ (k : ℕ) (cs : List Choice). wrong_choices at p k (choices_of cs)) (λ k (y : Choice). unless (is_condition p (choice_of y).0) (at (part.Choice k))) c.args.choices.now
     c.loop-index.index x old new _ (λ k y ys. refl) c.loop-index-test.true c.index-choices-index.is
-    (added_unless old new c.is_condition-is_right.result (is_condition p (choice_of x).0) (at (part.Choice c.loop-index.index)) (c.is_condition-is_right.ensures ∙ sym (ap (λ r. is_condition p r.0) (choice_says x)))
+    (added_unless old new c.has_kind-is_right.result (is_condition p (choice_of x).0) (at (part.Choice c.loop-index.index)) (c.has_kind-is_right.ensures ∙ sym (ap (λ r. is_condition p r.0) (choice_says x)))
     c.in_ok-push_part.ensures)
     c.loop-index.invariant
 

@@ -1,7 +1,7 @@
 use Rattle.fb_check_names.specs.PortKinds.{names_of_kind}
 use Rattle.fb_check_types.specs.Unknowns.{unknown_variables}
 use Rattle.fb_check_names.proofs.Listing.{each_done, each_more}
-use Rattle.fb_check_types.proofs.charts.push_in_withs.Goals as goal
+use Rattle.fb_check_types.proofs.charts.push_in_events.Goals as goal
 
 pub loop-event-preserved : goal.loop-event-preserved
 loop-event-preserved c =

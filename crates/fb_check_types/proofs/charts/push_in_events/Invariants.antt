@@ -2,7 +2,7 @@ use Rattle.std.proofs.Common.{◌≡◌, ◌++◌, drop}
 use Rattle.fb_check_names.specs.PortKinds.{names_of_kind}
 use Rattle.fb_check_types.specs.Unknowns.{unknown_variables}
 use Rattle.fb_check_names.specs.Listed.{each_at, each_from}
-use Rattle.fb_check_types.proofs.charts.push_in_withs.Given as goal
+use Rattle.fb_check_types.proofs.charts.push_in_events.Given as goal
 
 abbrev pub invariant-loop-event : goal.invariant-loop-event
 invariant-loop-event l =
