@@ -29,7 +29,12 @@ pub struct Chart<'a> {
 fn runs_at(states: &[State], algorithm: &Name, state: &Name) -> bool
     ensures { result ≡ list_any (spec.runs_at algorithm.now state.now) states.now }
 {
-    states.iter().any(|entry| state.is(&entry.name) && runs(entry.actions.as_slice(), algorithm))
+    for entry in states {
+        if state.is(&entry.name) && runs(entry.actions.as_slice(), algorithm) {
+            return true;
+        }
+    }
+    false
 }
 
 /// Whether an event that does not sample the variable leads by a transition to a state that runs the algorithm.
@@ -45,19 +50,22 @@ fn leads_unsampled(
         && runs_at(chart.states, algorithm, &transition.to)
 }
 
-fn has_leading(chart: &Chart, algorithm: &Name, variable: &Name) -> bool
-    ensures { result ≡ list_any (spec.leads_unsampled chart.now.states.now chart.now.events.now algorithm.now variable.now) chart.now.transitions.now }
+fn has_leading(chart: &Chart, transitions: &[Transition], algorithm: &Name, variable: &Name) -> bool
+    ensures { result ≡ list_any (spec.leads_unsampled chart.now.states.now chart.now.events.now algorithm.now variable.now) transitions.now }
 {
-    chart.transitions.iter().any(|transition| leads_unsampled(
-        chart, algorithm, variable, transition,
-    ))
+    for transition in transitions {
+        if leads_unsampled(chart, algorithm, variable, transition) {
+            return true;
+        }
+    }
+    false
 }
 
 /// Whether the variable is named and an event that does not sample it leads to the algorithm.
 fn is_led_unsampled(chart: &Chart, algorithm: &Name, mentions: &[Mention], variable: &Name) -> bool
     ensures { result ≡ spec.is_led_unsampled (chart_of chart.now) algorithm.now (meant_all mentions.now) variable.now }
 {
-    is_mentioned(mentions, variable) && has_leading(chart, algorithm, variable)
+    is_mentioned(mentions, variable) && has_leading(chart, chart.transitions, algorithm, variable)
 }
 
 /// An algorithm, by its index.

@@ -16,9 +16,12 @@ use std::alloc::AllocError;
 fn is_left(transitions: &[Transition], state: &Name) -> bool
     ensures { result ≡ list_any (spec.leaves state.now) transitions.now }
 {
-    transitions
-        .iter()
-        .any(|transition| state.is(&transition.from))
+    for transition in transitions {
+        if state.is(&transition.from) {
+            return true;
+        }
+    }
+    false
 }
 
 /// Adds the states that no transition leaves.
@@ -69,7 +72,12 @@ fn shadows(later: &Transition, earlier: &Transition) -> bool
 fn is_shadowed(later: &Transition, earlier: &[Transition]) -> bool
     ensures { result ≡ list_any (spec.shadows later.now) earlier.now }
 {
-    earlier.iter().any(|earlier| shadows(later, earlier))
+    for entry in earlier {
+        if shadows(later, entry) {
+            return true;
+        }
+    }
+    false
 }
 
 /// Adds the transitions after one that always clears.
@@ -92,9 +100,12 @@ pub(crate) fn push_shadowed_transitions(
 fn is_event_named(transitions: &[Transition], event: &Name) -> bool
     ensures { result ≡ list_any (spec.names_event event.now) transitions.now }
 {
-    transitions
-        .iter()
-        .any(|transition| is_named(event, &transition.condition.event))
+    for transition in transitions {
+        if is_named(event, &transition.condition.event) {
+            return true;
+        }
+    }
+    false
 }
 
 /// Adds the event inputs that no transition names.
@@ -117,18 +128,24 @@ pub(crate) fn push_unnamed_events(
 pub(crate) fn runs(actions: &[Action], algorithm: &Name) -> bool
     ensures { result ≡ list_any (spec.runs algorithm.now) actions.now }
 {
-    actions
-        .iter()
-        .any(|action| is_named(algorithm, &action.algorithm))
+    for action in actions {
+        if is_named(algorithm, &action.algorithm) {
+            return true;
+        }
+    }
+    false
 }
 
 /// Whether one of the states has an action that runs the algorithm.
 fn is_run(states: &[State], algorithm: &Name) -> bool
     ensures { result ≡ list_any (spec.runs_in algorithm.now) states.now }
 {
-    states
-        .iter()
-        .any(|state| runs(state.actions.as_slice(), algorithm))
+    for state in states {
+        if runs(state.actions.as_slice(), algorithm) {
+            return true;
+        }
+    }
+    false
 }
 
 /// Adds the algorithms that no action runs.
@@ -152,16 +169,24 @@ pub(crate) fn push_unused_algorithms(
 fn emits(actions: &[Action], event: &Name) -> bool
     ensures { result ≡ list_any (spec.emits event.now) actions.now }
 {
-    actions.iter().any(|action| is_named(event, &action.output))
+    for action in actions {
+        if is_named(event, &action.output) {
+            return true;
+        }
+    }
+    false
 }
 
 /// Whether one of the states has an action that emits the event.
 fn is_emitted(states: &[State], event: &Name) -> bool
     ensures { result ≡ list_any (spec.emits_in event.now) states.now }
 {
-    states
-        .iter()
-        .any(|state| emits(state.actions.as_slice(), event))
+    for state in states {
+        if emits(state.actions.as_slice(), event) {
+            return true;
+        }
+    }
+    false
 }
 
 /// Adds the event outputs that no action emits.

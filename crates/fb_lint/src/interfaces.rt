@@ -15,9 +15,12 @@ use std::alloc::AllocError;
 fn has_with(events: &[EventPort], variable: &Name) -> bool
     ensures { result ≡ list_any (spec.has_with variable.now) events.now }
 {
-    events
-        .iter()
-        .any(|event| is_among(event.with.as_slice(), variable))
+    for event in events {
+        if is_among(event.with.as_slice(), variable) {
+            return true;
+        }
+    }
+    false
 }
 
 /// Adds the data inputs that none of the event inputs samples.
@@ -59,9 +62,12 @@ fn joins(port_kind: PortKind, name: &Name, connection: &Connection) -> bool
 fn is_joined(port_kind: PortKind, name: &Name, connections: &[Connection]) -> bool
     ensures { result ≡ list_any (spec.joins port_kind name.now) connections.now }
 {
-    connections
-        .iter()
-        .any(|connection| joins(port_kind, name, connection))
+    for connection in connections {
+        if joins(port_kind, name, connection) {
+            return true;
+        }
+    }
+    false
 }
 
 /// Adds the events of a composite type that no connection inside names.

@@ -14,9 +14,12 @@ use std::alloc::AllocError;
 fn is_held(resources: &[ResourceEntry], name: &Name, instance: &Name) -> bool
     ensures { result ≡ list_any (spec.holds name.now instance.now) resources.now }
 {
-    resources.iter().any(|resource| {
-        name.is(&resource.name) && is_among(resource.instances.as_slice(), instance)
-    })
+    for resource in resources {
+        if name.is(&resource.name) && is_among(resource.instances.as_slice(), instance) {
+            return true;
+        }
+    }
+    false
 }
 
 /// Whether the component at an end of a connection is in the resource with the name.
@@ -40,9 +43,12 @@ fn crosses(resources: &[ResourceEntry], link: &Link, connection: &Connection) ->
 fn is_crossed_by(resources: &[ResourceEntry], link: &Link, connections: &[Connection]) -> bool
     ensures { result ≡ list_any (spec.crosses resources.now link.now) connections.now }
 {
-    connections
-        .iter()
-        .any(|connection| crosses(resources, link, connection))
+    for connection in connections {
+        if crosses(resources, link, connection) {
+            return true;
+        }
+    }
+    false
 }
 
 /// Whether one of the connections of events or of data crosses the link.

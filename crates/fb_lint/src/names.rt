@@ -11,7 +11,12 @@ use fb_types::Name;
 pub(crate) fn is_among(names: &[Name], name: &Name) -> bool
     ensures { result ≡ among names.now name.now }
 {
-    names.iter().any(|listed| name.is(listed))
+    for listed in names {
+        if name.is(listed) {
+            return true;
+        }
+    }
+    false
 }
 
 /// Whether a list of borrowed names has the name.

@@ -19,30 +19,46 @@ use std::alloc::AllocError;
 fn has_source(connections: &[Connection], instance: &Name, input: &Name) -> bool
     ensures { result ≡ list_any (spec.leads_to instance.now input.now) connections.now }
 {
-    connections.iter().any(|connection| {
-        is_named(instance, &connection.to.component) && input.is(&connection.to.port)
-    })
+    for connection in connections {
+        if is_named(instance, &connection.to.component) && input.is(&connection.to.port) {
+            return true;
+        }
+    }
+    false
 }
 
 fn has_parameter(parameters: &[Parameter], input: &Name) -> bool
     ensures { result ≡ list_any (spec.is_parameter input.now) parameters.now }
 {
-    parameters.iter().any(|parameter| input.is(&parameter.name))
+    for parameter in parameters {
+        if input.is(&parameter.name) {
+            return true;
+        }
+    }
+    false
 }
 
 fn has_setting(settings: &[Setting], input: &Name) -> bool
     ensures { result ≡ list_any (spec.is_setting input.now) settings.now }
 {
-    settings.iter().any(|setting| input.is(&setting.variable))
+    for setting in settings {
+        if input.is(&setting.variable) {
+            return true;
+        }
+    }
+    false
 }
 
 /// Whether one of the stimuli sets the data input of the instance.
 fn has_stimulus(stimuli: &[Stimulus], instance: &Name, input: &Name) -> bool
     ensures { result ≡ list_any (spec.sets instance.now input.now) stimuli.now }
 {
-    stimuli.iter().any(|stimulus| {
-        instance.is(&stimulus.instance) && has_setting(stimulus.settings.as_slice(), input)
-    })
+    for stimulus in stimuli {
+        if instance.is(&stimulus.instance) && has_setting(stimulus.settings.as_slice(), input) {
+            return true;
+        }
+    }
+    false
 }
 
 /// Whether the data input of an instance has a source, a parameter or a stimulus.
@@ -131,9 +147,12 @@ pub(crate) fn push_unfed(
 fn has_instance(instances: &[Instance], name: &Name) -> bool
     ensures { result ≡ list_any (spec.is_of_type name.now) instances.now }
 {
-    instances
-        .iter()
-        .any(|instance| name.is(&instance.block_type))
+    for instance in instances {
+        if name.is(&instance.block_type) {
+            return true;
+        }
+    }
+    false
 }
 
 /// Whether an instance of the type is inside a block type.
@@ -151,7 +170,12 @@ fn has_inside(block: &BlockType, name: &Name) -> bool
 fn is_inside(blocks: &[BlockType], name: &Name) -> bool
     ensures { result ≡ list_any (spec.has_inside name.now) blocks.now }
 {
-    blocks.iter().any(|block| has_inside(block, name))
+    for block in blocks {
+        if has_inside(block, name) {
+            return true;
+        }
+    }
+    false
 }
 
 /// Whether the application or a composite type has an instance of the type.

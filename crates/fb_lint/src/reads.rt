@@ -40,7 +40,12 @@ pub(crate) fn is_mentioned(mentions: &[Mention], name: &Name) -> bool
 fn samples(events: &[EventPort], event: &Name, variable: &Name) -> bool
     ensures { result ≡ list_any (goes_with event.now variable.now) events.now }
 {
-    events.iter().any(|port| event.is(&port.name) && is_among(port.with.as_slice(), variable))
+    for port in events {
+        if port.name.is(event) && is_among(port.with.as_slice(), variable) {
+            return true;
+        }
+    }
+    false
 }
 
 /// Whether there is an event that does not sample the variable.

@@ -134,7 +134,12 @@ pub(crate) fn assigned<'a>(
 fn has_listed(names: &[&Name], outputs: &[Name]) -> bool
     ensures { result ≡ list_any (among (names_are names.now)) outputs.now }
 {
-    outputs.iter().any(|output| is_listed(names, output))
+    for output in outputs {
+        if is_listed(names, output) {
+            return true;
+        }
+    }
+    false
 }
 
 fn has_some(names: &[Name]) -> bool

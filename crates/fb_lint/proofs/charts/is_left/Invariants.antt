@@ -1,0 +1,7 @@
+use Rattle.std.proofs.Common.{◌≡◌, drop}
+use Rattle.std.specs.List.{list_any}
+use Rattle.fb_lint.specs.Charts.{leaves}
+use Rattle.fb_lint.proofs.charts.is_left.Given as goal
+
+abbrev pub invariant-loop-transition : goal.invariant-loop-transition
+invariant-loop-transition l = list_any (leaves l.state) l.transitions ≡ list_any (leaves l.state) (drop l.transition-index l.transitions)

@@ -1,0 +1,7 @@
+use Rattle.std.proofs.Common.{◌≡◌, drop}
+use Rattle.std.specs.List.{list_any}
+use Rattle.fb_lint.specs.Interfaces.{has_with}
+use Rattle.fb_lint.proofs.interfaces.has_with.Given as goal
+
+abbrev pub invariant-loop-event : goal.invariant-loop-event
+invariant-loop-event l = list_any (has_with l.variable) l.events ≡ list_any (has_with l.variable) (drop l.event-index l.events)

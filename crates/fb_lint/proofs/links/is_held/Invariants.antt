@@ -1,0 +1,7 @@
+use Rattle.std.proofs.Common.{◌≡◌, drop}
+use Rattle.std.specs.List.{list_any}
+use Rattle.fb_lint.specs.Networks.{holds}
+use Rattle.fb_lint.proofs.links.is_held.Given as goal
+
+abbrev pub invariant-loop-resource : goal.invariant-loop-resource
+invariant-loop-resource l = list_any (holds l.name l.instance) l.resources ≡ list_any (holds l.name l.instance) (drop l.resource-index l.resources)

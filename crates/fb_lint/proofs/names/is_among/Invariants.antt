@@ -1,0 +1,6 @@
+use Rattle.std.proofs.Common.{◌≡◌, drop}
+use Rattle.fb_types.specs.Blocks.{among}
+use Rattle.fb_lint.proofs.names.is_among.Given as goal
+
+abbrev pub invariant-loop-listed : goal.invariant-loop-listed
+invariant-loop-listed l = among l.names l.name ≡ among (drop l.listed-index l.names) l.name

@@ -1,0 +1,7 @@
+use Rattle.std.proofs.Common.{◌≡◌, drop}
+use Rattle.std.specs.List.{list_any}
+use Rattle.fb_lint.specs.Networks.{is_of_type}
+use Rattle.fb_lint.proofs.networks.has_instance.Given as goal
+
+abbrev pub invariant-loop-instance : goal.invariant-loop-instance
+invariant-loop-instance l = list_any (is_of_type l.name) l.instances ≡ list_any (is_of_type l.name) (drop l.instance-index l.instances)

@@ -1,0 +1,7 @@
+use Rattle.std.proofs.Common.{◌≡◌, drop}
+use Rattle.std.specs.List.{list_any}
+use Rattle.fb_lint.specs.Networks.{is_parameter}
+use Rattle.fb_lint.proofs.networks.has_parameter.Given as goal
+
+abbrev pub invariant-loop-parameter : goal.invariant-loop-parameter
+invariant-loop-parameter l = list_any (is_parameter l.input) l.parameters ≡ list_any (is_parameter l.input) (drop l.parameter-index l.parameters)

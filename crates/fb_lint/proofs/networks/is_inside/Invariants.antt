@@ -1,0 +1,7 @@
+use Rattle.std.proofs.Common.{◌≡◌, drop}
+use Rattle.std.specs.List.{list_any}
+use Rattle.fb_lint.specs.Networks.{has_inside}
+use Rattle.fb_lint.proofs.networks.is_inside.Given as goal
+
+abbrev pub invariant-loop-block : goal.invariant-loop-block
+invariant-loop-block l = list_any (has_inside l.name) l.blocks ≡ list_any (has_inside l.name) (drop l.block-index l.blocks)
