@@ -76,27 +76,6 @@ fn push_unlinked<'a>(
     Ok(())
 }
 
-/// The list of all such connections.
-fn all_unlinked(
-    alloc: Global,
-    library: &Library,
-    plan: &Plan,
-    mapping: &Mapping,
-) -> Result<Vec<Unlinked>, AllocError>
-    requires { IsMapping library.now plan.now mapping.now }
-    ensures { IfOk result (λ found. found.items ≡ unlinked_all library.now plan.now) }
-{
-    let mut ways = BTreeSet::new(alloc);
-    add_ways(&mut ways, plan.links.as_slice())?;
-    let network = &library.application.network;
-    let mut found = Vec::new(alloc);
-    let events = network.event_connections.as_slice();
-    push_unlinked(&mut found, plan, mapping, &ways, FlowKind::Events, events)?;
-    let data = network.data_connections.as_slice();
-    push_unlinked(&mut found, plan, mapping, &ways, FlowKind::Data, data)?;
-    Ok(found)
-}
-
 /// All connections of the application, of events or of data, that go from one resource to another with no link from the
 /// one to the other (E27), in the order of the declaration.
 ///
@@ -114,5 +93,13 @@ pub fn unlinked_locations(
     ensures each { IfOk result (λ found. All (IsUnlinkedAt library.now plan.now) found.items) }
     ensures none { IfOk result (λ found. found.items ≡ [] → ¬ (NoLink library.now plan.now)) }
 {
-    all_unlinked(alloc, library, plan, mapping)
+    let mut ways = BTreeSet::new(alloc);
+    add_ways(&mut ways, plan.links.as_slice())?;
+    let network = &library.application.network;
+    let mut found = Vec::new(alloc);
+    let events = network.event_connections.as_slice();
+    push_unlinked(&mut found, plan, mapping, &ways, FlowKind::Events, events)?;
+    let data = network.data_connections.as_slice();
+    push_unlinked(&mut found, plan, mapping, &ways, FlowKind::Data, data)?;
+    Ok(found)
 }

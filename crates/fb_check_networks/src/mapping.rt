@@ -15,7 +15,6 @@ use fb_types::{Instance, Items, Library, Name, Plan, PortName, ResourceEntry};
 use std::alloc::{AllocError, Global};
 
 /// The resource that lists each name.
-#[derive(Drop)]
 pub struct Listed<'a> {
     /// The last index of each listed name, in the lists of all resources, one after another.
     indexes: Indexes<'a>,
@@ -23,13 +22,30 @@ pub struct Listed<'a> {
     owners: Vec<usize>,
 }
 
+// Drop is written by hand, so that callers need not prove it again (docs/DECISIONS.md, "Drop").
+impl Drop for Listed<'_> {
+    fn drop(self) {
+        let Listed {
+            indexes: _,
+            owners: _,
+        } = self;
+    }
+}
+
 /// Which resource holds each instance of the application.
-#[derive(Drop)]
 pub enum Mapping<'a> {
     /// The one resource holds all.
     All,
     /// Each is held by the resource that lists it.
     Listed(Listed<'a>),
+}
+
+impl Drop for Mapping<'_> {
+    fn drop(self) {
+        match self {
+            Mapping::All | Mapping::Listed(_) => {}
+        }
+    }
 }
 
 /// The names that the resources list, one list after another.

@@ -108,27 +108,6 @@ fn push_in_blocks(
     Ok(())
 }
 
-/// The list of all such data connections.
-fn all_misjoins(
-    alloc: Global,
-    library: &Library,
-    numbers: &Resolved,
-) -> Result<Vec<Misjoin>, AllocError>
-    requires { (plan : Plan) × IsResolved library.now plan numbers.now × ¬ (NameTwice library.now plan) }
-    ensures { IfOk result (λ found. found.items ≡ misjoins_all library.now) }
-{
-    let mut found = Vec::new(alloc);
-    push_in_blocks(&mut found, library, &numbers.blocks)?;
-    push_in_network(
-        &mut found,
-        library,
-        Site::Application,
-        None,
-        &numbers.application,
-    )?;
-    Ok(found)
-}
-
 /// All data connections to a type that does not contain all values of the source type, in the order of the declaration.
 /// No name is given twice, and the numbers are those of the declaration.
 ///
@@ -145,5 +124,14 @@ pub fn misjoin_locations(
     ensures each { IfOk result (λ found. All (IsMisjoinedAt library.now) found.items) }
     ensures none { IfOk result (λ found. found.items ≡ [] → ¬ (OutOfRange library.now)) }
 {
-    all_misjoins(alloc, library, numbers)
+    let mut found = Vec::new(alloc);
+    push_in_blocks(&mut found, library, &numbers.blocks)?;
+    push_in_network(
+        &mut found,
+        library,
+        Site::Application,
+        None,
+        &numbers.application,
+    )?;
+    Ok(found)
 }

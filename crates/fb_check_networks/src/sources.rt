@@ -86,17 +86,6 @@ fn push_in_blocks(
     Ok(())
 }
 
-/// The list of all such data connections.
-fn all_joined(alloc: Global, library: &Library) -> Result<Vec<Joined>, AllocError>
-    ensures { IfOk result (λ found. found.items ≡ joined_all library.now) }
-{
-    let mut found = Vec::new(alloc);
-    push_in_blocks(alloc, &mut found, library.blocks.as_slice())?;
-    let connections = library.application.network.data_connections.as_slice();
-    push_in_network(alloc, &mut found, Site::Application, connections)?;
-    Ok(found)
-}
-
 /// All data connections that lead to the port of one before, in the order of the declaration.
 ///
 /// # Errors
@@ -107,5 +96,9 @@ pub fn joined_locations(alloc: Global, library: &Library) -> Result<Vec<Joined>,
     ensures each { IfOk result (λ found. All (IsJoinedAt library.now) found.items) }
     ensures none { IfOk result (λ found. found.items ≡ [] → ¬ (TwoSources library.now)) }
 {
-    all_joined(alloc, library)
+    let mut found = Vec::new(alloc);
+    push_in_blocks(alloc, &mut found, library.blocks.as_slice())?;
+    let connections = library.application.network.data_connections.as_slice();
+    push_in_network(alloc, &mut found, Site::Application, connections)?;
+    Ok(found)
 }

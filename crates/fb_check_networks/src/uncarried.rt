@@ -64,32 +64,6 @@ fn unserved_connections<'a>(
     Ok(found)
 }
 
-/// The list of all data connections that no event serves.
-fn all_unserved(
-    alloc: Global,
-    library: &Library,
-    plan: &Plan,
-    mapping: &Mapping,
-    resolved: &Resolved,
-) -> Result<Vec<usize>, AllocError>
-    requires once { ¬ (NameTwice library.now plan.now) }
-    requires mapping { IsMapping library.now plan.now mapping.now }
-    requires resolved { IsResolved library.now plan.now resolved.now }
-    ensures { IfOk result (λ found. found.items ≡ unserved_all library.now plan.now) }
-{
-    let interfaces = all_ports(alloc)?;
-    let numbers = &resolved.application;
-    let served = served_variables(
-        alloc,
-        library,
-        interfaces.as_slice(),
-        plan,
-        mapping,
-        numbers,
-    )?;
-    unserved_connections(alloc, library, plan, mapping, numbers, &served)
-}
-
 /// The indexes of all data connections of the application that go from one resource to another, and no output event WITH
 /// the variable goes from the same instance to that resource (E28), in the order of the declaration.
 ///
@@ -110,5 +84,15 @@ pub fn unserved_locations(
     ensures each { IfOk result (λ found. All (IsUnservedAt library.now plan.now) found.items) }
     ensures none { IfOk result (λ found. found.items ≡ [] → ¬ (NoEvent library.now plan.now)) }
 {
-    all_unserved(alloc, library, plan, mapping, resolved)
+    let interfaces = all_ports(alloc)?;
+    let numbers = &resolved.application;
+    let served = served_variables(
+        alloc,
+        library,
+        interfaces.as_slice(),
+        plan,
+        mapping,
+        numbers,
+    )?;
+    unserved_connections(alloc, library, plan, mapping, numbers, &served)
 }

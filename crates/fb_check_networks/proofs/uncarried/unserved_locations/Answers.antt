@@ -6,10 +6,14 @@ use Rattle.fb_check_networks.specs.Unserved.{IsUnservedAt}
 use Rattle.fb_check_networks.proofs.Unserved.{each_unserved, none_unserved}
 use Rattle.fb_check_networks.proofs.uncarried.unserved_locations.Goals as goal
 
+pub unserved_connections-requires : goal.unserved_connections-requires
+unserved_connections-requires c =
+    record { once = c.requires.once; mapping = c.requires.mapping.holds; numbers = c.requires.resolved.application; served = c.in_ok-served.ensures }
+
 pub returns-clause-each : goal.returns-clause-each
 returns-clause-each c =
-    of_list c.all_unserved.result (λ (ps : List ℕ). All (IsUnservedAt c.args.library.now c.args.plan.now) ps) c.all_unserved.ensures (each_unserved c.args.library.now c.args.plan.now)
+    of_list c.unserved_connections.result (λ (ps : List ℕ). All (IsUnservedAt c.args.library.now c.args.plan.now) ps) c.unserved_connections.ensures (each_unserved c.args.library.now c.args.plan.now)
 
 pub returns-clause-none : goal.returns-clause-none
 returns-clause-none c =
-    of_list c.all_unserved.result (λ (ps : List ℕ). ps ≡ [] → ¬ (NoEvent c.args.library.now c.args.plan.now)) c.all_unserved.ensures (none_unserved c.args.library.now c.args.plan.now)
+    of_list c.unserved_connections.result (λ (ps : List ℕ). ps ≡ [] → ¬ (NoEvent c.args.library.now c.args.plan.now)) c.unserved_connections.ensures (none_unserved c.args.library.now c.args.plan.now)
