@@ -148,8 +148,13 @@ pub fn judge(alloc: Global, case: &Case) -> Result<(), CheckError>
     ensures accepted { IfOk result (λ _. AreAccepted case.now) }
     ensures refused { IfErr result (IsRightly (inputs_in case.now)) }
 {
-    judged(alloc, case)?;
-    Ok(())
+    match judged(alloc, case) {
+        Ok(judged) => {
+            drop(judged);
+            Ok(())
+        }
+        Err(error) => Err(error),
+    }
 }
 
 /// Why the inputs are refused, with all locations at which the least number applies. `None` if they are accepted.
@@ -161,8 +166,13 @@ pub fn why_refused(alloc: Global, case: &Case) -> Result<Option<Refusal>, AllocE
     ensures { IfOk result (λ o. MatchOption o (AreAccepted case.now) (IsRefusal (inputs_in case.now))) }
 {
     match try_judge(alloc, case) {
-        Ok(_) => Ok(None),
-        Err(Stop::Refused(refusal)) => Ok(Some(refusal)),
-        Err(Stop::Memory) => Err(AllocError),
+        Ok(judged) => {
+            drop(judged);
+            Ok(None)
+        }
+        Err(stop) => match stop.refusal() {
+            Some(refusal) => Ok(Some(refusal)),
+            None => Err(AllocError),
+        },
     }
 }

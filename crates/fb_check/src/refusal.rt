@@ -1,7 +1,8 @@
 //! Why inputs are refused, and where.
 
-ghost use Rattle.std.specs.Prelude.{◌≡◌};
-ghost use Rattle.fb_check.specs.Refusals.{error_of, fault_of};
+ghost use Rattle.std.specs.Prelude.{◌≡◌, ⊤, MatchOption};
+ghost use Rattle.fb_types.specs.Headline.{Inputs};
+ghost use Rattle.fb_check.specs.Refusals.{IsRefusal, IsStop, error_of, fault_of};
 ghost use Rattle.fb_check.specs.declared.refusal.Stop.TheVariants.{Memory};
 
 use crate::error::CheckError;
@@ -14,7 +15,6 @@ use std::alloc::AllocError;
 
 /// Why inputs are refused: the least number that applies, with all locations at which it does, in the order of the
 /// declaration or of the stimuli.
-#[derive(Drop)]
 pub enum Refusal {
     /// What is given twice (E20).
     Twice(Vec<GivenTwice>),
@@ -40,6 +40,25 @@ pub enum Refusal {
     OverLimit(Limit),
 }
 
+// Drop is written by hand, so that callers need not prove it again (docs/DECISIONS.md, "Drop").
+impl Drop for Refusal {
+    fn drop(self) {
+        match self {
+            Refusal::Twice(_)
+            | Refusal::NameUnknown(_)
+            | Refusal::KindWrong(_)
+            | Refusal::OutOfRange(_)
+            | Refusal::TwoSources(_)
+            | Refusal::TooHigh(_)
+            | Refusal::NotMapped(_)
+            | Refusal::NoLink(_)
+            | Refusal::NoEvent(_)
+            | Refusal::BadStimulus(_)
+            | Refusal::OverLimit(_) => {}
+        }
+    }
+}
+
 impl Refusal {
     /// What is refused.
     pub fn fault(&self) -> Fault
@@ -62,11 +81,18 @@ impl Refusal {
 }
 
 /// Why a check stops before its end.
-#[derive(Drop)]
 pub enum Stop {
     Memory,
     /// The inputs are refused.
     Refused(Refusal),
+}
+
+impl Drop for Stop {
+    fn drop(self) {
+        match self {
+            Stop::Memory | Stop::Refused(_) => {}
+        }
+    }
 }
 
 impl From<AllocError> for Stop {
@@ -85,6 +111,16 @@ impl Stop {
         match self {
             Stop::Memory => CheckError::Memory,
             Stop::Refused(refusal) => CheckError::Refused(refusal.fault()),
+        }
+    }
+
+    /// Why the inputs are refused, unless memory ran out.
+    pub(crate) fn refusal(self) -> Option<Refusal>
+        ensures { (i : Inputs) → IsStop i self → MatchOption result ⊤ (IsRefusal i) }
+    {
+        match self {
+            Stop::Memory => None,
+            Stop::Refused(refusal) => Some(refusal),
         }
     }
 }
