@@ -1,8 +1,14 @@
 -- Lists to which functions add, one after another.
-use Rattle.std.proofs.Common.{◌≡◌, ℕ, ◌+◌, ◌<◌, ◌≤◌, List, [], ◌∷◌, ◌++◌, drop, get_or, length, map, Result, Ok, Err, append_assoc, sym, ◌∙◌, ap}
+use Rattle.std.proofs.Common.{◌≡◌, ℕ, ◌+◌, ◌<◌, ◌≤◌, List, [], ◌∷◌, ◌++◌, drop, get_or, length, map, Result, Ok, Err, append_assoc, sym, subst, ◌∙◌, ap}
 use Rattle.std.specs.Prelude.{IfOk}
+use Rattle.std.specs.Result.{result_and}
 use Rattle.std.proofs.lemmas.List.{append-nil, at_drop_all, at_drop_more, map-append}
 use Rattle.std.proofs.lemmas.Result.{IfOk-equal}
+
+-- what holds of no value
+pub in_any_case : {T E P : Type 0} (r : Result T E) → P → IfOk r (λ _. P)
+in_any_case (Ok x) p = p
+in_any_case (Err e) p = tt
 
 -- what two calls add
 pub both_added : {X : Type 0} (a b c p q : List X) → b ≡ a ++ p → c ≡ b ++ q → c ≡ a ++ (p ++ q)
@@ -13,6 +19,23 @@ pub then_added :
     {X T E : Type 0} (r : Result T E) (a b c p q w : List X) → w ≡ p ++ q → b ≡ a ++ p → IfOk r (λ _. c ≡ b ++ q) → IfOk r (λ _. c ≡ a ++ w)
 then_added {X} r a b c p q w shown first last =
     IfOk-equal r c (b ++ q) (a ++ w) last (ap (λ (xs : List X). xs ++ q) first ∙ append_assoc a p q ∙ ap (λ (xs : List X). a ++ xs) (sym shown))
+
+-- the same, if both calls are made, and each may fail
+pub and_added :
+    {X T E : Type 0} (q r s : Result T E) (a b c p t w : List X) → w ≡ p ++ t → q ≡ result_and r s → IfOk r (λ _. b ≡ a ++ p) → IfOk s (λ _. c ≡ b ++ t)
+    → IfOk q (λ _. c ≡ a ++ w)
+and_added {X} {T} {E} q (Ok x) s a b c p t w shown is first last =
+    subst (λ (d : Result T E). IfOk d (λ _. c ≡ a ++ w)) (sym is) (then_added s a b c p t w shown first last)
+and_added {X} {T} {E} q (Err e) s a b c p t w shown is first last = subst (λ (d : Result T E). IfOk d (λ _. c ≡ a ++ w)) (sym is) tt
+
+-- what holds if the first call succeeds, or the last one
+pub and_first : {T E : Type 0} (P : Type 0) (q r s : Result T E) → q ≡ result_and r s → IfOk r (λ _. P) → IfOk q (λ _. P)
+and_first {T} {E} P q (Ok x) s is first = subst (λ (d : Result T E). IfOk d (λ _. P)) (sym is) (in_any_case s first)
+and_first {T} {E} P q (Err e) s is first = subst (λ (d : Result T E). IfOk d (λ _. P)) (sym is) tt
+
+pub and_last : {T E : Type 0} (P : Type 0) (q r s : Result T E) → q ≡ result_and r s → IfOk s (λ _. P) → IfOk q (λ _. P)
+and_last {T} {E} P q (Ok x) s is last = subst (λ (d : Result T E). IfOk d (λ _. P)) (sym is) last
+and_last {T} {E} P q (Err e) s is last = subst (λ (d : Result T E). IfOk d (λ _. P)) (sym is) tt
 
 -- what each item means is added with the item
 pub meaning_added :
@@ -49,8 +72,3 @@ three_added {X} a b c d p q r first second last =
 pub if_ok : {T E : Type 0} {P Q : T → Type 0} (r : Result T E) → ((x : T) → P x → Q x) → IfOk r P → IfOk r Q
 if_ok (Ok x) f h = f x h
 if_ok (Err e) f h = tt
-
--- what holds of no value
-pub in_any_case : {T E P : Type 0} (r : Result T E) → P → IfOk r (λ _. P)
-in_any_case (Ok x) p = p
-in_any_case (Err e) p = tt

@@ -155,9 +155,11 @@ fn push_in_chart(
     ensures { IfOk result (λ _. found.new.items ≡ found.old.items ++ unknown_in_chart scope.now block) }
 {
     let basic = scope.block();
-    push_in_states(found, scope, block, basic.states.as_slice())?;
-    push_in_transitions(alloc, found, scope, block, basic.transitions.as_slice())?;
-    push_in_bodies(alloc, found, scope, block, basic.algorithms.as_slice())
+    let transitions = basic.transitions.as_slice();
+    let algorithms = basic.algorithms.as_slice();
+    push_in_states(found, scope, block, basic.states.as_slice())
+        .and(push_in_transitions(alloc, found, scope, block, transitions))
+        .and(push_in_bodies(alloc, found, scope, block, algorithms))
 }
 
 /// Adds the unknown names of the basic type at an index.

@@ -110,20 +110,20 @@ pub fn push_names(
         transition,
         part: TransitionPart::From,
     };
-    push_unless(found, scope.is_state(&declared.from), from)?;
     let to = UnknownName::Transition {
         block,
         transition,
         part: TransitionPart::To,
     };
-    push_unless(found, scope.is_state(&declared.to), to)?;
     let event = UnknownName::Transition {
         block,
         transition,
         part: TransitionPart::Event,
     };
     let is_known = is_event(scope, PortKind::EventInput, &declared.condition.event);
-    push_unless(found, is_known, event)
+    push_unless(found, scope.is_state(&declared.from), from)
+        .and(push_unless(found, scope.is_state(&declared.to), to))
+        .and(push_unless(found, is_known, event))
 }
 
 /// Adds the names of an action that are unknown.
@@ -143,7 +143,6 @@ fn push_in_action(
         action,
         part: ActionPart::Algorithm,
     };
-    push_unless(found, is_algorithm(scope, &declared.algorithm), algorithm)?;
     let output = UnknownName::Action {
         block,
         state,
@@ -151,7 +150,9 @@ fn push_in_action(
         part: ActionPart::Output,
     };
     let is_known = is_event(scope, PortKind::EventOutput, &declared.output);
-    push_unless(found, is_known, output)
+    push_unless(found, is_algorithm(scope, &declared.algorithm), algorithm).and(push_unless(
+        found, is_known, output,
+    ))
 }
 
 /// The same for the actions of a state.

@@ -71,18 +71,18 @@ fn push_link(
     ensures number { IfOk result (λ _. all.new ≡ all.old ++ some_of (ends_in resources.now declared.now)) }
 {
     let from = index_of_name(resources, &declared.from);
-    let location = UnknownName::LinkEnd {
+    let from_end = UnknownName::LinkEnd {
         link,
         side: Side::From,
     };
-    push_unless(found, from.is_some(), location)?;
     let to = index_of_name(resources, &declared.to);
-    let location = UnknownName::LinkEnd {
+    let to_end = UnknownName::LinkEnd {
         link,
         side: Side::To,
     };
-    push_unless(found, to.is_some(), location)?;
-    push_some(all, link_between(from, to))
+    push_unless(found, from.is_some(), from_end)
+        .and(push_unless(found, to.is_some(), to_end))
+        .and(push_some(all, link_between(from, to)))
 }
 
 /// The resources of each link. Adds the ends that are no resources.

@@ -172,14 +172,12 @@ fn push_wire(
     ensures number { IfOk result (λ _. wires.new ≡ wires.old ++ some_of (connection_number types.now.library.now (placed scope.now) flow declared.now)) }
 {
     let from = side_of(types, scope, kinds, flow, Side::From, declared);
-    push_unless(
-        found,
-        from.is_some(),
-        end(site, flow, connection, Side::From),
-    )?;
+    let from_end = end(site, flow, connection, Side::From);
     let to = side_of(types, scope, kinds, flow, Side::To, declared);
-    push_unless(found, to.is_some(), end(site, flow, connection, Side::To))?;
-    push_some(wires, connection_between(from, to))
+    let to_end = end(site, flow, connection, Side::To);
+    push_unless(found, from.is_some(), from_end)
+        .and(push_unless(found, to.is_some(), to_end))
+        .and(push_some(wires, connection_between(from, to)))
 }
 
 /// The connections of a network that carry the same, by number. Adds the ends that are unknown.

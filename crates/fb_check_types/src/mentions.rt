@@ -36,12 +36,13 @@ pub fn push_expression<'a>(all: &mut Vec<Mention<'a>>, expr: &'a Expr) -> Result
         Expr::Group(inner) => push_expression(all, inner.get()),
         Expr::Unary(_, operand) => push_expression(all, operand.get()),
         Expr::Binary(_, left, right) => {
-            push_expression(all, left.get())?;
-            push_expression(all, right.get())
+            push_expression(all, left.get()).and(push_expression(all, right.get()))
         }
         Expr::Call(name, arguments) => {
-            push_mention(all, Mention::Function(name))?;
-            push_arguments(all, arguments.as_slice())
+            push_mention(all, Mention::Function(name)).and(push_arguments(
+                all,
+                arguments.as_slice(),
+            ))
         }
     }
 }
@@ -76,10 +77,10 @@ fn push_control<'a>(
 ) -> Result<(), AllocError>
     ensures { IfOk result (λ _. meant_all all.new.items ≡ meant_all all.old.items ++ mentions_of_control variable.now start.now end.now step.now) }
 {
-    push_mention(all, Mention::Variable(variable.name()))?;
-    push_expression(all, start)?;
-    push_expression(all, end)?;
-    push_step(all, step)
+    push_mention(all, Mention::Variable(variable.name()))
+        .and(push_expression(all, start))
+        .and(push_expression(all, end))
+        .and(push_step(all, step))
 }
 
 /// The same for an assignment: its variable and what is assigned.
@@ -90,8 +91,7 @@ fn push_assignment<'a>(
 ) -> Result<(), AllocError>
     ensures { IfOk result (λ _. meant_all all.new.items ≡ meant_all all.old.items ++ (OfVariable variable.now ∷ mentions (expr_of expr.now))) }
 {
-    push_mention(all, Mention::Variable(variable.name()))?;
-    push_expression(all, expr)
+    push_mention(all, Mention::Variable(variable.name())).and(push_expression(all, expr))
 }
 
 /// Adds what the statements of an algorithm name, in the order of the definitions.
@@ -109,25 +109,21 @@ fn push_statement<'a>(all: &mut Vec<Mention<'a>>, statement: &'a Stmt) -> Result
         Stmt::Empty | Stmt::Exit | Stmt::Return => Ok(()),
         Stmt::Assign(variable, expr) => push_assignment(all, variable, expr),
         Stmt::If(choices, others) => {
-            push_choices(all, choices.as_slice())?;
-            push_statements(all, others.as_slice())
+            push_choices(all, choices.as_slice()).and(push_statements(all, others.as_slice()))
         }
         Stmt::Case(selector, branches, others) => {
-            push_expression(all, selector)?;
-            push_branches(all, branches.as_slice())?;
-            push_statements(all, others.as_slice())
+            push_expression(all, selector)
+                .and(push_branches(all, branches.as_slice()))
+                .and(push_statements(all, others.as_slice()))
         }
         Stmt::For(variable, start, end, step, body) => {
-            push_control(all, variable, start, end, step)?;
-            push_statements(all, body.as_slice())
+            push_control(all, variable, start, end, step).and(push_statements(all, body.as_slice()))
         }
         Stmt::While(condition, body) => {
-            push_expression(all, condition)?;
-            push_statements(all, body.as_slice())
+            push_expression(all, condition).and(push_statements(all, body.as_slice()))
         }
         Stmt::Repeat(body, condition) => {
-            push_statements(all, body.as_slice())?;
-            push_expression(all, condition)
+            push_statements(all, body.as_slice()).and(push_expression(all, condition))
         }
     }
 }

@@ -64,9 +64,11 @@ fn push_initials(
     ensures { IfOk result (λ _. found.new.items ≡ found.old.items ++ misfits_initial block declared.now) }
 {
     let ports = declared.ports();
-    push_variables(found, block, Variables::Inputs, ports.inputs.as_slice())?;
-    push_variables(found, block, Variables::Outputs, ports.outputs.as_slice())?;
-    push_variables(found, block, Variables::Internals, internals_of(declared))
+    let inputs = ports.inputs.as_slice();
+    let outputs = ports.outputs.as_slice();
+    push_variables(found, block, Variables::Inputs, inputs)
+        .and(push_variables(found, block, Variables::Outputs, outputs))
+        .and(push_variables(found, block, Variables::Internals, internals_of(declared)))
 }
 
 /// Whether the guard of a transition, if it has one, is a truth value.

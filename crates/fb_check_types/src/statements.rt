@@ -52,12 +52,18 @@ fn push_inside<'a>(
     match statement {
         Stmt::Empty | Stmt::Exit | Stmt::Return | Stmt::Assign(_, _) => Ok(()),
         Stmt::If(choices, others) => {
-            push_choices(all, choices.as_slice(), in_loop)?;
-            push_statements(all, others.as_slice(), in_loop)
+            push_choices(all, choices.as_slice(), in_loop).and(push_statements(
+                all,
+                others.as_slice(),
+                in_loop,
+            ))
         }
         Stmt::Case(_, branches, others) => {
-            push_branches(all, branches.as_slice(), in_loop)?;
-            push_statements(all, others.as_slice(), in_loop)
+            push_branches(all, branches.as_slice(), in_loop).and(push_statements(
+                all,
+                others.as_slice(),
+                in_loop,
+            ))
         }
         Stmt::For(_, _, _, _, body) | Stmt::While(_, body) | Stmt::Repeat(body, _) => {
             push_statements(all, body.as_slice(), true)
@@ -192,13 +198,13 @@ fn push_for_parts(
 ) -> Result<(), AllocError>
     ensures { IfOk result (λ _. found.new.items ≡ found.old.items ++ wrong_parts (part_at at) (context_in scope.now) (For variable.now (expr_of start.now) (expr_of end.now) (step_of step.now) no_stmt)) }
 {
-    push_control_parts(found, scope, at, variable)?;
-    let is_number = scope.has_kind(ValueKind::WholeNumber, start);
-    push_part(found, at, is_number, StatementPart::Start)?;
-    let is_number = scope.has_kind(ValueKind::WholeNumber, end);
-    push_part(found, at, is_number, StatementPart::End)?;
-    let is_number = is_step_whole(step, scope);
-    push_part(found, at, is_number, StatementPart::Step)
+    let is_start_whole = scope.has_kind(ValueKind::WholeNumber, start);
+    let is_end_whole = scope.has_kind(ValueKind::WholeNumber, end);
+    let is_step_whole = is_step_whole(step, scope);
+    push_control_parts(found, scope, at, variable)
+        .and(push_part(found, at, is_start_whole, StatementPart::Start))
+        .and(push_part(found, at, is_end_whole, StatementPart::End))
+        .and(push_part(found, at, is_step_whole, StatementPart::Step))
 }
 
 /// Adds the wrong parts of a statement, except for the statements inside it.

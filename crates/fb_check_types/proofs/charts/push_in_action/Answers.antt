@@ -3,7 +3,7 @@ use Rattle.fb_check_names.specs.Listed.{unless}
 use Rattle.fb_check_names.specs.declared.location.ActionPart.TheVariants.{Algorithm, Output}
 use Rattle.fb_check_names.specs.declared.location.UnknownName.TheVariants as location
 use Rattle.fb_check_types.specs.Unknown.{required_action}
-use Rattle.fb_check_types.proofs.Added.{then_added}
+use Rattle.fb_check_types.proofs.Added.{and_added}
 use Rattle.fb_check_types.proofs.Unmet.{unmet_is}
 use Rattle.fb_check_types.proofs.charts.push_in_action.Goals as goal
 
@@ -14,6 +14,6 @@ returns c =
     let at = location.Action c.args.block c.args.state c.args.action in
     let algorithm = unmet_is (required_action t a Algorithm) c.is_algorithm.result (at Algorithm) c.is_algorithm.ensures in
     let output = unmet_is (required_action t a Output) c.is_event-is_known.result (at Output) c.is_event-is_known.ensures in
-    then_added c.push_unless-2.result c.args.found.now.items c.push_unless.new.found.items c.push_unless-2.new.found.items
+    and_added c.and.result c.push_unless.result c.push_unless-2.result c.args.found.now.items c.push_unless.new.found.items c.push_unless-2.new.found.items
     (unless c.is_algorithm.result (at Algorithm)) (unless c.is_event-is_known.result (at Output)) _ (λ i. algorithm i ++ output i)
-    c.in_ok-push_unless.ensures c.push_unless-2.ensures
+    c.and.ensures c.push_unless.ensures c.push_unless-2.ensures

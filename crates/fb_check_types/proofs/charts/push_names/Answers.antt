@@ -1,9 +1,9 @@
-use Rattle.std.proofs.Common.{◌++◌, append_assoc, sym, ◌∙◌}
+use Rattle.std.proofs.Common.{◌++◌, append_assoc, refl, sym, ◌∙◌}
 use Rattle.fb_check_names.specs.Listed.{unless}
 use Rattle.fb_check_names.specs.declared.location.TransitionPart.TheVariants.{From, To, Event}
 use Rattle.fb_check_names.specs.declared.location.UnknownName.TheVariants as location
 use Rattle.fb_check_types.specs.Unknown.{required_transition}
-use Rattle.fb_check_types.proofs.Added.{both_added, then_added}
+use Rattle.fb_check_types.proofs.Added.{and_added}
 use Rattle.fb_check_types.proofs.Unmet.{unmet_is}
 use Rattle.fb_check_types.proofs.charts.push_names.Goals as goal
 
@@ -21,5 +21,7 @@ returns c =
     let f0 = c.args.found.now.items in
     let f1 = c.push_unless.new.found.items in
     let f2 = c.push_unless-2.new.found.items in
-    then_added c.push_unless-3.result f0 f2 c.push_unless-3.new.found.items (p ++ q) r _ ((λ i. from i ++ (to i ++ event i)) ∙ sym (append_assoc p q r))
-    (both_added f0 f1 f2 p q c.in_ok-push_unless.ensures c.in_ok-push_unless-2.ensures) c.push_unless-3.ensures
+    and_added c.and-2.result c.and.result c.push_unless-3.result f0 f2 c.push_unless-3.new.found.items (p ++ q) r _
+    ((λ i. from i ++ (to i ++ event i)) ∙ sym (append_assoc p q r)) c.and-2.ensures
+    (and_added c.and.result c.push_unless.result c.push_unless-2.result f0 f1 f2 p q _ refl c.and.ensures c.push_unless.ensures c.push_unless-2.ensures)
+    c.push_unless-3.ensures

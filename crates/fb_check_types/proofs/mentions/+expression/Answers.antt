@@ -4,7 +4,7 @@ use Rattle.fb_types.specs.Unknown.{mentions, mentions_all}
 use Rattle.fb_types.specs.declared.text.Expr.{Expr}
 use Rattle.fb_check_types.specs.Trees.{arguments_of}
 use Rattle.fb_check_types.specs.Mentions.{meant_all}
-use Rattle.fb_check_types.proofs.Added.{all_added, list_added, one_added, then_added}
+use Rattle.fb_check_types.proofs.Added.{all_added, and_added, list_added, one_added}
 use Rattle.fb_check_types.proofs.Mentioned.{binary_names, call_names, group_names, unary_names, variable_names}
 use Rattle.fb_check_types.proofs.mentions.+expression.Goals as goal
 
@@ -35,16 +35,16 @@ push_expression-returns-in-Unary t c =
     (unary_names c.args.expr.now c.in-Unary.field-0 c.get-in-Unary.result.now c.in-Unary.operand c.in-Unary.is c.get-in-Unary.ensures)
     c.push_expression-in-Unary.ensures
 
-pub push_expression-returns-in_ok-push_expression-in-Binary : goal.push_expression-returns-in_ok-push_expression-in-Binary
-push_expression-returns-in_ok-push_expression-in-Binary t c =
-    then_added c.push_expression-in-Binary-2.result (meant_all c.args.all.now.items) (meant_all c.push_expression-in-Binary.new.all.items)
+pub push_expression-returns-in-Binary : goal.push_expression-returns-in-Binary
+push_expression-returns-in-Binary t c =
+    and_added c.and.result c.push_expression-in-Binary.result c.push_expression-in-Binary-2.result (meant_all c.args.all.now.items) (meant_all c.push_expression-in-Binary.new.all.items)
     (meant_all c.push_expression-in-Binary-2.new.all.items) _ _ _
     (binary_names c.args.expr.now c.in-Binary.field-0 c.get-in-Binary.result.now c.in-Binary.left c.get-in-Binary-2.result.now c.in-Binary.right
     c.in-Binary.is c.get-in-Binary.ensures c.get-in-Binary-2.ensures)
-    c.in_ok-push_expression-in-Binary.ensures c.push_expression-in-Binary-2.ensures
+    c.and.ensures c.push_expression-in-Binary.ensures c.push_expression-in-Binary-2.ensures
 
-pub push_expression-returns-in_ok-push_mention-in-Call : goal.push_expression-returns-in_ok-push_mention-in-Call
-push_expression-returns-in_ok-push_mention-in-Call t c =
-    then_added c.push_arguments.result (meant_all c.args.all.now.items) (meant_all c.push_mention-in-Call.new.all.items) (meant_all c.push_arguments.new.all.items) _ _ _
+pub push_expression-returns-in-Call : goal.push_expression-returns-in-Call
+push_expression-returns-in-Call t c =
+    and_added c.and-in-Call.result c.push_mention-in-Call.result c.push_arguments.result (meant_all c.args.all.now.items) (meant_all c.push_mention-in-Call.new.all.items) (meant_all c.push_arguments.new.all.items) _ _ _
     (call_names c.args.expr.now c.in-Call.name c.as_slice.result.now c.in-Call.arguments c.in-Call.is c.as_slice.ensures)
-    c.in_ok-push_mention-in-Call.ensures c.push_arguments.ensures
+    c.and-in-Call.ensures c.push_mention-in-Call.ensures c.push_arguments.ensures

@@ -6,7 +6,7 @@ use Rattle.fb_types.specs.declared.text.Choice.{Choice}
 use Rattle.fb_types.specs.declared.text.Stmt.{Stmt}
 use Rattle.fb_check_types.specs.Trees.{all_of, branch_of, branches_of, choice_of, choices_of}
 use Rattle.fb_check_types.specs.Mentions.{meant_all}
-use Rattle.fb_check_types.proofs.Added.{all_added, both_added, list_added, one_added, then_added}
+use Rattle.fb_check_types.proofs.Added.{all_added, and_added, both_added, list_added, one_added}
 use Rattle.fb_check_types.proofs.Mentioned.{assign_names, branch_names, case_names, choice_names, for_names, if_names, repeat_names, while_names}
 use Rattle.fb_check_types.proofs.mentions.+statement.Goals as goal
 
@@ -43,43 +43,45 @@ push_statement-returns-in-Assign t c =
     (assign_names c.args.statement.now c.in-Assign.variable c.in-Assign.variable c.in-Assign.expr c.in-Assign.is refl)
     c.push_assignment.ensures
 
-pub push_statement-returns-in_ok-push_choices-in-If : goal.push_statement-returns-in_ok-push_choices-in-If
-push_statement-returns-in_ok-push_choices-in-If t c =
-    then_added c.push_statements.result (meant_all c.args.all.now.items) (meant_all c.push_choices.new.all.items) (meant_all c.push_statements.new.all.items) _ _ _
+pub push_statement-returns-in-If : goal.push_statement-returns-in-If
+push_statement-returns-in-If t c =
+    and_added c.and.result c.push_choices.result c.push_statements.result (meant_all c.args.all.now.items) (meant_all c.push_choices.new.all.items)
+    (meant_all c.push_statements.new.all.items) _ _ _
     (if_names c.args.statement.now c.as_slice.result.now c.in-If.choices c.as_slice-in-If.result.now c.in-If.others c.in-If.is c.as_slice.ensures c.as_slice-in-If.ensures)
-    c.in_ok-push_choices-in-If.ensures c.push_statements.ensures
+    c.and.ensures c.push_choices.ensures c.push_statements.ensures
 
-pub push_statement-returns-in_ok-push_branches-in-Case : goal.push_statement-returns-in_ok-push_branches-in-Case
-push_statement-returns-in_ok-push_branches-in-Case t c =
-    then_added c.push_statements-in-Case.result (meant_all c.args.all.now.items) (meant_all c.push_branches.new.all.items)
+pub push_statement-returns-in-Case : goal.push_statement-returns-in-Case
+push_statement-returns-in-Case t c =
+    and_added c.and-in-Case-2.result c.and-in-Case.result c.push_statements-in-Case.result (meant_all c.args.all.now.items) (meant_all c.push_branches.new.all.items)
     (meant_all c.push_statements-in-Case.new.all.items) _ _ _
     (case_names c.args.statement.now c.in-Case.selector c.as_slice-in-Case.result.now c.in-Case.branches c.as_slice-in-Case-2.result.now c.in-Case.others
     c.in-Case.is c.as_slice-in-Case.ensures c.as_slice-in-Case-2.ensures)
-    (both_added (meant_all c.args.all.now.items) (meant_all c.push_expression.new.all.items) _ _ _
-    c.in_ok-push_expression-in-Case.ensures c.in_ok-push_branches-in-Case.ensures)
+    c.and-in-Case-2.ensures
+    (and_added c.and-in-Case.result c.push_expression.result c.push_branches.result (meant_all c.args.all.now.items) (meant_all c.push_expression.new.all.items)
+    (meant_all c.push_branches.new.all.items) _ _ _ refl c.and-in-Case.ensures c.push_expression.ensures c.push_branches.ensures)
     c.push_statements-in-Case.ensures
 
-pub push_statement-returns-in_ok-push_control-in-For : goal.push_statement-returns-in_ok-push_control-in-For
-push_statement-returns-in_ok-push_control-in-For t c =
+pub push_statement-returns-in-For : goal.push_statement-returns-in-For
+push_statement-returns-in-For t c =
     let f = c.in-For in
-    then_added c.push_statements-in-For.result (meant_all c.args.all.now.items) (meant_all c.push_control.new.all.items)
+    and_added c.and-in-For.result c.push_control.result c.push_statements-in-For.result (meant_all c.args.all.now.items) (meant_all c.push_control.new.all.items)
     (meant_all c.push_statements-in-For.new.all.items) _ _ _
     (for_names c.args.statement.now f.variable f.start f.end f.step c.as_slice-in-For.result.now f.body f.is c.as_slice-in-For.ensures)
-    c.in_ok-push_control-in-For.ensures c.push_statements-in-For.ensures
+    c.and-in-For.ensures c.push_control.ensures c.push_statements-in-For.ensures
 
-pub push_statement-returns-in_ok-push_expression-in-While : goal.push_statement-returns-in_ok-push_expression-in-While
-push_statement-returns-in_ok-push_expression-in-While t c =
-    then_added c.push_statements-in-While.result (meant_all c.args.all.now.items) (meant_all c.push_expression-in-While.new.all.items)
+pub push_statement-returns-in-While : goal.push_statement-returns-in-While
+push_statement-returns-in-While t c =
+    and_added c.and-in-While.result c.push_expression-in-While.result c.push_statements-in-While.result (meant_all c.args.all.now.items) (meant_all c.push_expression-in-While.new.all.items)
     (meant_all c.push_statements-in-While.new.all.items) _ _ _
     (while_names c.args.statement.now c.in-While.condition c.as_slice-in-While.result.now c.in-While.body c.in-While.is c.as_slice-in-While.ensures)
-    c.in_ok-push_expression-in-While.ensures c.push_statements-in-While.ensures
+    c.and-in-While.ensures c.push_expression-in-While.ensures c.push_statements-in-While.ensures
 
-pub push_statement-returns-in_ok-push_statements-in-Repeat : goal.push_statement-returns-in_ok-push_statements-in-Repeat
-push_statement-returns-in_ok-push_statements-in-Repeat t c =
-    then_added c.push_expression-in-Repeat.result (meant_all c.args.all.now.items) (meant_all c.push_statements-in-Repeat.new.all.items)
+pub push_statement-returns-in-Repeat : goal.push_statement-returns-in-Repeat
+push_statement-returns-in-Repeat t c =
+    and_added c.and-in-Repeat.result c.push_statements-in-Repeat.result c.push_expression-in-Repeat.result (meant_all c.args.all.now.items) (meant_all c.push_statements-in-Repeat.new.all.items)
     (meant_all c.push_expression-in-Repeat.new.all.items) _ _ _
     (repeat_names c.args.statement.now c.as_slice-in-Repeat.result.now c.in-Repeat.body c.in-Repeat.condition c.in-Repeat.is c.as_slice-in-Repeat.ensures)
-    c.in_ok-push_statements-in-Repeat.ensures c.push_expression-in-Repeat.ensures
+    c.and-in-Repeat.ensures c.push_statements-in-Repeat.ensures c.push_expression-in-Repeat.ensures
 
 pub push_statements-loop-statement-preserved : goal.push_statements-loop-statement-preserved
 push_statements-loop-statement-preserved t c =

@@ -6,7 +6,7 @@ use Rattle.fb_types.specs.declared.text.Choice.{Choice}
 use Rattle.fb_types.specs.declared.text.Stmt.{Stmt}
 use Rattle.fb_check_types.specs.Trees.{all_of, branch_of, branches_of, choice_of, choices_of}
 use Rattle.fb_check_types.specs.Statements.{all_standing, each_in_body, each_in_branches, each_in_choices, each_inside, standing_of}
-use Rattle.fb_check_types.proofs.Added.{all_added, both_added, list_added, one_added, then_added}
+use Rattle.fb_check_types.proofs.Added.{all_added, and_added, both_added, list_added, one_added}
 use Rattle.fb_check_types.proofs.Inside.{inside_branch, inside_case, inside_choice, inside_if, inside_loop}
 use Rattle.fb_check_types.proofs.statements.+statement.Goals as goal
 
@@ -38,20 +38,20 @@ push_choices-returns t c =
     list_added (λ (cs : List Choice). each_in_choices c.args.in_loop (choices_of cs)) c.args.choices.now c.loop-choice.choice-index
     (all_standing c.loop-choice.all.items) _ refl c.loop-choice-test.false c.loop-choice.invariant
 
-pub push_inside-returns-in_ok-push_choices-in-If : goal.push_inside-returns-in_ok-push_choices-in-If
-push_inside-returns-in_ok-push_choices-in-If t c =
-    then_added c.push_statements.result (all_standing c.args.all.now.items) (all_standing c.push_choices.new.all.items) (all_standing c.push_statements.new.all.items) _ _ _
+pub push_inside-returns-in-If : goal.push_inside-returns-in-If
+push_inside-returns-in-If t c =
+    and_added c.and.result c.push_choices.result c.push_statements.result (all_standing c.args.all.now.items) (all_standing c.push_choices.new.all.items) (all_standing c.push_statements.new.all.items) _ _ _
     (inside_if c.args.in_loop c.args.statement.now c.as_slice.result.now c.in-If.choices c.as_slice-in-If.result.now c.in-If.others c.in-If.is
     c.as_slice.ensures c.as_slice-in-If.ensures)
-    c.in_ok-push_choices-in-If.ensures c.push_statements.ensures
+    c.and.ensures c.push_choices.ensures c.push_statements.ensures
 
-pub push_inside-returns-in_ok-push_branches-in-Case : goal.push_inside-returns-in_ok-push_branches-in-Case
-push_inside-returns-in_ok-push_branches-in-Case t c =
-    then_added c.push_statements-in-Case.result (all_standing c.args.all.now.items) (all_standing c.push_branches.new.all.items)
+pub push_inside-returns-in-Case : goal.push_inside-returns-in-Case
+push_inside-returns-in-Case t c =
+    and_added c.and-in-Case.result c.push_branches.result c.push_statements-in-Case.result (all_standing c.args.all.now.items) (all_standing c.push_branches.new.all.items)
     (all_standing c.push_statements-in-Case.new.all.items) _ _ _
     (inside_case c.args.in_loop c.args.statement.now c.in-Case.field-0 c.as_slice-in-Case.result.now c.in-Case.branches c.as_slice-in-Case-2.result.now
     c.in-Case.others c.in-Case.is c.as_slice-in-Case.ensures c.as_slice-in-Case-2.ensures)
-    c.in_ok-push_branches-in-Case.ensures c.push_statements-in-Case.ensures
+    c.and-in-Case.ensures c.push_branches.ensures c.push_statements-in-Case.ensures
 
 pub push_statements-loop-statement-preserved : goal.push_statements-loop-statement-preserved
 push_statements-loop-statement-preserved t c =
