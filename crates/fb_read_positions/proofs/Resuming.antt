@@ -194,6 +194,13 @@ left_as P Q (Err e) f h = tt
 left_as P Q (Ok None) f h = tt
 left_as P Q (Ok (Some n)) f h = f n h
 
+-- a walk from all these tokens, and what is left after it
+pub leaves_if :
+    {E : Type 0} (w : Walk) (ps : List Located) (ts new : Tokens) (r : Result (Unit {0}) ParseFault) (left : ℕ) (found : Result (Option ℕ) E) → ts ≡ tokens_of ps
+    → Reads (w ts) r new → left ≡ length new → IfOk found (λ o. IfSome o (λ n. (r ≡ Ok tt) × (n ≡ left))) → IfOk found (λ o. IfSome o (Leaves w ps))
+leaves_if w ps ts new r left found all reads is h =
+    left_as (λ n. (r ≡ Ok tt) × (n ≡ left)) (Leaves w ps) found (λ n read. (new, ap w (sym all) ∙ was_read (w ts) new r reads read.0, sym (read.1 ∙ is))) h
+
 -- what has a list, in place of the walk up to it
 pub stop_as : (ps : List Located) (v w : Walk) (s : Stop) → v ≡ w → IsStop ps w s → IsStop ps v s
 stop_as ps v w s same is = subst (λ (x : Walk). IsStop ps x s) (sym same) is

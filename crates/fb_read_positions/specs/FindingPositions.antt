@@ -15,7 +15,7 @@ use Rattle.fb_types.specs.declared.library.Network.{Network}
 use Rattle.fb_types.specs.declared.library.PortName.{PortName}
 use Rattle.fb_types.specs.declared.library.Ports.{Ports}
 use Rattle.fb_types.specs.declared.library.State.{State}
-use Rattle.fb_read_positions.specs.Places.{network_inside}
+use Rattle.fb_read_positions.specs.Places.{action_at, network_inside}
 use Rattle.fb_read_positions.specs.declared.position.BasicPart.{BasicPart}
 use Rattle.fb_read_positions.specs.declared.position.BasicPart.TheVariants as basic_part
 use Rattle.fb_read_positions.specs.declared.position.ConnectionPart.{ConnectionPart}
@@ -158,7 +158,7 @@ name_of_action a action_name.Output state action = output_part a.algorithm state
 
 abbrev pub action_part : List State → (state action : ℕ) → ActionPart → Option BasicPart
 action_part states state action part =
-    option_and_then (λ s. option_map (λ a. name_of_action a part state action) (slice_get s.actions action)) (slice_get states state)
+    option_map (λ a. name_of_action a part state action) (action_at states state action)
 
 abbrev pub unknown_position : Library → UnknownName → Option Position
 unknown_position lib (unknown.InstanceType s instance) = Some (in_site s (network_part.InstanceType instance))

@@ -9,13 +9,13 @@ use Rattle.fb_types.specs.declared.library.BlockType.{BlockType}
 use Rattle.fb_types.specs.declared.library.BlockType.TheVariants as block_type
 use Rattle.fb_types.specs.declared.library.Connection.{Connection}
 use Rattle.fb_types.specs.declared.library.EventPort.{EventPort}
+use Rattle.fb_types.specs.declared.library.Instance.{Instance}
 use Rattle.fb_types.specs.declared.library.Library.{Library}
 use Rattle.fb_types.specs.declared.library.Network.{Network}
 use Rattle.fb_types.specs.declared.library.PortName.{PortName}
 use Rattle.fb_types.specs.declared.library.Ports.{Ports}
 use Rattle.fb_types.specs.declared.library.State.{State}
 use Rattle.fb_types.specs.declared.library.Transition.{Transition}
-use Rattle.fb_types.specs.declared.library.Variable.{Variable}
 use Rattle.fb_read.specs.declared.token.Located.{Located}
 use Rattle.fb_read.specs.declared.token.Span.{Span}
 use Rattle.fb_read.specs.declared.token.Token.TheVariants as token
@@ -53,29 +53,26 @@ name_of_connection connection_part.FromPort c = c.from.port
 name_of_connection connection_part.To c = first_name c.to
 name_of_connection connection_part.ToPort c = c.to.port
 
+abbrev pub parameter_name : List Instance → ℕ → ℕ → Option Name
+parameter_name instances k n = option_and_then (λ i. option_map (λ p. p.name) (slice_get i.parameters n)) (slice_get instances k)
+
 abbrev pub name_in_network : NetworkPart → Network → Option Name
 name_in_network (network_part.Instance k) net = option_map (λ i. i.name) (slice_get net.instances k)
 name_in_network (network_part.InstanceType k) net = option_map (λ i. i.block_type) (slice_get net.instances k)
-name_in_network (network_part.Parameter k n) net = option_and_then (λ i. option_map (λ p. p.name) (slice_get i.parameters n)) (slice_get net.instances k)
+name_in_network (network_part.Parameter k n) net = parameter_name net.instances k n
 name_in_network (network_part.EventConnection k part) net = option_map (name_of_connection part) (slice_get net.event_connections k)
 name_in_network (network_part.DataConnection k part) net = option_map (name_of_connection part) (slice_get net.data_connections k)
-
-abbrev pub event_name : List EventPort → ℕ → Option Name
-event_name events n = option_map (λ e. e.name) (slice_get events n)
 
 abbrev pub with_name : List EventPort → ℕ → ℕ → Option Name
 with_name events n k = option_and_then (λ e. slice_get e.with k) (slice_get events n)
 
-abbrev pub variable_name : List Variable → ℕ → Option Name
-variable_name variables n = option_map (λ v. v.name) (slice_get variables n)
-
 abbrev pub name_in_ports : PortPart → Ports → Option Name
-name_in_ports (port_part.EventInput n) p = event_name p.event_inputs n
+name_in_ports (port_part.EventInput n) p = option_map (λ e. e.name) (slice_get p.event_inputs n)
 name_in_ports (port_part.WithInput n k) p = with_name p.event_inputs n k
-name_in_ports (port_part.EventOutput n) p = event_name p.event_outputs n
+name_in_ports (port_part.EventOutput n) p = option_map (λ e. e.name) (slice_get p.event_outputs n)
 name_in_ports (port_part.WithOutput n k) p = with_name p.event_outputs n k
-name_in_ports (port_part.Input n) p = variable_name p.inputs n
-name_in_ports (port_part.Output n) p = variable_name p.outputs n
+name_in_ports (port_part.Input n) p = option_map (λ v. v.name) (slice_get p.inputs n)
+name_in_ports (port_part.Output n) p = option_map (λ v. v.name) (slice_get p.outputs n)
 
 abbrev pub name_of_transition : TransitionPart → Transition → Option Name
 name_of_transition transition_part.From t = Some t.from
@@ -87,13 +84,16 @@ name_of_transition (transition_part.Mention n) t = None
 abbrev pub action_at : List State → ℕ → ℕ → Option Action
 action_at states n k = option_and_then (λ s. slice_get s.actions k) (slice_get states n)
 
+abbrev pub algorithm_name : List State → ℕ → ℕ → Option Name
+algorithm_name states n k = option_and_then (λ a. a.algorithm) (action_at states n k)
+
 abbrev pub output_name : List State → ℕ → ℕ → Option Name
 output_name states n k = option_and_then (λ a. a.output) (action_at states n k)
 
 abbrev pub name_in_basic : BasicPart → BasicType → Option Name
-name_in_basic (basic_part.Internal n) t = variable_name t.internals n
+name_in_basic (basic_part.Internal n) t = option_map (λ v. v.name) (slice_get t.internals n)
 name_in_basic (basic_part.State n) t = option_map (λ s. s.name) (slice_get t.states n)
-name_in_basic (basic_part.Action n k) t = option_and_then (λ a. a.algorithm) (action_at t.states n k)
+name_in_basic (basic_part.Action n k) t = algorithm_name t.states n k
 name_in_basic (basic_part.OutputAlone n k) t = output_name t.states n k
 name_in_basic (basic_part.OutputAfter n k) t = output_name t.states n k
 name_in_basic (basic_part.Transition n part) t = option_and_then (name_of_transition part) (slice_get t.transitions n)
@@ -102,22 +102,29 @@ name_in_basic (basic_part.Statement n k) t = None
 name_in_basic (basic_part.Clause n k j) t = None
 name_in_basic (basic_part.Mention n k) t = None
 
-abbrev pub basic_inside : BlockType → Option BasicType
-basic_inside (block_type.Basic t) = Some t
-basic_inside (block_type.Composite t) = None
-
 abbrev pub network_inside : BlockType → Option Network
 network_inside (block_type.Basic t) = None
 network_inside (block_type.Composite t) = Some t.network
+
+abbrev pub name_in_ports_of : PortPart → BlockType → Option Name
+name_in_ports_of part t = name_in_ports part (ports_of (kind_of t))
+
+abbrev pub name_inside_basic : BasicPart → BlockType → Option Name
+name_inside_basic part (block_type.Basic t) = name_in_basic part t
+name_inside_basic part (block_type.Composite t) = None
+
+abbrev pub name_inside_composite : NetworkPart → BlockType → Option Name
+name_inside_composite part (block_type.Basic t) = None
+name_inside_composite part (block_type.Composite t) = name_in_network part t.network
 
 -- the name that a library has at a position, if it is one of a name
 abbrev pub name_at : Position → Library → Option Name
 name_at position.Application lib = Some lib.application.name
 name_at (position.InApplication part) lib = name_in_network part lib.application.network
 name_at (position.Block k) lib = option_map type_name (slice_get lib.blocks k)
-name_at (position.InPorts k part) lib = option_and_then (λ t. name_in_ports part (ports_of (kind_of t))) (slice_get lib.blocks k)
-name_at (position.InBasic k part) lib = option_and_then (λ t. option_and_then (name_in_basic part) (basic_inside t)) (slice_get lib.blocks k)
-name_at (position.InComposite k part) lib = option_and_then (λ t. option_and_then (name_in_network part) (network_inside t)) (slice_get lib.blocks k)
+name_at (position.InPorts k part) lib = option_and_then (name_in_ports_of part) (slice_get lib.blocks k)
+name_at (position.InBasic k part) lib = option_and_then (name_inside_basic part) (slice_get lib.blocks k)
+name_at (position.InComposite k part) lib = option_and_then (name_inside_composite part) (slice_get lib.blocks k)
 
 -- ---- Bytes
 

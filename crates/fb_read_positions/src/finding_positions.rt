@@ -5,14 +5,15 @@ ghost use Rattle.std.specs.Prelude.{◌≡◌};
 ghost use Rattle.std.specs.Option.{option_copied};
 ghost use Rattle.fb_read_positions.specs.FindingPositions as spec;
 
-use crate::names::network_inside;
+use crate::names::{action_at, network_inside};
 use crate::position::{BasicPart, ConnectionPart, NetworkPart, PortPart, Position, TransitionPart};
 use fb_check_names::{
     ActionPart, Descent, Direction, FlowKind, GivenTwice, InBlock, InNetwork, Misfit, Side, Site,
     StatementPart, TransitionPart as NamedPart, UnknownName, Unlinked, Unmapped, Variables,
 };
 use fb_types::{
-    BlockType, Connection, Instance, Library, Network, PortName, Ports, State, instance_named,
+    Action, BlockType, Connection, Instance, Library, Network, PortName, Ports, State,
+    instance_named,
 };
 
 /// A part of the network of a site.
@@ -195,18 +196,23 @@ fn states_at(library: &Library, block: usize) -> &[State]
     }
 }
 
+/// A name of this action, by the index of its state and its own.
+fn name_of_action(named: &Action, state: usize, action: usize, part: ActionPart) -> BasicPart
+    ensures { result ≡ spec.name_of_action named.now part state action }
+{
+    match (part, &named.algorithm) {
+        (ActionPart::Algorithm, _) => BasicPart::Action(state, action),
+        (ActionPart::Output, Some(_)) => BasicPart::OutputAfter(state, action),
+        (ActionPart::Output, None) => BasicPart::OutputAlone(state, action),
+    }
+}
+
 /// A name of an action.
 fn action_part(states: &[State], state: usize, action: usize, part: ActionPart) -> Option<BasicPart>
     ensures { result ≡ spec.action_part states.now state action part }
 {
-    let named = states.get(state)?.actions.get(action)?;
-    match part {
-        ActionPart::Algorithm => Some(BasicPart::Action(state, action)),
-        ActionPart::Output => match &named.algorithm {
-            Some(_) => Some(BasicPart::OutputAfter(state, action)),
-            None => Some(BasicPart::OutputAlone(state, action)),
-        },
-    }
+    let named = action_at(states, state, action)?;
+    Some(name_of_action(named, state, action, part))
 }
 
 /// An unknown name. One in the deployment has no position.

@@ -4,7 +4,9 @@ pub use crate::finding_positions::network_at;
 use crate::position::{BasicPart, NetworkPart, PortPart, Position};
 use crate::words::Text;
 use fb_check_names::{Named, Site};
-use fb_types::{BasicType, BlockType, CompositeType, EventPort, Instance, Library, Network, Ports};
+use fb_types::{
+    BasicType, BlockType, CompositeType, Connection, EventPort, Instance, Library, Network, Ports,
+};
 
 /// The basic type at this index.
 pub fn basic_at(library: &Library, block: usize) -> Option<&BasicType> {
@@ -93,65 +95,84 @@ fn push_in_basic(text: &mut Text, basic: &BasicType, part: BasicPart) {
     }
 }
 
-/// Adds words for an instance and its type.
-fn push_instance(text: &mut Text, instance: &Instance) {
-    text.named(": instance ", &instance.name);
-    text.named(" : ", &instance.block_type);
+/// Adds words for the instance and its type, if it is there.
+fn push_instance(text: &mut Text, instance: Option<&Instance>) {
+    if let Some(instance) = instance {
+        text.named(": instance ", &instance.name);
+        text.named(" : ", &instance.block_type);
+    }
 }
 
-fn push_in_network(text: &mut Text, network: &Network, part: NetworkPart) -> Option<()> {
+/// Adds words for a parameter of the instance, if it is there.
+fn push_parameter(text: &mut Text, instance: Option<&Instance>, parameter: usize) {
+    if let Some(instance) = instance {
+        push_item(
+            text,
+            ", parameter ",
+            instance.parameters.as_slice(),
+            parameter,
+        );
+    }
+}
+
+/// Adds words, and the connection, if it is there.
+pub fn push_connection(text: &mut Text, words: &str, connection: Option<&Connection>) {
+    if let Some(connection) = connection {
+        text.connection(words, connection);
+    }
+}
+
+fn push_in_network(text: &mut Text, network: &Network, part: NetworkPart) {
+    let instances = network.instances.as_slice();
     match part {
-        NetworkPart::Instance(index) => {
-            push_item(text, ": instance ", network.instances.as_slice(), index);
-        }
-        NetworkPart::InstanceType(index) => push_instance(text, network.instances.get(index)?),
+        NetworkPart::Instance(index) => push_item(text, ": instance ", instances, index),
+        NetworkPart::InstanceType(index) => push_instance(text, instances.get(index)),
         NetworkPart::Parameter(index, parameter) => {
-            let instance = network.instances.get(index)?;
-            push_instance(text, instance);
-            push_item(
-                text,
-                ", parameter ",
-                instance.parameters.as_slice(),
-                parameter,
-            );
+            push_instance(text, instances.get(index));
+            push_parameter(text, instances.get(index), parameter);
         }
         NetworkPart::EventConnection(index, _) => {
-            text.connection(": event connection ", network.event_connections.get(index)?);
+            let connection = network.event_connections.get(index);
+            push_connection(text, ": event connection ", connection);
         }
         NetworkPart::DataConnection(index, _) => {
-            text.connection(": data connection ", network.data_connections.get(index)?);
+            let connection = network.data_connections.get(index);
+            push_connection(text, ": data connection ", connection);
         }
     }
-    Some(())
 }
 
-fn push_block(text: &mut Text, library: &Library, block: usize) {
-    push_item(text, "block type ", library.blocks.as_slice(), block);
+/// Adds words for a part of the block type, if it is there and has such a part.
+fn push_in_block(text: &mut Text, block: Option<&BlockType>, position: Position) {
+    match (block, position) {
+        (Some(block), Position::InPorts(_, part)) => push_in_ports(text, block.ports(), part),
+        (Some(BlockType::Basic(basic)), Position::InBasic(_, part)) => {
+            push_in_basic(text, basic, part);
+        }
+        (Some(BlockType::Composite(composite)), Position::InComposite(_, part)) => {
+            push_in_network(text, &composite.network, part);
+        }
+        _ => {}
+    }
 }
 
 /// Adds words for a position: the application or the block type, and what is there. Of an instance at whose type the
 /// position is, the type is among them.
-pub fn push_position(text: &mut Text, library: &Library, position: Position) -> Option<()> {
+pub fn push_position(text: &mut Text, library: &Library, position: Position) {
     let application = &library.application;
+    let blocks = library.blocks.as_slice();
     match position {
         Position::Application => text.named("application ", &application.name),
         Position::InApplication(part) => {
             text.named("application ", &application.name);
-            push_in_network(text, &application.network, part)?;
+            push_in_network(text, &application.network, part);
         }
-        Position::Block(block) => push_block(text, library, block),
-        Position::InPorts(block, part) => {
-            push_block(text, library, block);
-            push_in_ports(text, library.blocks.get(block)?.ports(), part);
-        }
-        Position::InBasic(block, part) => {
-            push_block(text, library, block);
-            push_in_basic(text, basic_at(library, block)?, part);
-        }
-        Position::InComposite(block, part) => {
-            push_block(text, library, block);
-            push_in_network(text, &composite_at(library, block)?.network, part)?;
+        Position::Block(block)
+        | Position::InPorts(block, _)
+        | Position::InBasic(block, _)
+        | Position::InComposite(block, _) => {
+            push_item(text, "block type ", blocks, block);
+            push_in_block(text, blocks.get(block), position);
         }
     }
-    Some(())
 }

@@ -70,14 +70,14 @@ fn last(tokens: &[Located], left: usize) -> &[Located]
     &tokens[index..]
 }
 
-/// Whether something was read, if memory did not run out for it.
-fn is_read(read: Result<(), ParseFault>) -> Result<bool, AllocError>
-    ensures { IfOk result (λ b. IsTrue b → read ≡ Ok tt) }
+/// The number of tokens that are left, if everything before them was read, and memory did not run out for it.
+fn left_if(read: Result<(), ParseFault>, left: usize) -> Result<Option<usize>, AllocError>
+    ensures { IfOk result (λ o. IfSome o (λ n. (read ≡ Ok tt) × (n ≡ left))) }
 {
     match read {
-        Ok(()) => Ok(true),
+        Ok(()) => Ok(Some(left)),
         Err(ParseFault::Memory) => Err(AllocError),
-        Err(_) => Ok(false),
+        Err(_) => Ok(None),
     }
 }
 
@@ -157,10 +157,7 @@ fn left_past(
     ensures { IfOk result (λ o. IfSome o (Leaves (spec.pass steps.now count) tokens.now)) }
 {
     let mut cursor = Cursor::new(alloc, tokens);
-    if !is_read(pass(&mut cursor, steps, count))? {
-        return Ok(None);
-    }
-    Ok(Some(cursor.left()))
+    left_if(pass(&mut cursor, steps, count), cursor.left())
 }
 
 /// The number of tokens that are left at an action, this many actions after the one with which these tokens begin.
@@ -173,10 +170,7 @@ fn left_past_actions(
     ensures { IfOk result (λ o. IfSome o (Leaves (spec.pass_actions count) tokens.now)) }
 {
     let mut cursor = Cursor::new(alloc, tokens);
-    if !is_read(pass_actions(&mut cursor, count))? {
-        return Ok(None);
-    }
-    Ok(Some(cursor.left()))
+    left_if(pass_actions(&mut cursor, count), cursor.left())
 }
 
 /// The number of tokens that are left at the name at an index among the names in these tokens.
@@ -189,10 +183,7 @@ fn left_at_name(
     ensures { IfOk result (λ o. IfSome o (Leaves (λ ts. spec.to_name ts index) tokens.now)) }
 {
     let mut cursor = Cursor::new(alloc, tokens);
-    if !is_read(to_name(&mut cursor, index))? {
-        return Ok(None);
-    }
-    Ok(Some(cursor.left()))
+    left_if(to_name(&mut cursor, index), cursor.left())
 }
 
 /// The number of tokens that are left at an item of a list of an item, this many items after the one with which these
@@ -249,6 +240,19 @@ fn left_after(
     left_past_items(alloc, last(tokens, from.left), item.list, count)
 }
 
+/// The number of tokens that are left at the first item of a list, from where what has it begins.
+fn left_at_first(
+    alloc: Global,
+    tokens: &[Located],
+    list: ItemList,
+) -> Result<Option<usize>, AllocError>
+    requires { length tokens.now ≤ most_bytes }
+    ensures { IfOk result (λ o. IfSome o (Leaves (spec.to_first list) tokens.now)) }
+{
+    let mut cursor = Cursor::new(alloc, tokens);
+    left_if(to_first(&mut cursor, list), cursor.left())
+}
+
 /// The number of tokens that are left at an item, from where what has its list begins.
 fn left_within(
     alloc: Global,
@@ -261,11 +265,10 @@ fn left_within(
     ensures { IfOk result (λ o. IfSome o (Leaves (to_item item) tokens.now)) }
 {
     let tokens = last(tokens, owner);
-    let mut cursor = Cursor::new(alloc, tokens);
-    if !is_read(to_first(&mut cursor, item.list))? {
-        return Ok(None);
+    match left_at_first(alloc, tokens, item.list)? {
+        Some(left) => left_past_items(alloc, last(tokens, left), item.list, item.index),
+        None => Ok(None),
     }
-    left_past_items(alloc, last(tokens, cursor.left()), item.list, item.index)
 }
 
 /// Reads up to an item, if its list was read before and not past it.
@@ -339,6 +342,19 @@ fn reach_item(
     }
 }
 
+/// The number of tokens that are left at a position, from the item to which it belongs.
+fn left_at_part(
+    alloc: Global,
+    tokens: &[Located],
+    position: Position,
+) -> Result<Option<usize>, AllocError>
+    requires { length tokens.now ≤ most_bytes }
+    ensures { IfOk result (λ o. IfSome o (Leaves (spec.take_all (spec.to_part position)) tokens.now)) }
+{
+    let mut cursor = Cursor::new(alloc, tokens);
+    left_if(take_all(&mut cursor, to_part(position)), cursor.left())
+}
+
 /// Reads up to a position of a declaration, from where these tokens were read before.
 pub(crate) fn reach(
     alloc: Global,
@@ -353,12 +369,11 @@ pub(crate) fn reach(
     let Some(at_item) = reach_item(alloc, tokens, reached, item_of(position))? else {
         return Ok(None);
     };
-    let mut cursor = Cursor::new(alloc, last(tokens, at_item.left));
-    if !is_read(take_all(&mut cursor, to_part(position)))? {
-        return Ok(None);
+    match left_at_part(alloc, last(tokens, at_item.left), position)? {
+        Some(left) => Ok(Some(Stop {
+            left,
+            reached: at_item.reached,
+        })),
+        None => Ok(None),
     }
-    Ok(Some(Stop {
-        left: cursor.left(),
-        reached: at_item.reached,
-    }))
 }

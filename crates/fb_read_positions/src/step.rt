@@ -80,6 +80,13 @@ fn passed<T: Drop>(read: Result<T, ParseFault>) -> Result<(), ParseFault>
     Ok(())
 }
 
+/// Reads what a rule reads, and keeps nothing of it.
+fn past<T: Rule>(cursor: &mut Cursor<'_>) -> Result<(), ParseFault>
+    ensures { Reads (spec.skip T.parser cursor.old) result cursor.new }
+{
+    passed(T::read(cursor))
+}
+
 /// Takes the next token, if it is a name. Returns whether it was.
 fn eat_name(cursor: &mut Cursor<'_>) -> bool
     ensures found { result ≡ sees_name cursor.old }
@@ -108,7 +115,7 @@ fn past_application(cursor: &mut Cursor<'_>) -> Result<(), ParseFault>
     ensures { Reads (spec.past_application cursor.old) result cursor.new }
 {
     if cursor.sees(Mark::Application) {
-        passed(Application::read(cursor))
+        past::<Application>(cursor)
     } else {
         Ok(())
     }
@@ -128,7 +135,7 @@ fn past_type(cursor: &mut Cursor<'_>) -> Result<(), ParseFault>
     ensures { Reads (spec.past_type cursor.old) result cursor.new }
 {
     cursor.expect(Mark::Colon)?;
-    passed(Ty::read(cursor))?;
+    past::<Ty>(cursor)?;
     passed(optional::<Value>(cursor, Mark::Assign))?;
     cursor.expect(Mark::Semicolon)
 }
@@ -171,8 +178,8 @@ fn take(cursor: &mut Cursor<'_>, step: Step) -> Result<(), ParseFault>
         Step::St => cursor.word(b"ST"),
         Step::Name => past_name(cursor),
         Step::Event => passed(cursor.name_if()),
-        Step::Port => passed(PortName::read(cursor)),
-        Step::Ports => passed(Ports::read(cursor)),
+        Step::Port => past::<PortName>(cursor),
+        Step::Ports => past::<Ports>(cursor),
         Step::Events(begin) => passed(section::<EventPort>(cursor, begin, Mark::EndEvent)),
         Step::Variables(begin) => passed(variables(cursor, begin)),
         Step::Instances => passed(many::<Instance>(cursor, Mark::EndFbs)),
@@ -185,16 +192,16 @@ fn take(cursor: &mut Cursor<'_>, step: Step) -> Result<(), ParseFault>
         Step::Transitions => passed(transitions(cursor)),
         Step::Blocks => past_blocks(cursor),
         Step::Application => past_application(cursor),
-        Step::Block => passed(BlockType::read(cursor)),
-        Step::EventPort => passed(EventPort::read(cursor)),
+        Step::Block => past::<BlockType>(cursor),
+        Step::EventPort => past::<EventPort>(cursor),
         Step::Variable => past_variable(cursor),
-        Step::Instance => passed(Instance::read(cursor)),
-        Step::Parameter => passed(Parameter::read(cursor)),
-        Step::Connection => passed(Connection::read(cursor)),
-        Step::State => passed(State::read(cursor)),
+        Step::Instance => past::<Instance>(cursor),
+        Step::Parameter => past::<Parameter>(cursor),
+        Step::Connection => past::<Connection>(cursor),
+        Step::State => past::<State>(cursor),
         Step::Action => past_action(cursor),
-        Step::Transition => passed(Transition::read(cursor)),
-        Step::Algorithm => passed(Algorithm::read(cursor)),
+        Step::Transition => past::<Transition>(cursor),
+        Step::Algorithm => past::<Algorithm>(cursor),
     }
 }
 
