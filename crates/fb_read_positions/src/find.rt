@@ -164,9 +164,16 @@ pub fn span_of(
     }
     match lex(alloc, text) {
         Ok(tokens) => {
-            let tokens = tokens.as_slice();
-            let found = span_from(alloc, text, tokens, library, beginning(), position)?;
-            Ok(found.span)
+            let found = span_from(
+                alloc,
+                text,
+                tokens.as_slice(),
+                library,
+                beginning(),
+                position,
+            );
+            discard(tokens);
+            Ok(found?.span)
         }
         Err(ReadFault::Memory) => Err(AllocError),
         Err(_) => Ok(None),

@@ -73,30 +73,8 @@ fn place_of(
     }
 }
 
-/// Where a position of a library is, from the tokens of the text that declares it, and from where an earlier place was
-/// found.
-fn place_from(
-    alloc: Global,
-    declaration: &[u8],
-    tokens: &[Located],
-    library: &Library,
-    from: FoundPlace,
-    position: Position,
-) -> Result<FoundPlace, AllocError>
-    requires few { length tokens.now ≤ most_bytes }
-    requires located { AreLocated declaration.now tokens.now (after_mark declaration.now) }
-    requires from { IsFound declaration.now tokens.now from }
-    ensures place { IfOk result (λ f. IfSome f.place (IsPlaceAt declaration.now library.now position)) }
-    ensures found { IfOk result (IsFound declaration.now tokens.now) }
-{
-    let found = span_from(alloc, declaration, tokens, library, from.reached, position)?;
-    Ok(FoundPlace {
-        place: place_of(declaration, from.place, found.span),
-        reached: found.reached,
-    })
-}
-
-/// Where a position is, if one is given.
+/// Where a position of a library is, if one is given, from the tokens of the text that declares it, and from where an
+/// earlier place was found.
 fn next_place(
     alloc: Global,
     declaration: &[u8],
@@ -111,13 +89,17 @@ fn next_place(
     ensures place { IfOk result (λ f. IsPlaceFor declaration.now library.now position f.place) }
     ensures found { IfOk result (IsFound declaration.now tokens.now) }
 {
-    match position {
-        Some(position) => place_from(alloc, declaration, tokens, library, from, position),
-        None => Ok(FoundPlace {
+    let Some(position) = position else {
+        return Ok(FoundPlace {
             place: None,
             ..from
-        }),
-    }
+        });
+    };
+    let found = span_from(alloc, declaration, tokens, library, from.reached, position)?;
+    Ok(FoundPlace {
+        place: place_of(declaration, from.place, found.span),
+        reached: found.reached,
+    })
 }
 
 /// Where positions of a library are, from the tokens of the text that declares it.

@@ -2,6 +2,7 @@
 
 use crate::text_locations::TextLocation;
 use crate::words::{Text, front, shown};
+use memchr::memchr;
 use std::alloc::{AllocError, Global};
 
 /// The most bytes of a line that are shown.
@@ -18,7 +19,7 @@ fn line_round(bytes: &[u8], start: usize, marked: usize) -> &[u8] {
     let near = front(rest, before.saturating_add(MOST_OF_LINE + 1));
     let after = near.get(before..).unwrap_or(&[]);
     // The line ends past the mark: it is the line of the mark.
-    let line = match after.iter().position(|b| *b == b'\n') {
+    let line = match memchr(b'\n', after) {
         Some(len) => front(near, before.saturating_add(len)),
         None => near,
     };
