@@ -4,23 +4,13 @@ pub use crate::finding_positions::network_at;
 use crate::position::{BasicPart, NetworkPart, PortPart, Position};
 use crate::words::Text;
 use fb_check_names::{Named, Site};
-use fb_types::{
-    BasicType, BlockType, CompositeType, Connection, EventPort, Instance, Library, Network, Ports,
-};
+use fb_types::{BasicType, BlockType, Connection, EventPort, Instance, Library, Network, Ports};
 
 /// The basic type at this index.
 pub fn basic_at(library: &Library, block: usize) -> Option<&BasicType> {
     match library.blocks.get(block)? {
         BlockType::Basic(basic) => Some(basic),
         BlockType::Composite(_) => None,
-    }
-}
-
-/// The composite type at this index.
-pub fn composite_at(library: &Library, block: usize) -> Option<&CompositeType> {
-    match library.blocks.get(block)? {
-        BlockType::Basic(_) => None,
-        BlockType::Composite(composite) => Some(composite),
     }
 }
 

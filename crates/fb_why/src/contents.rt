@@ -73,8 +73,10 @@ impl<'a> Contents<'a> {
             self.statements = all_statements(self.alloc, body)?;
             self.stated = Some(source);
         }
-        let found = self.statements.get(index);
-        Ok(found.map(|standing| standing.statement))
+        match self.statements.get(index) {
+            Some(standing) => Ok(Some(standing.statement)),
+            None => Ok(None),
+        }
     }
 
     /// What an algorithm or a guard, which has this text, names at an index.

@@ -7,21 +7,28 @@ use crate::spot::Spot;
 use fb_check::{Case, Fault, Refusal, why_refused};
 use std::alloc::{AllocError, Global};
 
+/// What a list has at an index.
+fn at<T: Copy>(found: &[T], index: usize) -> Option<T>
+    ensures { result ≡ slice_get found.now index }
+{
+    found.get(index).copied()
+}
+
 /// The location at an index among those of a refusal.
 fn spot_at(refusal: &Refusal, index: usize) -> Option<Spot>
     ensures { result ≡ slice_get (spots_of refusal.now) index }
 {
     match refusal {
-        Refusal::Twice(found) => Some(Spot::Twice(*found.get(index)?)),
-        Refusal::NameUnknown(found) => Some(Spot::Unknown(*found.get(index)?)),
-        Refusal::KindWrong(found) => Some(Spot::Misfit(*found.get(index)?)),
-        Refusal::OutOfRange(found) => Some(Spot::Misjoin(*found.get(index)?)),
-        Refusal::TwoSources(found) => Some(Spot::Joined(*found.get(index)?)),
+        Refusal::Twice(found) => Some(Spot::Twice(at(found, index)?)),
+        Refusal::NameUnknown(found) => Some(Spot::Unknown(at(found, index)?)),
+        Refusal::KindWrong(found) => Some(Spot::Misfit(at(found, index)?)),
+        Refusal::OutOfRange(found) => Some(Spot::Misjoin(at(found, index)?)),
+        Refusal::TwoSources(found) => Some(Spot::Joined(at(found, index)?)),
         Refusal::TooHigh(descent) => (index == 0).then_some(Spot::TooHigh(*descent)),
-        Refusal::NotMapped(found) => Some(Spot::Unmapped(*found.get(index)?)),
-        Refusal::NoLink(found) => Some(Spot::Unlinked(*found.get(index)?)),
-        Refusal::NoEvent(found) => Some(Spot::Unserved(*found.get(index)?)),
-        Refusal::BadStimulus(found) => Some(Spot::Stimulus(*found.get(index)?)),
+        Refusal::NotMapped(found) => Some(Spot::Unmapped(at(found, index)?)),
+        Refusal::NoLink(found) => Some(Spot::Unlinked(at(found, index)?)),
+        Refusal::NoEvent(found) => Some(Spot::Unserved(at(found, index)?)),
+        Refusal::BadStimulus(found) => Some(Spot::Stimulus(at(found, index)?)),
         Refusal::OverLimit(limit) => (index == 0).then_some(Spot::Limit(*limit)),
     }
 }

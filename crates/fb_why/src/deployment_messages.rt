@@ -113,11 +113,21 @@ fn push_unknown(alloc: Global, text: &mut Text, bytes: &[u8], table: TableLocati
     }
 }
 
+/// Whether a word is one of these.
+fn is_among(word: &str, known: &[&str]) -> bool {
+    for other in known {
+        if *other == word {
+            return true;
+        }
+    }
+    false
+}
+
 /// Adds the first key of a table that is none of these.
 pub(crate) fn push_further(text: &mut Text, keys: &Table, known: &[&str]) {
     text.words("there is a further key");
     for (key, _) in keys {
-        if !known.iter().any(|word| *word == key.as_str()) {
+        if !is_among(key.as_str(), known) {
             text.words(", ");
             text.quoted(key.as_str().as_bytes());
             return;

@@ -9,9 +9,11 @@ use crate::unknown_messages::push_unknown;
 use fb_check::{Case, Limit};
 use fb_check_names::{Descent, FlowKind, GivenTwice, InBlock, Joined, Repeat, Unlinked, Unmapped};
 use fb_read_positions::finding_positions::port_at;
-use fb_read_positions::headings::{network_at, push_position, site_position};
+use fb_read_positions::headings::{
+    network_at, push_connection, push_item, push_position, site_position,
+};
 use fb_read_positions::{BlockTypes, NetworkPart, PortPart, Position, Text, name_at};
-use fb_types::{Library, Name, Network, Plan, PortName, ResourceEntry};
+use fb_types::{Library, Link, Name, Network, Plan, PortName, ResourceEntry};
 use std::alloc::{AllocError, Global};
 
 const AGAIN: &str = " is given twice";
@@ -27,56 +29,63 @@ fn kind_at(position: Position) -> &'static str {
     }
 }
 
-fn push_ports(text: &mut Text, library: &Library, block: usize, pair: Repeat) -> Option<()> {
-    let ports = library.blocks.get(block)?.ports();
-    let (first, second) = pair;
-    let first = port_at(block, ports, first);
-    let other_kind = kind_at(port_at(block, ports, second));
-    text.named(": ", name_at(first, library)?);
-    text.phrase(&[AGAIN, ", as ", kind_at(first), " and as ", other_kind]);
-    Some(())
+/// Adds which two ports or variables of a block type have one name (E20).
+/// Adds which two ports or variables of a block type have one name.
+fn push_ports(text: &mut Text, library: &Library, block: usize, pair: Repeat) {
+    let Some(declared) = library.blocks.get(block) else {
+        return;
+    };
+    let first = port_at(block, declared.ports(), pair.0);
+    let second = port_at(block, declared.ports(), pair.1);
+    if let Some(name) = name_at(first, library) {
+        text.named(": ", name);
+    }
+    text.phrase(&[AGAIN, ", as ", kind_at(first), " and as ", kind_at(second)]);
+}
+
+/// Adds that the link is given twice, if it is there.
+fn push_link(text: &mut Text, link: Option<&Link>) {
+    if let Some(link) = link {
+        text.named("link from ", &link.from);
+        text.named(" to ", &link.to);
+        text.words(AGAIN);
+    }
 }
 
 /// Adds that something is given twice (E20).
-fn push_given(text: &mut Text, library: &Library, plan: &Plan, given: GivenTwice) -> Option<()> {
+fn push_given(text: &mut Text, library: &Library, plan: &Plan, given: GivenTwice) {
     match given {
         GivenTwice::EventBlock(_) => text.words(": an event block has this name"),
-        GivenTwice::Block(block, InBlock::Port(pair)) => push_ports(text, library, block, pair)?,
+        GivenTwice::Block(block, InBlock::Port(pair)) => push_ports(text, library, block, pair),
         GivenTwice::Resource((_, resource)) => {
-            text.named("resource ", &plan.resources.get(resource)?.name);
+            push_item(text, "resource ", plan.resources.as_slice(), resource);
             text.words(AGAIN);
         }
-        GivenTwice::Link((_, link)) => {
-            let link = plan.links.get(link)?;
-            text.named("link from ", &link.from);
-            text.named(" to ", &link.to);
-            text.words(AGAIN);
-        }
+        GivenTwice::Link((_, link)) => push_link(text, plan.links.get(link)),
         _ => text.words(AGAIN),
     }
-    Some(())
 }
 
 /// Adds which two data connections lead to one port (E24).
-fn push_joined(text: &mut Text, library: &Library, joined: Joined) -> Option<()> {
-    let network = network_at(library, joined.site)?;
-    let (first, second) = joined.connections;
-    text.connection(": data connections ", network.data_connections.get(first)?);
-    text.connection(" and ", network.data_connections.get(second)?);
-    text.words(" lead to one port");
-    Some(())
+fn push_joined(text: &mut Text, library: &Library, joined: Joined) {
+    if let Some(network) = network_at(library, joined.site) {
+        let connections = network.data_connections.as_slice();
+        let (first, second) = joined.connections;
+        push_connection(text, ": data connections ", connections.get(first));
+        push_connection(text, " and ", connections.get(second));
+        text.words(" lead to one port");
+    }
 }
 
 /// Adds that a composite type is too high (E25).
-fn push_descent(text: &mut Text, library: &Library, descent: Descent) -> Option<()> {
+fn push_descent(text: &mut Text, library: &Library, descent: Descent) {
     match descent {
         Descent::Circle(block, _) => {
-            text.named(": ", library.blocks.get(block)?.type_name());
+            push_item(text, ": ", library.blocks.as_slice(), block);
             text.words(" contains itself through it");
         }
         Descent::Height(_, _) => text.words(": composites nest more than 16 deep through it"),
     }
-    Some(())
 }
 
 /// The resource and the name at an index in the lists of all resources, one after another.
@@ -92,14 +101,12 @@ fn listed_at(plan: &Plan, location: usize) -> Option<(&ResourceEntry, &Name)> {
     None
 }
 
-/// Adds how an instance is not mapped to one resource (E26).
-fn push_unmapped(text: &mut Text, plan: &Plan, unmapped: Unmapped) -> Option<()> {
-    let Unmapped::Again((first, second)) = unmapped else {
-        text.words(": no resource lists it");
-        return Some(());
+/// Adds which resources list an instance, by two indexes in all their lists.
+fn push_listed(text: &mut Text, plan: &Plan, first: usize, second: usize) {
+    let (Some((one, name)), Some((other, _))) = (listed_at(plan, first), listed_at(plan, second))
+    else {
+        return;
     };
-    let (one, name) = listed_at(plan, first)?;
-    let (other, _) = listed_at(plan, second)?;
     text.named(": instance ", name);
     text.named(": resource ", &one.name);
     if one.name.is(&other.name) {
@@ -107,40 +114,66 @@ fn push_unmapped(text: &mut Text, plan: &Plan, unmapped: Unmapped) -> Option<()>
     } else {
         text.named(" lists it, and so does resource ", &other.name);
     }
-    Some(())
 }
 
-/// The name of the resource that lists the component at an end of a connection, or else of the first one.
-fn resource_of<'a>(plan: &'a Plan, end: &PortName) -> Option<&'a Name> {
-    let component = end.component.as_ref()?;
-    for resource in plan.resources.as_slice() {
-        let names = resource.instances.as_slice();
-        if names.iter().any(|name| name.is(component)) {
-            return Some(&resource.name);
+/// Adds how an instance is not mapped to one resource (E26).
+fn push_unmapped(text: &mut Text, plan: &Plan, unmapped: Unmapped) {
+    match unmapped {
+        Unmapped::Again((first, second)) => push_listed(text, plan, first, second),
+        Unmapped::Unlisted(_) => text.words(": no resource lists it"),
+    }
+}
+
+/// Whether a list has a name.
+fn has_name(names: &[Name], sought: &Name) -> bool {
+    for name in names {
+        if name.is(sought) {
+            return true;
         }
     }
-    Some(&plan.resources.get(0)?.name)
+    false
+}
+
+/// The index of the resource that lists the component at an end of a connection, or else of the first one.
+fn resource_of(resources: &[ResourceEntry], end: &PortName) -> usize {
+    if let Some(component) = &end.component {
+        for (index, resource) in resources.iter().enumerate() {
+            if has_name(resource.instances.as_slice(), component) {
+                return index;
+            }
+        }
+    }
+    0
+}
+
+/// Adds words, and the name of the resource at an end of a connection.
+fn push_resource(text: &mut Text, words: &str, plan: &Plan, end: &PortName) {
+    let resources = plan.resources.as_slice();
+    push_item(text, words, resources, resource_of(resources, end));
 }
 
 /// Adds which link a connection would need (E27).
-fn push_unlinked(text: &mut Text, network: &Network, plan: &Plan, at: Unlinked) -> Option<()> {
-    let connection = match at.flow {
-        FlowKind::Events => network.event_connections.get(at.connection)?,
-        FlowKind::Data => network.data_connections.get(at.connection)?,
+fn push_unlinked(text: &mut Text, network: &Network, plan: &Plan, at: Unlinked) {
+    let connections = match at.flow {
+        FlowKind::Events => network.event_connections.as_slice(),
+        FlowKind::Data => network.data_connections.as_slice(),
     };
-    text.words(": there is no link");
-    text.named(" from resource ", resource_of(plan, &connection.from)?);
-    text.named(" to resource ", resource_of(plan, &connection.to)?);
-    Some(())
+    if let Some(connection) = connections.get(at.connection) {
+        text.words(": there is no link");
+        push_resource(text, " from resource ", plan, &connection.from);
+        push_resource(text, " to resource ", plan, &connection.to);
+    }
 }
 
 /// Adds which event could serve a data connection (E28).
-fn push_unserved(text: &mut Text, network: &Network, plan: &Plan, at: usize) -> Option<()> {
-    let connection = network.data_connections.get(at)?;
-    text.named(": no output event of ", connection.from.component.as_ref()?);
-    text.named(" WITH ", &connection.from.port);
-    text.named(" goes to resource ", resource_of(plan, &connection.to)?);
-    Some(())
+fn push_unserved(text: &mut Text, network: &Network, plan: &Plan, at: usize) {
+    if let Some(connection) = network.data_connections.get(at) {
+        if let Some(component) = &connection.from.component {
+            text.named(": no output event of ", component);
+        }
+        text.named(" WITH ", &connection.from.port);
+        push_resource(text, " goes to resource ", plan, &connection.to);
+    }
 }
 
 /// Adds what is wrong at a location, which is at this position if it is in the declaration.
@@ -151,27 +184,26 @@ fn push_flaw<'a>(
     case: &Case,
     location: Spot,
     position: Option<Position>,
-) -> Option<()> {
+) {
     let (library, plan) = (case.library, case.plan);
     let network = &library.application.network;
     match location {
-        Spot::Twice(given) => push_given(text, library, plan, given)?,
-        Spot::Unknown(name) => push_unknown(text, types, contents, plan, name, position)?,
-        Spot::Misfit(misfit) => push_misfit(text, types, contents, misfit)?,
-        Spot::Misjoin(misjoin) => push_misjoin(text, types, misjoin)?,
-        Spot::Joined(joined) => push_joined(text, library, joined)?,
-        Spot::TooHigh(descent) => push_descent(text, library, descent)?,
-        Spot::Unmapped(unmapped) => push_unmapped(text, plan, unmapped)?,
-        Spot::Unlinked(unlinked) => push_unlinked(text, network, plan, unlinked)?,
-        Spot::Unserved(connection) => push_unserved(text, network, plan, connection)?,
-        Spot::Stimulus(at) => push_stimulus(text, types, case.stimuli, at)?,
+        Spot::Twice(given) => push_given(text, library, plan, given),
+        Spot::Unknown(name) => push_unknown(text, types, contents, plan, name, position),
+        Spot::Misfit(misfit) => push_misfit(text, types, contents, misfit),
+        Spot::Misjoin(misjoin) => push_misjoin(text, types, misjoin),
+        Spot::Joined(joined) => push_joined(text, library, joined),
+        Spot::TooHigh(descent) => push_descent(text, library, descent),
+        Spot::Unmapped(unmapped) => push_unmapped(text, plan, unmapped),
+        Spot::Unlinked(unlinked) => push_unlinked(text, network, plan, unlinked),
+        Spot::Unserved(connection) => push_unserved(text, network, plan, connection),
+        Spot::Stimulus(at) => push_stimulus(text, types, case.stimuli, at),
         Spot::Limit(Limit::Instances) => {
             text.words("application: there are more than 4,096 instances, components included");
         }
         Spot::Limit(Limit::Stimuli) => text.words("there are more than 100,000 rows"),
         Spot::Text(_) | Spot::Deployment(_) | Spot::Stimuli(_) => {}
     }
-    Some(())
 }
 
 /// The position whose words come first: mostly the one at which the location is shown.

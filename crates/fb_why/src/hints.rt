@@ -16,9 +16,12 @@ const BLOCKS: &str =
 
 /// Whether bytes are among words that are separated by spaces, whatever their case.
 fn is_among(bytes: &[u8], words: &str) -> bool {
-    words
-        .split(' ')
-        .any(|word| word.as_bytes().eq_ignore_ascii_case(bytes))
+    for word in words.split(' ') {
+        if word.as_bytes().eq_ignore_ascii_case(bytes) {
+            return true;
+        }
+    }
+    false
 }
 
 /// Says of a word of a standard that the profile leaves it out.
@@ -30,16 +33,11 @@ pub(crate) fn push_left_out(message: &mut Text, here: &[u8]) {
     }
 }
 
-/// Whether these words, separated by spaces, have this one.
-fn has_word(words: &str, word: &str) -> bool {
-    words.split(' ').any(|other| other == word)
-}
-
 /// Whether a semicolon is missing, where this was expected. A statement that may begin there may also be empty, so that
 /// none is missing there.
 pub(crate) fn misses_semicolon(alloc: Global, expected: Expected) -> bool {
     match expected.words(alloc) {
-        Ok(words) => has_word(words.as_str(), ";") && !has_word(words.as_str(), "name"),
+        Ok(words) => is_among(b";", words.as_str()) && !is_among(b"name", words.as_str()),
         Err(_) => false,
     }
 }
@@ -61,7 +59,7 @@ fn has_else_if(tokens: &[Located]) -> bool {
 
 /// Says that ELSE IF begins another IF, if an END_IF was expected after these bytes.
 pub(crate) fn push_else_if(alloc: Global, message: &mut Text, before: &[u8], expected: &str) {
-    if !has_word(expected, "END_IF") {
+    if !is_among(b"END_IF", expected) {
         return;
     }
     if let Ok(tokens) = tokens_of(alloc, before) {
@@ -85,13 +83,29 @@ const UNITS: &[(&str, usize)] = &[
     ("ms", 1),
 ];
 
+/// A kind of bytes.
+#[derive(Clone, Copy)]
+enum Kind {
+    Letters,
+    Digits,
+}
+
+/// Whether a byte is of a kind.
+fn is_of_kind(byte: u8, kind: Kind) -> bool {
+    match kind {
+        Kind::Letters => byte.is_ascii_alphabetic(),
+        Kind::Digits => byte.is_ascii_digit(),
+    }
+}
+
 /// The bytes of a kind in front, and the others.
-fn split_front<F: Fn(&u8) -> bool>(bytes: &[u8], is_of_kind: F) -> (&[u8], &[u8])
-    requires { F.IsAlwaysCallable is_of_kind }
-{
-    let end = bytes.iter().position(|byte| !is_of_kind(byte));
-    let split = bytes.split_at_checked(end.unwrap_or(bytes.len()));
-    split.unwrap_or((bytes, &[]))
+fn split_front(bytes: &[u8], kind: Kind) -> (&[u8], &[u8]) {
+    for (index, byte) in bytes.iter().enumerate() {
+        if !is_of_kind(*byte, kind) {
+            return (&bytes[..index], &bytes[index..]);
+        }
+    }
+    (bytes, &[])
 }
 
 /// The number that digits are, and the power of ten with as many zeros, if there are any digits, and not too many.
@@ -111,16 +125,23 @@ fn number(digits: &[u8]) -> Option<(usize, usize)> {
 
 /// The milliseconds of a unit.
 fn milliseconds_of(unit: &[u8]) -> Option<usize> {
-    let mut units = UNITS.iter();
-    let (_, milliseconds) = units.find(|(name, _)| name.as_bytes().eq_ignore_ascii_case(unit))?;
-    Some(*milliseconds)
+    for (name, milliseconds) in UNITS {
+        if name.as_bytes().eq_ignore_ascii_case(unit) {
+            return Some(*milliseconds);
+        }
+    }
+    None
 }
 
 /// The milliseconds of a whole number and a fraction of a unit, if they are whole.
 fn milliseconds(whole: &[u8], fraction: &[u8], unit: &[u8]) -> Option<usize> {
-    let unit = milliseconds_of(unit)?;
-    let (whole, _) = number(whole)?;
-    let (parts, scale) = number(fraction)?;
+    let (Some(unit), Some((whole, _)), Some((parts, scale))) = (
+        milliseconds_of(unit),
+        number(whole),
+        number(fraction),
+    ) else {
+        return None;
+    };
     let parts = parts.saturating_mul(unit);
     let more = parts.checked_div(scale)?;
     if more.saturating_mul(scale) != parts {
@@ -131,19 +152,19 @@ fn milliseconds(whole: &[u8], fraction: &[u8], unit: &[u8]) -> Option<usize> {
 
 /// The time with a fraction with which bytes begin, and its milliseconds, if they are a whole number.
 pub(crate) fn fraction_of(bytes: &[u8]) -> Option<(&[u8], usize)> {
-    let (word, rest) = split_front(bytes, u8::is_ascii_alphabetic);
+    let (word, rest) = split_front(bytes, Kind::Letters);
     if !(word.eq_ignore_ascii_case(b"T") || word.eq_ignore_ascii_case(b"TIME")) {
         return None;
     }
     let [b'#', rest @ ..] = rest else {
         return None;
     };
-    let (whole, rest) = split_front(rest, u8::is_ascii_digit);
+    let (whole, rest) = split_front(rest, Kind::Digits);
     let [b'.', rest @ ..] = rest else {
         return None;
     };
-    let (fraction, rest) = split_front(rest, u8::is_ascii_digit);
-    let (unit, rest) = split_front(rest, u8::is_ascii_alphabetic);
+    let (fraction, rest) = split_front(rest, Kind::Digits);
+    let (unit, rest) = split_front(rest, Kind::Letters);
     let literal = bytes.get(..bytes.len().saturating_sub(rest.len()))?;
     Some((literal, milliseconds(whole, fraction, unit)?))
 }

@@ -1,10 +1,13 @@
 //! The findings of one number.
 
 ghost use Rattle.std.specs.Prelude.{◌≡◌, All, IfOk, false, length, map, nat_lt, take};
+ghost use Rattle.std.specs.List.{AllZip};
 ghost use Rattle.std.specs.Option.{option_to_list};
 ghost use Rattle.fb_read.specs.Whole.{IsLibraryText};
+ghost use Rattle.fb_read_positions.specs.Locations.{IsPlaceFor};
 ghost use Rattle.fb_why.specs.Listings.{locations_of, most_findings};
 ghost use Rattle.fb_why.specs.Places.{IsPlacedFinding};
+ghost use Rattle.fb_why.specs.Positions.{position_of};
 
 use crate::contents::Contents;
 use crate::flaw_messages::flaw_message;
@@ -12,6 +15,7 @@ use crate::place::{PlacedFinding, positions_of};
 use crate::spot::{Finding, Spot};
 use fb_check::Case;
 use fb_read_positions::{BlockTypes, TextLocation, places_of};
+use fb_types::Library;
 use std::alloc::{AllocError, Global};
 
 /// The greatest number of findings that are shown.
@@ -61,6 +65,35 @@ fn findings_at<'a>(
     Ok(all)
 }
 
+/// The places of these locations in the text that declares the library, each at the index of its location.
+fn places_at(
+    alloc: Global,
+    declaration: &[u8],
+    library: &Library,
+    locations: &[Spot],
+) -> Result<Vec<Option<TextLocation>>, AllocError>
+    ensures { IfOk result (λ places. AllZip (IsPlaceFor declaration.now library.now) (map (position_of library.now) locations.now) places.items) }
+{
+    let positions = positions_of(alloc, library, locations)?;
+    places_of(alloc, declaration, library, positions.as_slice())
+}
+
+/// What is wrong at each of these locations of inputs, with its place at the same index.
+fn shown_at(
+    alloc: Global,
+    case: &Case,
+    locations: &[Spot],
+    places: &[Option<TextLocation>],
+) -> Result<Vec<PlacedFinding>, AllocError>
+    requires { length places.now ≡ length locations.now }
+    ensures found { IfOk result (λ all. map (λ r. r.finding.location) all.items ≡ locations.now) }
+    ensures placed { IfOk result (λ all. map (λ r. r.place) all.items ≡ places.now) }
+{
+    let types = BlockTypes::new(alloc, case.library)?;
+    let mut contents = Contents::new(alloc);
+    findings_at(alloc, &types, &mut contents, case, locations, places)
+}
+
 /// The findings at these locations of inputs. The text that declares the library is read again for their places.
 pub(crate) fn listed(
     alloc: Global,
@@ -75,11 +108,8 @@ pub(crate) fn listed(
 {
     let more = locations.len() > MOST_FINDINGS;
     let first = &locations[..locations.len().min(MOST_FINDINGS)];
-    let types = BlockTypes::new(alloc, case.library)?;
-    let positions = positions_of(alloc, case.library, first)?;
-    let places = places_of(alloc, declaration, case.library, positions.as_slice())?;
-    let mut contents = Contents::new(alloc);
-    let shown = findings_at(alloc, &types, &mut contents, case, first, places.as_slice())?;
+    let places = places_at(alloc, declaration, case.library, first)?;
+    let shown = shown_at(alloc, case, first, places.as_slice())?;
     Ok(Findings { shown, more })
 }
 

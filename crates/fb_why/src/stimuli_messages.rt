@@ -69,8 +69,22 @@ fn push_fault(text: &mut Text, row: &ByteRecord, fault: RowFault) {
 /// Adds a word of the last field, by its index among those between spaces, with what is wrong with it.
 fn push_word(text: &mut Text, row: &ByteRecord, word: usize, after: &str) {
     let values = row.get(2).unwrap_or(&[]);
-    let mut words = values.split(|b| *b == b' ').filter(|part| !part.is_empty());
-    push_field(text, "the word ", words.nth(word), after);
+    push_field(text, "the word ", word_at(values, word), after);
+}
+
+/// The word at an index among those between spaces.
+fn word_at(values: &[u8], index: usize) -> Option<&[u8]> {
+    let mut before = index;
+    for part in values.split(|b| *b == b' ') {
+        if part.is_empty() {
+            continue;
+        }
+        if before == 0 {
+            return Some(part);
+        }
+        before -= 1;
+    }
+    None
 }
 
 /// Adds a field, between words.

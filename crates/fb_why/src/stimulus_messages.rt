@@ -1,9 +1,10 @@
 //! The text for a stimulus that does not fit (E29).
 
+use crate::kind_messages::ports_of_instance;
 use fb_check::{StimulusFault, StimulusLocation};
 use fb_check_types::variable_type;
 use fb_read_positions::{BlockTypes, Text};
-use fb_types::{Library, Setting, Stimulus, Ty, instance_named};
+use fb_types::{Library, Name, Setting, Stimulus, Ty, instance_named};
 
 /// Adds what is wrong with the stimulus at this location. Rows are counted from 0 after the heading, as in the keys of
 /// events.
@@ -12,17 +13,16 @@ pub(crate) fn push_stimulus(
     types: &BlockTypes,
     stimuli: &[Stimulus],
     location: StimulusLocation,
-) -> Option<()> {
+) {
     text.numbered("row ", location.row, ": ");
-    let stimulus = stimuli.get(location.row)?;
+    let Some(stimulus) = stimuli.get(location.row) else {
+        return;
+    };
     match location.fault {
         StimulusFault::Event => push_event(text, types.library, stimulus),
-        StimulusFault::Setting(setting) => {
-            push_setting(text, types, stimulus, stimulus.settings.get(setting)?);
-        }
+        StimulusFault::Setting(setting) => push_setting(text, types, stimulus, setting),
         StimulusFault::Twice => push_twice(text, stimulus.settings.as_slice()),
     }
-    Some(())
 }
 
 fn push_event(text: &mut Text, library: &Library, stimulus: &Stimulus) {
@@ -53,8 +53,7 @@ fn is_connected(library: &Library, stimulus: &Stimulus, setting: &Setting) -> bo
 /// The type of the data input that a stimulus sets.
 fn input_type(types: &BlockTypes, stimulus: &Stimulus, setting: &Setting) -> Option<Ty> {
     let instances = types.library.application.network.instances.as_slice();
-    let instance = instance_named(instances, &stimulus.instance)?;
-    let ports = types.ports_named(&instance.block_type)?;
+    let ports = ports_of_instance(types, instances, &stimulus.instance)?;
     variable_type(ports.inputs.as_slice(), &setting.variable)
 }
 
@@ -74,7 +73,10 @@ fn values_of(ty: Ty) -> &'static str {
     }
 }
 
-fn push_setting(text: &mut Text, types: &BlockTypes, stimulus: &Stimulus, setting: &Setting) {
+fn push_setting(text: &mut Text, types: &BlockTypes, stimulus: &Stimulus, index: usize) {
+    let Some(setting) = stimulus.settings.get(index) else {
+        return;
+    };
     text.named("", &setting.variable);
     text.words("=");
     text.value(setting.value);
@@ -94,11 +96,21 @@ fn push_setting(text: &mut Text, types: &BlockTypes, stimulus: &Stimulus, settin
     }
 }
 
+/// Whether one of these settings is of this variable.
+fn sets(settings: &[Setting], variable: &Name) -> bool {
+    for setting in settings {
+        if setting.variable.is(variable) {
+            return true;
+        }
+    }
+    false
+}
+
 /// Adds the first variable that is set twice.
 fn push_twice(text: &mut Text, settings: &[Setting]) {
     for (location, setting) in settings.iter().enumerate() {
         let (earlier, variable) = (&settings[..location], &setting.variable);
-        if earlier.iter().any(|other| other.variable.is(variable)) {
+        if sets(earlier, variable) {
             text.named("", variable);
             text.words(" is set twice");
             return;

@@ -3,13 +3,14 @@
 use crate::contents::{Contents, NameList, Source, SourceText};
 use fb_check_names::{PortKind, Side, UnknownName};
 use fb_check_types::mentions::Mention;
-use fb_read_positions::headings::{basic_at, composite_at};
+use fb_read_positions::headings::basic_at;
 use fb_read_positions::{
     BasicPart, BlockTypes, ConnectionPart, NetworkPart, PortPart, Position, Text, TransitionPart,
     name_at,
 };
 use fb_types::{
-    BasicType, CompositeType, Connection, Instance, Library, Name, Network, Plan, instance_named,
+    BasicType, BlockType, CompositeType, Connection, Instance, Library, Link, Name, Network, Plan,
+    ResourceEntry, instance_named,
 };
 use std::alloc::AllocError;
 
@@ -35,9 +36,12 @@ fn push_end(
     types: &BlockTypes,
     (composite, network): Scope,
     (output, input): (PortKind, PortKind),
-    connection: &Connection,
+    connection: Option<&Connection>,
     part: ConnectionPart,
 ) {
+    let Some(connection) = connection else {
+        return;
+    };
     let (end, inside, boundary) = match part {
         ConnectionPart::From | ConnectionPart::FromPort => (&connection.from, output, input),
         ConnectionPart::To | ConnectionPart::ToPort => (&connection.to, input, output),
@@ -63,27 +67,27 @@ fn push_in_network(
     scope: Scope,
     part: NetworkPart,
     required: &Name,
-) -> Option<()> {
+) {
     let (_, network) = scope;
     match part {
         NetworkPart::Instance(_) => {}
         NetworkPart::InstanceType(_) => text.named(": there is no block type ", required),
         NetworkPart::Parameter(instance, _) => {
-            let instance = network.instances.get(instance)?;
-            push_lack(text, types, instance, (PortKind::Input, required));
+            if let Some(instance) = network.instances.get(instance) {
+                push_lack(text, types, instance, (PortKind::Input, required));
+            }
         }
         NetworkPart::EventConnection(index, part) => {
             let kinds = (PortKind::EventOutput, PortKind::EventInput);
-            let connection = network.event_connections.get(index)?;
+            let connection = network.event_connections.get(index);
             push_end(text, types, scope, kinds, connection, part);
         }
         NetworkPart::DataConnection(index, part) => {
             let kinds = (PortKind::Output, PortKind::Input);
-            let connection = network.data_connections.get(index)?;
+            let connection = network.data_connections.get(index);
             push_end(text, types, scope, kinds, connection, part);
         }
     }
-    Some(())
 }
 
 /// Adds what is unknown in the basic type at this index.
@@ -113,40 +117,56 @@ fn push_in_basic<'a>(
     }
 }
 
+/// Adds what is unknown in the block type, if it is there and has such a part.
+fn push_in_block<'a>(
+    text: &mut Text,
+    types: &BlockTypes<'a>,
+    contents: &mut Contents<'a>,
+    (position, required): (Position, &Name),
+    block: Option<&BlockType>,
+) {
+    match (block, position) {
+        (Some(BlockType::Composite(composite)), Position::InComposite(_, part)) => {
+            let scope = (Some(composite), &composite.network);
+            push_in_network(text, types, scope, part, required);
+        }
+        (Some(block), Position::InPorts(_, PortPart::WithInput(_, _))) => {
+            text.lacks(block.type_name(), PortKind::Input, required, block.ports());
+        }
+        (Some(block), Position::InPorts(_, _)) => {
+            text.lacks(block.type_name(), PortKind::Output, required, block.ports());
+        }
+        (Some(BlockType::Basic(basic)), Position::InBasic(block, part)) => {
+            push_in_basic(text, contents, block, basic, (part, required));
+        }
+        _ => {}
+    }
+}
+
 /// Adds what is unknown at a position at which the library has a name.
 fn push_at<'a>(
     text: &mut Text,
     types: &BlockTypes<'a>,
     contents: &mut Contents<'a>,
     position: Position,
-) -> Option<()> {
+) {
     let library = types.library;
-    let required = name_at(position, library)?;
+    let Some(required) = name_at(position, library) else {
+        return;
+    };
     match position {
         Position::Application | Position::Block(_) => {}
         Position::InApplication(part) => {
             let scope = (None, &library.application.network);
-            push_in_network(text, types, scope, part, required)?;
+            push_in_network(text, types, scope, part, required);
         }
-        Position::InComposite(block, part) => {
-            let composite = composite_at(library, block)?;
-            let scope = (Some(composite), &composite.network);
-            push_in_network(text, types, scope, part, required)?;
-        }
-        Position::InPorts(block, part) => {
-            let block = library.blocks.get(block)?;
-            let port_kind = match part {
-                PortPart::WithInput(_, _) => PortKind::Input,
-                _ => PortKind::Output,
-            };
-            text.lacks(block.type_name(), port_kind, required, block.ports());
-        }
-        Position::InBasic(block, part) => {
-            let basic = basic_at(library, block)?;
-            push_in_basic(text, contents, block, basic, (part, required));
+        Position::InComposite(block, _)
+        | Position::InPorts(block, _)
+        | Position::InBasic(block, _) => {
+            let block = library.blocks.get(block);
+            push_in_block(text, types, contents, (position, required), block);
         }
     }
-    Some(())
 }
 
 /// Adds what a guard or an algorithm names.
@@ -165,30 +185,73 @@ fn push_mention(text: &mut Text, basic: &BasicType, mention: Result<Option<Menti
     }
 }
 
+/// Adds which instance of this resource the application lacks.
+fn push_mapped(text: &mut Text, library: &Library, resource: &ResourceEntry, instance: usize) {
+    text.named("resource ", &resource.name);
+    if let Some(instance) = resource.instances.get(instance) {
+        text.named(": instance ", instance);
+        text.named(": application ", &library.application.name);
+        text.named(" has no instance ", instance);
+    }
+}
+
+/// Adds which resource at an end of this link there is not.
+fn push_link_end(text: &mut Text, link: &Link, side: Side) {
+    text.named("link from ", &link.from);
+    text.named(" to ", &link.to);
+    let required = match side {
+        Side::From => &link.from,
+        Side::To => &link.to,
+    };
+    text.named(": there is no resource ", required);
+}
+
 /// Adds what is unknown in the deployment.
-fn push_in_plan(text: &mut Text, library: &Library, plan: &Plan, name: UnknownName) -> Option<()> {
+fn push_in_plan(text: &mut Text, library: &Library, plan: &Plan, name: UnknownName) {
     match name {
         UnknownName::Mapped { resource, instance } => {
-            let resource = plan.resources.get(resource)?;
-            let instance = resource.instances.get(instance)?;
-            text.named("resource ", &resource.name);
-            text.named(": instance ", instance);
-            text.named(": application ", &library.application.name);
-            text.named(" has no instance ", instance);
+            if let Some(resource) = plan.resources.get(resource) {
+                push_mapped(text, library, resource, instance);
+            }
         }
         UnknownName::LinkEnd { link, side } => {
-            let link = plan.links.get(link)?;
-            text.named("link from ", &link.from);
-            text.named(" to ", &link.to);
-            let required = match side {
-                Side::From => &link.from,
-                Side::To => &link.to,
-            };
-            text.named(": there is no resource ", required);
+            if let Some(link) = plan.links.get(link) {
+                push_link_end(text, link, side);
+            }
         }
         _ => {}
     }
-    Some(())
+}
+
+/// Adds what the guard of a transition names at an index, if it has a guard.
+fn push_in_guard<'a>(
+    text: &mut Text,
+    contents: &mut Contents<'a>,
+    basic: &'a BasicType,
+    (block, transition, at): (usize, usize, usize),
+) {
+    let Some(found) = basic.transitions.get(transition) else {
+        return;
+    };
+    if let Some(guard) = &found.condition.guard {
+        let source = Source::Guard(block, transition);
+        let mention = contents.mention(source, SourceText::Guard(guard), at);
+        push_mention(text, basic, mention);
+    }
+}
+
+/// Adds what an algorithm names at an index.
+fn push_in_body<'a>(
+    text: &mut Text,
+    contents: &mut Contents<'a>,
+    basic: &'a BasicType,
+    (block, algorithm, at): (usize, usize, usize),
+) {
+    if let Some(found) = basic.algorithms.get(algorithm) {
+        let source = Source::Algorithm(block, algorithm);
+        let mention = contents.mention(source, SourceText::Body(&found.body), at);
+        push_mention(text, basic, mention);
+    }
 }
 
 /// Adds what is unknown at a position, or in the deployment, and what was expected there.
@@ -199,26 +262,22 @@ pub(crate) fn push_unknown<'a>(
     plan: &Plan,
     name: UnknownName,
     position: Option<Position>,
-) -> Option<()> {
+) {
     let Some(position) = position else {
-        return push_in_plan(text, types.library, plan, name);
+        push_in_plan(text, types.library, plan, name);
+        return;
     };
     match position {
         Position::InBasic(block, BasicPart::Transition(index, TransitionPart::Mention(at))) => {
-            let basic = basic_at(types.library, block)?;
-            let guard = basic.transitions.get(index)?.condition.guard.as_ref()?;
-            let source = Source::Guard(block, index);
-            let mention = contents.mention(source, SourceText::Guard(guard), at);
-            push_mention(text, basic, mention);
+            if let Some(basic) = basic_at(types.library, block) {
+                push_in_guard(text, contents, basic, (block, index, at));
+            }
         }
         Position::InBasic(block, BasicPart::Mention(algorithm, at)) => {
-            let basic = basic_at(types.library, block)?;
-            let body = &basic.algorithms.get(algorithm)?.body;
-            let source = Source::Algorithm(block, algorithm);
-            let mention = contents.mention(source, SourceText::Body(body), at);
-            push_mention(text, basic, mention);
+            if let Some(basic) = basic_at(types.library, block) {
+                push_in_body(text, contents, basic, (block, algorithm, at));
+            }
         }
-        _ => push_at(text, types, contents, position)?,
+        _ => push_at(text, types, contents, position),
     }
-    Some(())
 }

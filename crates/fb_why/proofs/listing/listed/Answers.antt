@@ -1,16 +1,15 @@
-use Rattle.std.proofs.Common.{◌≡◌, min, length, take, ap, ◌∙◌, arith}
+use Rattle.std.proofs.Common.{◌≡◌, min, length, take, refl, ap, ◌∙◌, arith}
 use Rattle.std.proofs.lemmas.List.{take_min}
 use Rattle.fb_why.proofs.Shown.{all_placed, as_many}
 use Rattle.fb_why.proofs.listing.listed.Goals as goal
 
-pub findings_at-requires : goal.findings_at-requires
-findings_at-requires c =
-    as_many c.args.declaration.now c.args.case.now.library.now _ _ _ _ c.in_ok-places.ensures (c.as_slice.ensures.value ∙ c.in_ok-positions.ensures) c.as_slice-2.ensures.value
+pub shown_at-requires : goal.shown_at-requires
+shown_at-requires c = as_many c.args.declaration.now c.args.case.now.library.now _ _ _ _ c.in_ok-places.ensures refl c.as_slice.ensures.value
 
 pub returns-clause-placed : goal.returns-clause-placed
 returns-clause-placed c =
     all_placed c.args.declaration.now c.args.case.now.library.now _ _ _ _ c.requires c.in_ok-shown.ensures.found
-    (c.in_ok-shown.ensures.placed ∙ c.as_slice-2.ensures.value) (c.as_slice.ensures.value ∙ c.in_ok-positions.ensures) c.in_ok-places.ensures
+    (c.in_ok-shown.ensures.placed ∙ c.as_slice.ensures.value) refl c.in_ok-places.ensures
 
 pub returns-clause-shown : goal.returns-clause-shown
 returns-clause-shown c =
