@@ -251,8 +251,8 @@ fn places_of(
     ensures { IfOk result (λ places. AllZip (IsPlaceFor (option_map (λ b. b.now) deploy.entry) (option_map (λ b. b.now) stimuli.entry)) positions.now places.items) }
 {
     let mut places = Vec::new(alloc);
-    for (position, span) in positions.iter().zip(spans) {
-        places.push(place_of(deploy, stimuli, *position, *span))?;
+    for (index, position) in positions.iter().enumerate() {
+        places.push(place_of(deploy, stimuli, *position, spans[index]))?;
     }
     Ok(places)
 }

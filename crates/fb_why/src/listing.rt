@@ -56,9 +56,9 @@ fn findings_at<'a>(
     ensures placed { IfOk result (λ all. map (λ r. r.place) all.items ≡ places.now) }
 {
     let mut all = Vec::new(alloc);
-    for (location, place) in locations.iter().zip(places) {
+    for (index, location) in locations.iter().enumerate() {
         let text = flaw_message(alloc, types, contents, case, *location)?;
-        let (location, place) = (*location, *place);
+        let (location, place) = (*location, places[index]);
         let finding = Finding { location, text };
         all.push(PlacedFinding { finding, place })?;
     }
