@@ -3,12 +3,23 @@
 use fb_agenda::{Agenda, Least};
 use fb_types::{Event, Key, Target, TimerAsk};
 use std::mem::forget;
+use std::process::Abort;
 
 const TARGET: Target = Target {
     instance: 0,
     event: 0,
     is_output: false,
 };
+
+/// A step with an agenda. Its keys are those of local events, by their ticks and numbers.
+enum Step {
+    Put(u64, u128),
+    PutLocal(u64, u128),
+    /// The least tick that there is.
+    Next(Option<u64>),
+    /// What is taken below a tick, if anything is.
+    Take(u64, Option<(u64, u128)>),
+}
 
 /// The key of the event that is taken, if there is one.
 fn take(agenda: &mut Agenda, horizon: u64) -> Option<Key> {
@@ -19,37 +30,57 @@ fn take(agenda: &mut Agenda, horizon: u64) -> Option<Key> {
     if is_taken { Some(key) } else { None }
 }
 
-/// What is put under a key that has an event takes its index. Nothing is taken at the horizon.
+fn expect_step(rt: &impl Abort, agenda: &mut Agenda, step: &Step) {
+    match step {
+        Step::Put(tick, number) => agenda
+            .put(Key::local(*tick, 0, *number), Event::Local(TARGET))
+            .expect(rt, "memory"),
+        Step::PutLocal(tick, number) => agenda
+            .put_local(*tick, 0, *number, TARGET)
+            .expect(rt, "memory"),
+        Step::Next(tick) => assert!(rt; agenda.next() == *tick),
+        Step::Take(horizon, None) => assert!(rt; take(agenda, *horizon) == None),
+        Step::Take(horizon, Some((tick, number))) => {
+            assert!(rt; take(agenda, *horizon) == Some(Key::local(*tick, 0, *number)))
+        }
+    }
+}
+
+/// What is put under a key that has an event takes its index. Nothing is taken at the horizon. Local events are taken in
+/// the order of their keys, also where one comes out of turn, or twice.
+static STEPS: [Step; 24] = [
+    Step::Put(2, 1),
+    Step::Put(2, 0),
+    Step::Put(2, 1),
+    Step::Take(2, None),
+    Step::Take(3, Some((2, 0))),
+    Step::Take(3, Some((2, 1))),
+    Step::Take(10, None),
+    Step::PutLocal(7, 0),
+    Step::PutLocal(7, 1),
+    Step::PutLocal(9, 0),
+    Step::PutLocal(7, 4),
+    Step::PutLocal(7, 3),
+    Step::PutLocal(7, 4),
+    Step::PutLocal(7, 1),
+    Step::Next(Some(7)),
+    Step::Take(10, Some((7, 0))),
+    Step::Next(Some(7)),
+    Step::Take(10, Some((7, 1))),
+    Step::Take(10, Some((7, 3))),
+    Step::Next(Some(7)),
+    Step::Take(10, Some((7, 4))),
+    Step::Next(Some(9)),
+    Step::Take(10, Some((9, 0))),
+    Step::Next(None),
+];
+
 #[test]
 fn the_least_key_is_taken_once(rt: HostRuntime) {
     let mut agenda = Agenda::new(rt.alloc(), 1).expect(&rt, "memory");
-    for a in [1, 0, 1] {
-        agenda
-            .put(Key::local(2, 0, a), Event::Local(TARGET))
-            .expect(&rt, "memory");
+    for step in &STEPS {
+        expect_step(&rt, &mut agenda, step);
     }
-    assert!(rt; take(&mut agenda, 2) == None);
-    assert!(rt; take(&mut agenda, 3) == Some(Key::local(2, 0, 0)));
-    assert!(rt; take(&mut agenda, 3) == Some(Key::local(2, 0, 1)));
-    assert!(rt; take(&mut agenda, 10) == None);
-    forget(agenda);
-}
-
-/// Local events are taken in the order of their keys, also where one comes out of turn, or twice.
-#[test]
-fn local_events_out_of_turn(rt: HostRuntime) {
-    let mut agenda = Agenda::new(rt.alloc(), 1).expect(&rt, "memory");
-    for (tick, number) in [(7, 0), (7, 1), (9, 0), (7, 4), (7, 3), (7, 4), (7, 1)] {
-        agenda
-            .put_local(tick, 0, number, TARGET)
-            .expect(&rt, "memory");
-    }
-    for number in [0, 1, 3, 4] {
-        assert!(rt; agenda.next() == Some(7));
-        assert!(rt; take(&mut agenda, 10) == Some(Key::local(7, 0, number)));
-    }
-    assert!(rt; take(&mut agenda, 10) == Some(Key::local(9, 0, 0)));
-    assert!(rt; agenda.next() == None);
     forget(agenda);
 }
 

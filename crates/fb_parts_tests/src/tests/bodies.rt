@@ -24,7 +24,7 @@ static BODIES: &str = "FUNCTION_BLOCK F VAR X : INT; END_VAR EC_STATES S; END_ST
     ALGORITHM A9 IN ST: EXIT; END_ALGORITHM\n\
     ALGORITHM A10 IN ST: WHILE TRUE DO REPEAT RETURN; X := 9; UNTIL TRUE END_REPEAT; X := 9; END_WHILE; X := 9; END_ALGORITHM\n\
     ALGORITHM A11 IN ST: WHILE X < 3 DO X := X + 1; END_WHILE; END_ALGORITHM\n\
-    ALGORITHM A12 IN ST: WHILE TRUE DO Y := 1; END_WHILE; END_ALGORITHM\n\
+    ALGORITHM A12 IN ST: WHILE TRUE DO Z := 1; END_WHILE; END_ALGORITHM\n\
     END_FUNCTION_BLOCK APPLICATION A FBS END_FBS END_APPLICATION";
 
 /// The steps that are left, the answer, the steps that are left then, and what X holds.
@@ -56,21 +56,8 @@ fn add(rt: &impl Abort, slots: &mut SlotList, name: Name, ty: Ty, value: Value)
     slots.push(Slot::new(name, ty, value)).expect(rt, "memory");
 }
 
-/// A frame with X : INT, which is 0.
-fn frame(rt: &impl Abort, alloc: Global) -> Frame {
-    let mut slots = SlotList::new(alloc);
-    add(
-        rt,
-        &mut slots,
-        named(rt, alloc, "X"),
-        Ty::Int,
-        Value::Whole(0),
-    );
-    Frame::of(slots)
-}
-
 /// A frame with X : INT, which is 0, and Y : UINT, which is 7.
-fn frame_of_two(rt: &impl Abort, alloc: Global) -> Frame {
+fn frame(rt: &impl Abort, alloc: Global) -> Frame {
     let (x, y) = (named(rt, alloc, "X"), named(rt, alloc, "Y"));
     assert!(rt; !y.is(&x));
     let mut slots = SlotList::new(alloc);
@@ -93,45 +80,41 @@ fn expect_row(rt: &impl Abort, alloc: Global, algorithm: &Algorithm, row: &Row) 
     forget(variable);
 }
 
-/// The algorithms go as the rows say, in their order. The last one is after the rows.
-fn expect_rows(rt: &impl Abort, alloc: Global, algorithms: &[Algorithm]) {
-    assert!(rt; algorithms.len() == 13);
-    for (algorithm, row) in algorithms.iter().zip(ROWS.iter()) {
-        expect_row(rt, alloc, algorithm, row);
-    }
-    let frame = frame(rt, alloc);
-    assert!(rt; !knows(&algorithms[12].body, &frame));
-    forget(frame);
-}
-
 #[test]
 fn bodies_leave_what_they_did_before_a_stop(rt: HostRuntime) {
-    let Ok(library) = read_library(rt.alloc(), BODIES.as_bytes()) else {
-        panic!(rt; "no library");
+    let library = read_library(rt.alloc(), BODIES.as_bytes()).expect(&rt, "no library");
+    let [BlockType::Basic(block)] = library.blocks.as_slice() else {
+        panic!(rt; "a basic type");
     };
-    match library.blocks.as_slice() {
-        [BlockType::Basic(block)] => expect_rows(&rt, rt.alloc(), block.algorithms.as_slice()),
-        _ => panic!(rt; "a basic type"),
+    let algorithms = block.algorithms.as_slice();
+    assert!(rt; algorithms.len() == 13);
+    let frame = frame(&rt, rt.alloc());
+    assert!(rt; !knows(&algorithms[12].body, &frame));
+    forget(frame);
+    for (algorithm, row) in algorithms.iter().zip(ROWS.iter()) {
+        expect_row(&rt, rt.alloc(), algorithm, row);
     }
     forget(library);
 }
 
-/// Wherever a reference expects its variable, the name alone decides.
+/// Indexes at which a reference expects its variable. The name alone decides which one it is.
+static INDEXES: [usize; 3] = [0, 1, 9];
+
 #[test]
 fn the_name_decides_which_variable_is_meant(rt: HostRuntime) {
     let alloc = rt.alloc();
+    let frame = frame(&rt, alloc);
     let (x, y) = (named(&rt, alloc, "X"), named(&rt, alloc, "Y"));
-    let one = frame(&rt, alloc);
-    assert!(rt; one.has(&x) && !one.has(&y));
-    let two = frame_of_two(&rt, alloc);
-    assert!(rt; two.has(&x) && two.has(&y));
+    let other = named(&rt, alloc, "Z");
+    assert!(rt; frame.has(&x) && frame.has(&y) && !frame.has(&other));
+    forget(other);
     let (x, y) = (Reference::new(x), Reference::new(y));
-    assert!(rt; two.value(&x) == Value::Whole(0));
-    for index in [0, 1, 9] {
-        y.expect_at(index);
-        assert!(rt; two.value(&y) == Value::Whole(7));
+    assert!(rt; frame.value(&x) == Value::Whole(0));
+    for index in &INDEXES {
+        y.expect_at(*index);
+        assert!(rt; frame.value(&y) == Value::Whole(7));
     }
-    forget((one, two));
+    forget(frame);
     forget(x);
     forget(y);
 }

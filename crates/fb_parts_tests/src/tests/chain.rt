@@ -6,11 +6,11 @@ ghost use Rattle.fb_types.specs.declared.key.Key.{Key};
 ghost use Rattle.fb_types.specs.OfSystem.{IsResource};
 ghost use Rattle.fb_laws.specs.OfSystem.{AreTyped};
 ghost use Rattle.fb_agenda.specs.Agendas.{waiting};
-ghost use Rattle.fb_system.specs.OfSystem.{BelongsTo};
 ghost use Rattle.fb_net.specs.Worlds.{IsForest};
 ghost use Rattle.fb_resource.specs.Posts.{IsMessage};
 ghost use Rattle.fb_resource.specs.Resources.{IsFor, IsOf};
 
+use super::belonging::all_belong;
 use super::narrow::{ALL_AT_ONCE, Narrow};
 use fb_check::accept;
 use fb_inputs::{read_deploy, read_stimuli};
@@ -19,7 +19,7 @@ use fb_net::Tree;
 use fb_read::read_library;
 use fb_resource::{Resource, WindowDone};
 use fb_system::System;
-use fb_trace::write_lines;
+use fb_trace::{Mark, marked_text, write_lines};
 use fb_types::{Deploy, Form, Line, Message, StopMark};
 use std::alloc::Global;
 use std::mem::forget;
@@ -27,19 +27,6 @@ use std::process::Abort;
 
 /// More steps than any tick of these runs needs that does not stop.
 pub const ENOUGH: u64 = 1_000_000;
-
-fn deploy_of(rt: &impl Abort, alloc: Global, text: &str) -> Deploy {
-    if text.is_empty() {
-        let Ok(single) = Deploy::single(alloc) else {
-            panic!(rt; "memory");
-        };
-        return single;
-    }
-    let Ok(deploy) = read_deploy(alloc, text.as_bytes()) else {
-        panic!(rt; "no deployment");
-    };
-    deploy
-}
 
 /// The system of a declaration, a deployment and stimuli that are accepted together. An empty text represents no
 /// deployment.
@@ -50,17 +37,14 @@ pub fn accepted(
     deploy: &str,
     stimuli: &str,
 ) -> System {
-    let Ok(library) = read_library(alloc, declaration.as_bytes()) else {
-        panic!(rt; "no library");
+    let library = read_library(alloc, declaration.as_bytes()).expect(rt, "no library");
+    let deploy = if deploy.is_empty() {
+        Deploy::single(alloc).expect(rt, "memory")
+    } else {
+        read_deploy(alloc, deploy.as_bytes()).expect(rt, "no deployment")
     };
-    let deploy = deploy_of(rt, alloc, deploy);
-    let Ok(stimuli) = read_stimuli(alloc, stimuli.as_bytes()) else {
-        panic!(rt; "no stimuli");
-    };
-    let Ok(system) = accept(alloc, library, deploy, stimuli) else {
-        panic!(rt; "no system");
-    };
-    system
+    let stimuli = read_stimuli(alloc, stimuli.as_bytes()).expect(rt, "no stimuli");
+    accept(alloc, library, deploy, stimuli).expect(rt, "no system")
 }
 
 /// The resource of a number as it is before the first event. No message waits at it.
@@ -102,7 +86,8 @@ pub struct Ran {
     pub next: Option<u64>,
 }
 
-/// Runs a resource, which has not stopped, below a tick that is not before its clock.
+/// Runs a resource, which has not stopped, below a tick that is not before its clock. Its lines go where those of another
+/// run were, which are dropped.
 pub fn run(
     rt: &impl Abort,
     resource: Resource,
@@ -110,14 +95,14 @@ pub fn run(
     system: &System,
     to: u64,
     steps: u64,
+    spent: Vec<Line>,
 ) -> Ran
     requires { IsOf system.now resource }
-    ensures lines { All (BelongsTo system.now) result.lines.items }
-    ensures sent { All (IsMessage system.now) result.sent.items }
+    ensures { All (IsMessage system.now) result.sent.items }
 {
     assert!(rt; resource.stopped().is_none() && to >= resource.clock());
     assert!(rt; to <= 1_000_000_000_000 && steps <= 10_000_000);
-    match resource.run_to(alloc, system, to, steps) {
+    match resource.run_over(alloc, system, to, steps, spent) {
         WindowDone::Ran {
             resource,
             lines,
@@ -138,7 +123,11 @@ pub fn run(
     }
 }
 
-/// The lines of a system have that text in this form, whether a writer takes one byte a call, some, or all.
+/// How many bytes a writer takes at a call.
+static TAKEN: [usize; 4] = [1, 2, 3, ALL_AT_ONCE];
+
+/// The lines belong to the system and have that text, whether a writer takes one byte a call, some, or all. Each tick ends
+/// at its mark.
 pub fn expect_text(
     rt: &impl Abort,
     alloc: Global,
@@ -146,25 +135,33 @@ pub fn expect_text(
     form: Form,
     lines: &[Line],
     text: &[u8],
-)
-    requires { All (BelongsTo system.now) lines.now }
-{
-    for step in [1, 2, 3, ALL_AT_ONCE] {
-        let mut out = Narrow::new(alloc, step);
+    marks: &[(u64, usize)],
+) {
+    assert!(rt; all_belong(system, lines));
+    for step in &TAKEN {
+        let mut out = Narrow::new(alloc, *step);
         write_lines(&mut out, system, form, lines).expect(rt, "written");
         assert!(rt; out.got.as_slice() == text);
     }
+    let marked = marked_text(alloc, system, form, lines).expect(rt, "memory");
+    assert!(rt; marked.text.as_slice() == text && marked.lines == lines.len());
+    expect_marks(rt, &marked.marks, marks);
 }
 
-/// Messages in their order, or in the other.
-pub fn turned(system: &System, mut sent: Vec<Message>, is_turned: bool) -> Vec<Message>
+/// Marks, each with its tick and where that ends.
+fn expect_marks(rt: &impl Abort, found: &[Mark], marks: &[(u64, usize)]) {
+    assert!(rt; found.len() == marks.len());
+    for (mark, (tick, end)) in found.iter().zip(marks) {
+        assert!(rt; mark.tick == *tick && mark.end == *end);
+    }
+}
+
+/// The same messages, the last one first.
+pub fn turned(system: &System, mut sent: Vec<Message>) -> Vec<Message>
     requires { All (IsMessage system.now) sent.items }
     ensures { All (IsMessage system.now) result.items }
 {
     let _system = system;
-    if !is_turned {
-        return sent;
-    }
     sent.reverse();
     sent
 }

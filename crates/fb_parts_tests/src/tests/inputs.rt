@@ -2,9 +2,8 @@
 //! type holds.
 
 use fb_inputs::{read_deploy, read_stimuli};
-use fb_types::{Deploy, Name, Plan, Setting, Value};
+use fb_types::{Deploy, Name, Value};
 use std::mem::forget;
-use std::process::Abort;
 
 const DEPLOYMENT: &[u8] =
     b"[[resource]]\ndevice = \"D1\"\nname = \"r1\"\ninstances = [\"S\", \"s_2\"]\n\
@@ -16,7 +15,10 @@ fn is(name: &Name, text: &[u8]) -> bool {
     name.as_bytes() == text
 }
 
-fn expect_plan(rt: &impl Abort, plan: &Plan) {
+#[test]
+fn a_deployment_has_its_names(rt: HostRuntime) {
+    let deploy = read_deploy(rt.alloc(), DEPLOYMENT).expect(&rt, "no deployment");
+    let plan = deploy.plan();
     let ([first, second], [there, on]) = (plan.resources.as_slice(), plan.links.as_slice()) else {
         panic!(rt; "two resources and two links");
     };
@@ -36,31 +38,18 @@ fn expect_plan(rt: &impl Abort, plan: &Plan) {
     };
     assert!(rt; two.from == 0 && two.latency == 2);
     assert!(rt; five.from == 0 && five.latency == 5 && one.from == 10 && one.latency == 1);
-}
-
-#[test]
-fn a_deployment_has_its_names(rt: HostRuntime) {
-    let Ok(deploy) = read_deploy(rt.alloc(), DEPLOYMENT) else {
-        panic!(rt; "no deployment");
-    };
-    expect_plan(&rt, deploy.plan());
     forget(deploy);
 }
 
-fn expect_single(rt: &impl Abort, plan: &Plan) {
+#[test]
+fn a_single_resource_holds_all(rt: HostRuntime) {
+    let deploy = Deploy::single(rt.alloc()).expect(&rt, "memory");
+    let plan = deploy.plan();
     let [single] = plan.resources.as_slice() else {
         panic!(rt; "one resource");
     };
     assert!(rt; plan.holds_all && plan.links.is_empty() && single.instances.is_empty());
     assert!(rt; is(&single.device, b"DEV") && is(&single.name, b"MAIN"));
-}
-
-#[test]
-fn a_single_resource_holds_all(rt: HostRuntime) {
-    let Ok(deploy) = Deploy::single(rt.alloc()) else {
-        panic!(rt; "memory");
-    };
-    expect_single(&rt, deploy.plan());
     forget(deploy);
 }
 
@@ -84,25 +73,19 @@ static VALUES: [Value; 12] = [
     Value::Whole(i128::MIN),
 ];
 
-/// The variables are called by the letters from A on, and have these values.
-fn expect_settings(rt: &impl Abort, settings: &[Setting]) {
-    assert!(rt; settings.len() == VALUES.len());
-    let mut letter = b'A';
-    for (setting, value) in settings.iter().zip(VALUES.iter()) {
-        assert!(rt; is(&setting.variable, &[letter]) && setting.value == *value);
-        letter = letter.wrapping_add(1);
-    }
-}
-
+/// The variables are called by the letters from A on.
 #[test]
 fn a_row_has_its_values(rt: HostRuntime) {
-    let Ok(stimuli) = read_stimuli(rt.alloc(), STIMULI) else {
-        panic!(rt; "no stimuli");
-    };
+    let stimuli = read_stimuli(rt.alloc(), STIMULI).expect(&rt, "no stimuli");
     let [row] = stimuli.as_slice() else {
         panic!(rt; "one row");
     };
     assert!(rt; row.tick == 0 && is(&row.instance, b"D") && is(&row.event, b"START"));
-    expect_settings(&rt, row.settings.as_slice());
+    assert!(rt; row.settings.len() == VALUES.len());
+    let mut letter = b'A';
+    for (setting, value) in row.settings.as_slice().iter().zip(VALUES.iter()) {
+        assert!(rt; is(&setting.variable, &[letter]) && setting.value == *value);
+        letter = letter.wrapping_add(1);
+    }
     forget(stimuli);
 }

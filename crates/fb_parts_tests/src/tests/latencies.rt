@@ -1,14 +1,10 @@
 //! A table of latencies, by which a message overtakes another: when messages arrive, and the least ticks at which one
 //! can arrive that is sent from a tick on. All were worked out by hand.
 
-ghost use Rattle.std.specs.Prelude.{◌<◌, ◌≤◌, ◌^◌};
-
-use crate::tests::chain::accepted;
+use super::chain::accepted;
 use fb_link::{arrival, earliest};
-use fb_system::System;
 use fb_types::{Entry, Items, Latency};
 use std::mem::forget;
-use std::process::Abort;
 
 /// A merge whose output goes to another one over the one link.
 const DECLARATION: &str = "APPLICATION A FBS A : E_MERGE; M : E_MERGE; END_FBS\n\
@@ -20,13 +16,6 @@ const FALLING_LINK: &str = "resource = [\n\
     { device = 'D', name = 'R2', instances = ['M'] },\n\
     ]\n\
     link = [{ from = 'R1', to = 'R2', latencies = [[0, 5], [10, 1]] }]\n";
-
-/// What is sent takes 2 ticks.
-const STEADY_LINK: &str = "resource = [\n\
-    { device = 'D', name = 'R1', instances = ['A'] },\n\
-    { device = 'D', name = 'R2', instances = ['M'] },\n\
-    ]\n\
-    link = [{ from = 'R1', to = 'R2', latency = 2 }]\n";
 
 const NO_STIMULI: &str = "tick,event,values\n";
 
@@ -42,20 +31,18 @@ static FALLING: [Entry; 2] = [
     },
 ];
 
-/// What is sent over the first link at a tick arrives at another.
-fn expect_arrival(rt: &impl Abort, system: &System, sent_tick: u64, arrives: u64)
-    requires { sent_tick ≤ 10 ^ 12 }
-{
-    assert!(rt; system.links() > 0);
-    assert!(rt; arrival(system, 0, sent_tick) == arrives);
-}
+/// Ticks at which messages are sent over the falling link, and those at which they arrive.
+static ARRIVALS: [(u64, u64); 3] = [(8, 13), (10, 11), (12, 13)];
+
+const LATEST: u64 = 1_000_000_000_000;
 
 #[test]
 fn a_message_overtakes_another(rt: HostRuntime) {
     let system = accepted(&rt, rt.alloc(), DECLARATION, FALLING_LINK, NO_STIMULI);
-    expect_arrival(&rt, &system, 8, 13);
-    expect_arrival(&rt, &system, 10, 11);
-    expect_arrival(&rt, &system, 12, 13);
+    for (sent_tick, arrives) in &ARRIVALS {
+        assert!(rt; system.links() > 0 && *sent_tick <= LATEST);
+        assert!(rt; arrival(&system, 0, *sent_tick) == *arrives);
+    }
     drop(system);
 }
 
@@ -69,16 +56,9 @@ fn the_earliest_arrival_may_be_that_of_a_later_message(rt: HostRuntime) {
     // What is sent at 7 arrives at 12, after what is sent at 10.
     assert!(rt; earliest(&latency, 7) == 11 && earliest(&latency, 10) == 11);
     forget(latency);
-}
-
-#[test]
-fn one_latency_at_every_tick(rt: HostRuntime) {
-    let system = accepted(&rt, rt.alloc(), DECLARATION, STEADY_LINK, NO_STIMULI);
-    expect_arrival(&rt, &system, 3, 5);
-    drop(system);
-    let Ok(latency) = Latency::constant(rt.alloc(), 2) else {
+    let Ok(steady) = Latency::constant(rt.alloc(), 2) else {
         panic!(rt; "memory");
     };
-    assert!(rt; earliest(&latency, 3) == 5);
-    forget(latency);
+    assert!(rt; earliest(&steady, 3) == 5);
+    forget(steady);
 }

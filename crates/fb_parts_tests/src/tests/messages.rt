@@ -1,29 +1,27 @@
 //! Messages that one resource sends and another takes.
 
 use super::chain::{ENOUGH, accepted, deliver_first, expect_text, handed, opened, run, turned};
-use fb_system::System;
 use fb_types::{Form, Reason, StopMark};
 use std::alloc::Global;
 use std::mem::forget;
 use std::process::Abort;
 
-/// Two resources of which the first sends to the second.
-#[derive(Clone, Copy)]
+/// Two resources of which the first sends to the second. The messages are handed over in the other order than that in
+/// which they were sent.
 struct Talk {
     declaration: &'static str,
     deploy: &'static str,
     /// The first runs below this tick, and then the second below another.
     sent_below: u64,
     taken_below: u64,
-    /// Whether the messages are handed over in the other order.
-    turned: bool,
     stimuli: &'static str,
     /// The least tick of the events of the second before it gets the messages, and with them. After its run there is
     /// none.
     alone: Option<u64>,
     with_messages: Option<u64>,
-    /// The lines of the second.
+    /// The lines of the second, and where each of their ticks ends.
     trace: &'static str,
+    marks: &'static [(u64, usize)],
 }
 
 /// A text, and another one sixty times after it.
@@ -53,16 +51,16 @@ static LATCH: Talk = Talk {
         link = [{ from = 'R1', to = 'R2', latency = 2 }]\n",
     sent_below: 5,
     taken_below: 6,
-    turned: false,
     stimuli: "tick,event,values\n3,F.S,\n5,W.EI,\n",
     alone: Some(5),
     with_messages: Some(5),
     // The stimulus of the tick of the arrival is taken first, and sees the value that was held before.
     trace: "5 R2 > W.EI G=FALSE\n5 R2 < W.EO0\n5 R2 > W.EI G=TRUE\n5 R2 < W.EO1\n",
+    marks: &[(5, 65)],
 };
 
 /// A split whose second output is first among the connections.
-const SPLIT: Talk = Talk {
+static SPLIT: Talk = Talk {
     declaration: "APPLICATION A FBS P : E_SPLIT; M : E_MERGE; END_FBS\n\
         EVENT_CONNECTIONS P.EO2 TO M.EI2; P.EO1 TO M.EI1; END_CONNECTIONS END_APPLICATION",
     deploy: "resource = [\n\
@@ -72,16 +70,11 @@ const SPLIT: Talk = Talk {
         link = [{ from = 'R1', to = 'R2', latency = 1 }]\n",
     sent_below: 1,
     taken_below: 2,
-    turned: false,
     stimuli: "tick,event,values\n0,P.EI,\n",
     alone: None,
     with_messages: Some(1),
     trace: "1 R2 > M.EI1\n1 R2 < M.EO\n1 R2 > M.EI2\n1 R2 < M.EO\n",
-};
-
-static OTHER: Talk = Talk {
-    turned: true,
-    ..SPLIT
+    marks: &[(1, 50)],
 };
 
 /// A merge passes each of sixty events on: this many messages need several indexes to be.
@@ -96,46 +89,55 @@ static PASS: Talk = Talk {
     stimuli: sixty!("tick,event,values\n", "0,A.EI1,\n"),
     sent_below: 1,
     taken_below: 2,
-    turned: false,
     alone: None,
     with_messages: Some(1),
     trace: sixty!("", "1 R2 > M.EI1\n1 R2 < M.EO\n"),
+    marks: &[(1, 1500)],
 };
 
-/// What the first resource sends to the second one.
-fn expect_received(rt: &impl Abort, alloc: Global, system: &System, talk: &Talk) {
+/// What the first resource sends to the second one, whose lines go where those of the first were.
+fn expect_received(rt: &impl Abort, alloc: Global, talk: &Talk) {
+    let owned = accepted(rt, alloc, talk.declaration, talk.deploy, talk.stimuli);
+    let system = &owned;
     let sender = opened(rt, alloc, system, 0);
-    let sender = run(rt, sender, alloc, system, talk.sent_below, ENOUGH);
-    let sent = turned(system, sender.sent, talk.turned);
-    let inbox = handed(rt, alloc, system, sent);
+    let first = run(
+        rt,
+        sender,
+        alloc,
+        system,
+        talk.sent_below,
+        ENOUGH,
+        Vec::new(alloc),
+    );
+    assert!(rt; first.stop.is_none() && !first.lines.is_empty());
+    let inbox = handed(rt, alloc, system, turned(system, first.sent));
     let receiver = opened(rt, alloc, system, 1);
     assert!(rt; receiver.next() == talk.alone);
     let receiver = deliver_first(rt, receiver, 1, system, inbox);
     assert!(rt; receiver.next() == talk.with_messages);
-    let ran = run(rt, receiver, alloc, system, talk.taken_below, ENOUGH);
-    assert!(rt; sender.stop.is_none() && ran.stop.is_none());
-    assert!(rt; ran.sent.is_empty() && ran.next.is_none());
-    expect_text(
+    let ran = run(
         rt,
+        receiver,
         alloc,
         system,
-        Form::One,
-        ran.lines.as_slice(),
-        talk.trace.as_bytes(),
+        talk.taken_below,
+        ENOUGH,
+        first.lines,
     );
-    forget(sender.lines);
+    assert!(rt; ran.stop.is_none() && ran.sent.is_empty() && ran.next.is_none());
+    let (lines, text) = (ran.lines.as_slice(), talk.trace.as_bytes());
+    expect_text(rt, alloc, system, Form::One, lines, text, talk.marks);
     forget(ran);
+    drop(owned);
 }
 
 /// Where one request for memory is refused to a resource that takes messages, it takes them at a second try. Any other
 /// that is refused ends the test. `tools/refuse.py` runs this with each request refused in turn.
 #[test]
 fn messages_come_after_out_of_memory(rt: HostRuntime) {
-    for talk in [&LATCH, &SPLIT, &OTHER, &PASS] {
-        let system = accepted(&rt, rt.alloc(), talk.declaration, talk.deploy, talk.stimuli);
-        expect_received(&rt, rt.alloc(), &system, talk);
-        drop(system);
-    }
+    expect_received(&rt, rt.alloc(), &LATCH);
+    expect_received(&rt, rt.alloc(), &SPLIT);
+    expect_received(&rt, rt.alloc(), &PASS);
 }
 
 /// A resource that runs without end once it has begun: a looper, whose third, fifth, seventh and ninth steps emit.
@@ -162,26 +164,25 @@ static STOP: StopMark = StopMark {
     reason: Reason::Steps,
 };
 
-/// The second of three resources by itself, below tick 9 with ten steps a tick.
-fn expect_stop(rt: &impl Abort, alloc: Global, system: &System) {
-    let looper = opened(rt, alloc, system, 1);
-    let ran = run(rt, looper, alloc, system, 9, 10);
-    assert!(rt; ran.stop == Some(STOP) && ran.sent.is_empty());
-    expect_text(
-        rt,
-        alloc,
-        system,
-        Form::One,
-        ran.lines.as_slice(),
-        LOOPER_LINES,
-    );
-    forget(ran);
-}
-
+/// The second of three resources, below tick 9 with ten steps a tick.
 #[test]
 fn a_resource_stops_by_itself(rt: HostRuntime) {
+    let alloc = rt.alloc();
     let stimuli = "tick,event,values\n7,C.EI1,\n7,L.GO,\n7,A.EI1,\n";
-    let system = accepted(&rt, rt.alloc(), LOOPER, IN_THREE, stimuli);
-    expect_stop(&rt, rt.alloc(), &system);
+    let system = accepted(&rt, alloc, LOOPER, IN_THREE, stimuli);
+    let looper = opened(&rt, alloc, &system, 1);
+    let ran = run(&rt, looper, alloc, &system, 9, 10, Vec::new(alloc));
+    assert!(rt; ran.stop == Some(STOP) && ran.sent.is_empty());
+    let lines = ran.lines.as_slice();
+    expect_text(
+        &rt,
+        alloc,
+        &system,
+        Form::One,
+        lines,
+        LOOPER_LINES,
+        &[(7, 76)],
+    );
+    forget(ran);
     drop(system);
 }

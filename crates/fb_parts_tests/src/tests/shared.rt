@@ -6,19 +6,14 @@ use std::cmp::Ordering;
 use std::mem::ManuallyDrop;
 use std::process::Abort;
 
-/// The numbers are added to an empty list.
-fn expect_added(rt: &impl Abort, list: &mut Items<u32>) {
-    assert!(rt; list.is_empty() && list.get(0).is_none());
-    list.push(7).expect(rt, "memory");
-    list.push(5).expect(rt, "memory");
-    assert!(rt; !list.is_empty() && list.len() == 2);
-    assert!(rt; list.get(1).is_some_and(|number| *number == 5) && list.get(2).is_none());
-}
-
 #[test]
 fn a_list_keeps_its_elements_in_order(rt: HostRuntime) {
     let mut list = Items::new(rt.alloc());
-    expect_added(&rt, &mut list);
+    assert!(rt; list.is_empty() && list.get(0).is_none());
+    list.push(7u32).expect(&rt, "memory");
+    list.push(5).expect(&rt, "memory");
+    assert!(rt; !list.is_empty() && list.len() == 2);
+    assert!(rt; list.get(1).copied() == Some(5) && list.get(2).is_none());
     let mut all = list.into_vec();
     all.push(3).expect(&rt, "memory");
     let list = ManuallyDrop::new(Items::from_vec(all));
@@ -49,19 +44,14 @@ fn a_name_is_its_bytes(rt: HostRuntime) {
 }
 
 #[test]
-fn a_reference_keeps_its_name_at_each_index(rt: HostRuntime) {
+fn a_reference_and_a_box_keep_what_they_are_made_of(rt: HostRuntime) {
     let named = Name::from_text(rt.alloc(), "X").expect(&rt, "memory");
     let far = ManuallyDrop::new(Reference::new(named));
     far.expect_at(1);
     far.expect_at(40);
     assert!(rt; far.index() == 40);
     assert!(rt; far.name().as_bytes() == b"X".as_slice());
-}
-
-#[test]
-fn a_box_keeps_its_value(rt: HostRuntime) {
-    let boxed = Boxed::new(rt.alloc(), 41u64).expect(&rt, "memory");
-    let boxed = ManuallyDrop::new(boxed);
+    let boxed = ManuallyDrop::new(Boxed::new(rt.alloc(), 41u64).expect(&rt, "memory"));
     assert!(rt; *boxed.get() == 41);
 }
 

@@ -125,43 +125,41 @@ static FAR: Network = (
     ],
 );
 
-fn wiring_of(
-    rt: &impl Abort,
-    alloc: Global,
-    events: &[NumberedConnection],
-    data: &[NumberedConnection],
-) -> Wiring {
+fn expect_network(rt: &impl Abort, alloc: Global, network: &Network) {
+    let (events, data, targets, sources) = *network;
     let numbers = NetworkNumbers {
         types: Items::new(alloc),
         parameters: Items::new(alloc),
         event_wires: Items::from_slice(alloc, events).expect(rt, "memory"),
         data_wires: Items::from_slice(alloc, data).expect(rt, "memory"),
     };
-    Wiring::of(alloc, numbers).expect(rt, "memory")
+    let wiring = Wiring::of(alloc, numbers).expect(rt, "memory");
+    expect_ends(rt, &wiring, targets, sources);
+    assert!(rt; wiring.numbers().data_wires.len() == data.len());
+    forget(wiring);
 }
 
-fn expect_end(rt: &impl Abort, found: &ConnectionEnd, expected: &ConnectionEnd) {
-    assert!(rt; found.component == expected.component && found.port == expected.port);
-}
-
-fn expect_network(rt: &impl Abort, alloc: Global, network: &Network) {
-    let (events, data, targets, sources) = *network;
-    let wiring = wiring_of(rt, alloc, events, data);
+fn expect_ends(
+    rt: &impl Abort,
+    wiring: &Wiring,
+    targets: &[(ConnectionEnd, &[ConnectionEnd])],
+    sources: &[(ConnectionEnd, Option<ConnectionEnd>)],
+) {
     for (end, expected) in targets {
         let found = wiring.targets(*end);
         assert!(rt; found.len() == expected.len());
         for (found, expected) in found.iter().zip(*expected) {
-            expect_end(rt, found, expected);
+            assert!(rt; found.component == expected.component && found.port == expected.port);
         }
     }
     for (end, expected) in sources {
         match (wiring.source(*end), *expected) {
-            (Some(found), Some(expected)) => expect_end(rt, &found, &expected),
+            (Some(found), Some(expected)) => {
+                assert!(rt; found.component == expected.component && found.port == expected.port)
+            }
             (found, expected) => assert!(rt; found.is_none() && expected.is_none()),
         }
     }
-    assert!(rt; wiring.numbers().data_wires.len() == data.len());
-    forget(wiring);
 }
 
 /// The ports below the far one have no ends, of either kind of connections.
