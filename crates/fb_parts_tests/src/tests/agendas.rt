@@ -46,8 +46,8 @@ fn expect_step(rt: &impl Abort, agenda: &mut Agenda, step: &Step) {
     }
 }
 
-/// What is put under a key that has an event takes its index. Nothing is taken at the horizon. Local events are taken in
-/// the order of their keys, also where one comes out of turn, or twice.
+/// What is put under a key that has an event takes its index. Nothing is taken at the horizon. Local events are taken
+/// in the order of their keys, also where one comes out of turn, or twice.
 static STEPS: [Step; 24] = [
     Step::Put(2, 1),
     Step::Put(2, 0),

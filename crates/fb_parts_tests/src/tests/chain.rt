@@ -86,8 +86,8 @@ pub struct Ran {
     pub next: Option<u64>,
 }
 
-/// Runs a resource, which has not stopped, below a tick that is not before its clock. Its lines go where those of another
-/// run were, which are dropped.
+/// Runs a resource, which has not stopped, below a tick that is not before its clock. Its lines go where those of
+/// another run were, which are dropped.
 pub fn run(
     rt: &impl Abort,
     resource: Resource,
@@ -126,8 +126,8 @@ pub fn run(
 /// How many bytes a writer takes at a call.
 static TAKEN: [usize; 4] = [1, 2, 3, ALL_AT_ONCE];
 
-/// The lines belong to the system and have that text, whether a writer takes one byte a call, some, or all. Each tick ends
-/// at its mark.
+/// The lines belong to the system and have that text, whether a writer takes one byte a call, some, or all. Each tick
+/// ends at its mark.
 pub fn expect_text(
     rt: &impl Abort,
     alloc: Global,

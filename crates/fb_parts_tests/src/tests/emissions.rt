@@ -1,5 +1,5 @@
-//! An emission that is alone in its list leaves as a number, or lends its one value. What it has then is by the clauses, as
-//! it is that no other leaves so.
+//! An emission that is alone in its list leaves as a number, or lends its one value. What it has then is by the
+//! clauses, as it is that no other leaves so.
 
 use fb_types::{Emits, Value};
 

@@ -1,5 +1,5 @@
-//! A table of latencies, by which a message overtakes another: the least ticks at which one can arrive that is sent from a
-//! tick on. All were worked out by hand. When messages arrive is in stored cases.
+//! A table of latencies, by which a message overtakes another: the least ticks at which one can arrive that is sent
+//! from a tick on. All were worked out by hand. When messages arrive is in stored cases.
 
 use fb_link::earliest;
 use fb_types::{Entry, Items, Latency};

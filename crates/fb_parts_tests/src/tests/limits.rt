@@ -1,5 +1,5 @@
-//! One stimulus more than there may be, which no text can show, since one of this many rows is refused before. That there
-//! may be 100,000 is a stored case.
+//! One stimulus more than there may be, which no text can show, since one of this many rows is refused before. That
+//! there may be 100,000 is a stored case.
 
 use fb_check::accept;
 use fb_read::read_library;

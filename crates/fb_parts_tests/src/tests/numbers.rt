@@ -1,5 +1,5 @@
-//! Lines with numbers that no run reaches, up to the greatest and down to the least, marks where each tick ends, and last
-//! lines.
+//! Lines with numbers that no run reaches, up to the greatest and down to the least, marks where each tick ends, and
+//! last lines.
 
 use super::belonging::ends_in;
 use super::chain::{accepted, expect_text};
