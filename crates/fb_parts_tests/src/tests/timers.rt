@@ -2,7 +2,7 @@
 //! shows.
 
 use fb_event::{EventState, expire, react};
-use fb_types::{Emission, Emits, EventKind, TimerAsk, Value, Values};
+use fb_types::{Emits, EventKind, TimerAsk, Value};
 use std::alloc::Global;
 use std::mem::forget;
 use std::process::Abort;
@@ -41,6 +41,15 @@ fn the_longest_delay_fits(rt: HostRuntime) {
     assert!(rt; asked(&rt, rt.alloc(), &mut state, 1, LATEST) == TimerAsk::Clear);
 }
 
+/// Takes the first emission, which is of this event and has no values.
+fn expect_first(rt: &impl Abort, emits: &mut Emits, event: u32) {
+    let Some(first) = emits.pop_first() else {
+        panic!(rt; "an emission");
+    };
+    assert!(rt; first.event == event && first.values.is_empty());
+    forget(first);
+}
+
 /// The event of the cycle comes after what was emitted before it.
 #[test]
 fn the_longest_cycle_fits(rt: HostRuntime) {
@@ -48,24 +57,11 @@ fn the_longest_cycle_fits(rt: HostRuntime) {
     let first = asked(&rt, rt.alloc(), &mut state, START, 0);
     assert!(rt; first == TimerAsk::At(9_223_372_036_854_775_807));
     let mut emits = Emits::new(rt.alloc());
-    let before = Emission {
-        event: 77,
-        values: Values::new(rt.alloc()),
-    };
-    emits.push(before).expect(&rt, "memory");
+    emits.push_bare(77).expect(&rt, "memory");
     let mut ask = TimerAsk::At(77);
     let expired = expire(&mut state, LATEST, &mut emits, &mut ask);
-    assert!(rt; expired.is_ok());
-    assert!(rt; ask == LAST);
-    let Some(first) = emits.pop_first() else {
-        panic!(rt; "two emissions");
-    };
-    assert!(rt; first.event == 77 && first.values.is_empty());
-    forget(first);
-    let Some(new) = emits.pop_first() else {
-        panic!(rt; "two emissions");
-    };
-    assert!(rt; new.event == 0 && new.values.is_empty());
-    forget(new);
+    assert!(rt; expired.is_ok() && ask == LAST);
+    expect_first(&rt, &mut emits, 77);
+    expect_first(&rt, &mut emits, 0);
     assert!(rt; emits.is_empty());
 }

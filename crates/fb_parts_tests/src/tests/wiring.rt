@@ -38,12 +38,12 @@ const NEXT_TO_FAR: ConnectionEnd = ConnectionEnd {
     port: 999_999,
 };
 
-/// The connections of events and of data; where those of events lead from some ends; and from where those of data lead
-/// to some ends.
+/// The connections of events and of data; the end to which the event connection leads that has this index among those
+/// from an end; and the end from which the data connection to an end comes.
 type Network = (
     &'static [NumberedConnection],
     &'static [NumberedConnection],
-    &'static [(ConnectionEnd, &'static [ConnectionEnd])],
+    &'static [(ConnectionEnd, usize, Option<ConnectionEnd>)],
     &'static [(ConnectionEnd, Option<ConnectionEnd>)],
 );
 
@@ -75,9 +75,12 @@ static NEAR: Network = (
         },
     ],
     &[
-        (BOUNDARY, &[FIRST]),
-        (FIRST, &[THIRD_OF_SECOND, BOUNDARY]),
-        (THIRD_OF_SECOND, &[]),
+        (BOUNDARY, 0, Some(FIRST)),
+        (BOUNDARY, 1, None),
+        (FIRST, 0, Some(THIRD_OF_SECOND)),
+        (FIRST, 1, Some(BOUNDARY)),
+        (FIRST, 2, None),
+        (THIRD_OF_SECOND, 0, None),
     ],
     &[
         (BOUNDARY, Some(THIRD_OF_SECOND)),
@@ -114,9 +117,12 @@ static FAR: Network = (
         },
     ],
     &[
-        (FIRST, &[FAR_OF_SECOND]),
-        (FAR_OF_SECOND, &[BOUNDARY, FIRST]),
-        (NEXT_TO_FAR, &[]),
+        (FIRST, 0, Some(FAR_OF_SECOND)),
+        (FIRST, 1, None),
+        (FAR_OF_SECOND, 0, Some(BOUNDARY)),
+        (FAR_OF_SECOND, 1, Some(FIRST)),
+        (FAR_OF_SECOND, 2, None),
+        (NEXT_TO_FAR, 0, None),
     ],
     &[
         (FAR_OF_SECOND, Some(FIRST)),
@@ -124,6 +130,15 @@ static FAR: Network = (
         (NEXT_TO_FAR, None),
     ],
 );
+
+fn expect_end(rt: &impl Abort, found: Option<ConnectionEnd>, expected: Option<ConnectionEnd>) {
+    match (found, expected) {
+        (Some(found), Some(expected)) => {
+            assert!(rt; found.component == expected.component && found.port == expected.port)
+        }
+        (found, expected) => assert!(rt; found.is_none() && expected.is_none()),
+    }
+}
 
 fn expect_network(rt: &impl Abort, alloc: Global, network: &Network) {
     let (events, data, targets, sources) = *network;
@@ -142,23 +157,15 @@ fn expect_network(rt: &impl Abort, alloc: Global, network: &Network) {
 fn expect_ends(
     rt: &impl Abort,
     wiring: &Wiring,
-    targets: &[(ConnectionEnd, &[ConnectionEnd])],
+    targets: &[(ConnectionEnd, usize, Option<ConnectionEnd>)],
     sources: &[(ConnectionEnd, Option<ConnectionEnd>)],
 ) {
-    for (end, expected) in targets {
-        let found = wiring.targets(*end);
-        assert!(rt; found.len() == expected.len());
-        for (found, expected) in found.iter().zip(*expected) {
-            assert!(rt; found.component == expected.component && found.port == expected.port);
-        }
+    for (end, index, expected) in targets {
+        let found = wiring.targets(*end).get(*index).copied();
+        expect_end(rt, found, *expected);
     }
     for (end, expected) in sources {
-        match (wiring.source(*end), *expected) {
-            (Some(found), Some(expected)) => {
-                assert!(rt; found.component == expected.component && found.port == expected.port)
-            }
-            (found, expected) => assert!(rt; found.is_none() && expected.is_none()),
-        }
+        expect_end(rt, wiring.source(*end), *expected);
     }
 }
 
