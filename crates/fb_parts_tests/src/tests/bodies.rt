@@ -104,11 +104,17 @@ static INDEXES: [usize; 3] = [0, 1, 9];
 fn the_name_decides_which_variable_is_meant(rt: HostRuntime) {
     let alloc = rt.alloc();
     let frame = frame(&rt, alloc);
-    let y = Reference::new(named(&rt, alloc, "Y"));
+    let (x, y) = (named(&rt, alloc, "X"), named(&rt, alloc, "Y"));
+    let other = named(&rt, alloc, "Z");
+    assert!(rt; frame.has(&x) && frame.has(&y) && !frame.has(&other));
+    forget(other);
+    let (x, y) = (Reference::new(x), Reference::new(y));
+    assert!(rt; frame.value(&x) == Value::Whole(0));
     for index in &INDEXES {
         y.expect_at(*index);
         assert!(rt; frame.value(&y) == Value::Whole(7));
     }
     forget(frame);
+    forget(x);
     forget(y);
 }

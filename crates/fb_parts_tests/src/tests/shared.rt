@@ -1,8 +1,47 @@
-//! References, boxes and keys. Lists and names are in each run of the program, and their clauses say what they hold.
+//! Lists, names, references and keys: each public function once.
 
-use fb_types::{Boxed, Key, Name, Reference, compare};
+use fb_types::{Boxed, Items, Key, Name, Reference, compare};
+use std::alloc::Global;
 use std::cmp::Ordering;
 use std::mem::ManuallyDrop;
+use std::process::Abort;
+
+#[test]
+fn a_list_keeps_its_elements_in_order(rt: HostRuntime) {
+    let mut list = Items::new(rt.alloc());
+    assert!(rt; list.is_empty() && list.get(0).is_none());
+    list.push(7u32).expect(&rt, "memory");
+    list.push(5).expect(&rt, "memory");
+    assert!(rt; !list.is_empty() && list.len() == 2);
+    assert!(rt; list.get(1).copied() == Some(5) && list.get(2).is_none());
+    let mut all = list.into_vec();
+    all.push(3).expect(&rt, "memory");
+    let list = ManuallyDrop::new(Items::from_vec(all));
+    let copy = Items::from_slice(list.allocator(), list.as_slice()).expect(&rt, "memory");
+    let mut copy = ManuallyDrop::new(copy);
+    copy.push(9).expect(&rt, "memory");
+    assert!(rt; copy.as_slice() == [7, 5, 3, 9].as_slice());
+    assert!(rt; list.as_slice() == [7, 5, 3].as_slice());
+}
+
+fn name(rt: &impl Abort, alloc: Global, text: &str) -> ManuallyDrop<Name> {
+    ManuallyDrop::new(Name::from_text(alloc, text).expect(rt, "memory"))
+}
+
+static OTHERS: [&str; 5] = ["", "E1", "E1_B", "E1_AA", "1E_A"];
+
+#[test]
+fn a_name_is_its_bytes(rt: HostRuntime) {
+    let first = name(&rt, rt.alloc(), "E1_A");
+    let copy = ManuallyDrop::new(first.try_clone(rt.alloc()).expect(&rt, "memory"));
+    assert!(rt; copy.as_bytes() == b"E1_A".as_slice());
+    assert!(rt; first.is(&copy));
+    for text in &OTHERS {
+        let other = name(&rt, rt.alloc(), text);
+        assert!(rt; other.as_bytes() == text.as_bytes());
+        assert!(rt; !first.is(&other) && !other.is(&first));
+    }
+}
 
 #[test]
 fn a_reference_and_a_box_keep_what_they_are_made_of(rt: HostRuntime) {
