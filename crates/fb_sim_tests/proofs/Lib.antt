@@ -1,3 +1,2 @@
-mod ByHand
 mod Coming
 mod Zips

@@ -8,23 +8,21 @@ mod board;
 mod calls;
 mod clocks;
 mod examples;
-mod files;
 mod gates;
-mod hand;
-mod job_texts;
+mod jobs;
 mod later_rounds;
 mod memory;
-mod options;
 mod phase;
 mod progress;
 mod rounds;
 mod rows;
-mod serial;
 mod texts;
 mod writers;
 
 use fb_sim::{Inputs, Options};
 use fb_types::Form;
+use std::mem::forget;
+use std::process::Abort;
 
 /// More steps than any tick of these runs needs that does not stop.
 const ENOUGH: u64 = 10_000;
@@ -34,6 +32,17 @@ fn given(text: &str) -> Option<&[u8]> {
         None
     } else {
         Some(text.as_bytes())
+    }
+}
+
+/// What a call gives that must not fail here. Where it does the process ends, and its error is not dropped.
+fn must<T, E: Drop>(rt: &impl Abort, answer: Result<T, E>, otherwise: &str) -> T {
+    match answer {
+        Ok(value) => value,
+        Err(error) => {
+            forget(error);
+            rt.panic(otherwise)
+        }
     }
 }
 

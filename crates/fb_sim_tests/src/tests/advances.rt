@@ -3,26 +3,27 @@
 //! Each simulation is ended here, also where a call on it failed. So none is dropped in this crate, and the destructors
 //! of all that a simulation holds are not proved once more.
 
-use super::inputs_of;
+use super::rounds::{WAYS, Way};
 use super::texts::{
-    ARRIVAL, BETWEEN, BETWEEN_TRACE, CYCLE, CYCLE_TRACE, Case, RING, RING_TRACE, TWICE,
+    ARRIVAL, BETWEEN, BETWEEN_RUN, BETWEEN_TRACE, CYCLE, CYCLE_RUN, CYCLE_TRACE, RING_RUN,
+    RING_TRACE, Run,
 };
-use super::writers::{ANY, with_room};
+use super::writers::{ANY, Narrow, page, with_room};
+use super::{inputs_of, must, to};
 use fb_phase::OpenGate;
-use fb_sim::{Outcome, RunError, Simulation};
+use fb_sim::{Inputs, Outcome, RunError, Simulation, run_serial};
 use fb_types::Form;
 use std::alloc::Global;
+use std::mem::forget;
 use std::process::Abort;
 use std::sync::Wait;
 use std::thread::Threads;
 
-/// The simulation of a case by this many workers.
-pub fn opened(rt: &impl Abort, alloc: Global, case: &Case, workers: u64) -> Simulation {
-    let inputs = inputs_of(case.declaration, case.deploy, case.stimuli);
-    let Ok(simulation) = Simulation::open(alloc, &inputs, case.steps, workers, Form::One) else {
-        panic!(rt; "not opened");
-    };
-    simulation
+/// The simulation of a run by this many workers.
+pub fn opened(rt: &impl Abort, alloc: Global, run: &Run, workers: u64) -> Simulation {
+    let inputs = inputs_of(run.declaration, run.deploy, run.stimuli);
+    let simulation = Simulation::open(alloc, &inputs, run.steps, workers, Form::One);
+    must(rt, simulation, "not opened")
 }
 
 /// The greatest tick to advance to.
@@ -31,7 +32,7 @@ const LAST: u64 = 1_000_000_000_000;
 /// A run in pieces.
 #[derive(Clone, Copy)]
 struct Pieces {
-    case: Case,
+    run: Run,
     /// The ticks that it is advanced to, in this order, before it is ended.
     ticks: &'static [u64],
     /// What all of this writes.
@@ -39,43 +40,33 @@ struct Pieces {
 }
 
 /// A tick that was advanced to before, or at which it has stopped, writes nothing again. A tick past the last is none.
-static PIECES: [Pieces; 6] = [
+static PIECES: [Pieces; 4] = [
     Pieces {
-        case: CYCLE,
-        ticks: &[4, 8],
+        run: CYCLE_RUN,
+        ticks: &[1_000_000_000_001, 4, 4, 2, 8],
         trace: CYCLE_TRACE,
     },
     Pieces {
-        case: CYCLE,
-        ticks: &[4, 4, 2, 8],
-        trace: CYCLE_TRACE,
-    },
-    Pieces {
-        case: CYCLE,
+        run: CYCLE_RUN,
         ticks: &[],
         trace: "end 0\n",
     },
     Pieces {
-        case: CYCLE,
-        ticks: &[1_000_000_000_001, 8],
-        trace: CYCLE_TRACE,
-    },
-    Pieces {
-        case: BETWEEN,
+        run: BETWEEN_RUN,
         ticks: &[9, 9],
         trace: BETWEEN_TRACE,
     },
     Pieces {
-        case: RING,
+        run: RING_RUN,
         ticks: &[7, 20, 50],
         trace: RING_TRACE,
     },
 ];
 
 /// How a run is at a tick.
-fn outcome_at(case: &Case, tick: u64) -> Outcome {
-    match case.outcome {
-        Outcome::Stop(mark) if mark.tick < tick => case.outcome,
+fn outcome_at(run: &Run, tick: u64) -> Outcome {
+    match run.outcome {
+        Outcome::Stop(mark) if mark.tick < tick => run.outcome,
         _ => Outcome::End(tick),
     }
 }
@@ -85,65 +76,84 @@ fn outcome_at(case: &Case, tick: u64) -> Outcome {
 fn expect_pieces<R: Abort + Threads + Wait + Sync>(
     rt: &R,
     alloc: Global,
-    (workers, step): (u64, usize),
+    (workers, step): Way,
     pieces: &Pieces,
 ) {
     let mut out = with_room(alloc, step, ANY);
     let mut most = 0;
-    let mut simulation = opened(rt, alloc, &pieces.case, workers);
+    let mut simulation = opened(rt, alloc, &pieces.run, workers);
     for tick in pieces.ticks {
         match simulation.advance(rt, *tick, &mut out, &OpenGate) {
             Ok(found) => {
                 most = most.max(*tick);
-                assert!(rt; *tick <= LAST && found == outcome_at(&pieces.case, most));
+                assert!(rt; *tick <= LAST && found == outcome_at(&pieces.run, most));
             }
-            Err(error) => assert!(rt; *tick > LAST && matches!(error, RunError::BadOption)),
+            Err(error) => {
+                assert!(rt; *tick > LAST && matches!(error, RunError::BadOption));
+                forget(error);
+            }
         }
     }
-    let ended = simulation.finish(&mut out).expect(rt, "ended");
-    assert!(rt; ended == outcome_at(&pieces.case, most));
+    let ended = must(rt, simulation.finish(&mut out), "not ended");
+    assert!(rt; ended == outcome_at(&pieces.run, most));
     assert!(rt; out.got.as_slice() == pieces.trace.as_bytes());
 }
 
 #[test]
 fn pieces_make_the_whole(rt: HostRuntime) {
     for pieces in &PIECES {
-        for workers in [1, 2, 7, 64] {
-            for step in [1, 2, 3, ANY] {
-                expect_pieces(&rt, rt.alloc(), (workers, step), pieces);
-            }
+        for way in &WAYS {
+            expect_pieces(&rt, rt.alloc(), *way, pieces);
         }
     }
 }
 
-/// Steps and workers out of their range, for a declaration that is none.
-static OUT_OF_RANGE: [(u64, u64); 4] = [(0, 1), (10_000_001, 1), (1, 0), (1, 65)];
+/// A horizon, steps and workers, of which one is out of its range.
+static OUT_OF_RANGE: [(u64, u64, u64); 6] = [
+    (0, 1, 1),
+    (1_000_000_000_001, 1, 1),
+    (1, 0, 1),
+    (1, 10_000_001, 1),
+    (1, 1, 0),
+    (1, 1, 65),
+];
 
 /// What opens is ended at once.
-fn is_bad_option(alloc: Global, steps: u64, workers: u64) -> bool {
-    match Simulation::open(alloc, &inputs_of("?", "", ""), steps, workers, Form::One) {
+fn is_bad_option(alloc: Global, inputs: &Inputs<'_>, steps: u64, workers: u64) -> bool {
+    match Simulation::open(alloc, inputs, steps, workers, Form::One) {
         Ok(simulation) => {
-            let mut out: Vec<u8> = Vec::new(alloc);
-            let _ended = simulation.finish(&mut out);
+            forget(simulation.finish(&mut page(alloc)));
             false
         }
-        Err(error) => matches!(error, RunError::BadOption),
+        Err(error) => {
+            let is_bad = matches!(error, RunError::BadOption);
+            forget(error);
+            is_bad
+        }
     }
 }
 
+/// They are answered before the declaration is read, which is none. A simulation has no horizon.
 #[test]
-fn steps_and_workers_have_their_ranges(rt: HostRuntime) {
-    for (steps, workers) in &OUT_OF_RANGE {
-        assert!(rt; is_bad_option(rt.alloc(), *steps, *workers));
+fn options_out_of_range_come_first(rt: HostRuntime) {
+    let inputs = inputs_of("?", "", "");
+    let mut out = page(rt.alloc());
+    for (horizon, steps, workers) in &OUT_OF_RANGE {
+        let options = to(*horizon, *steps, *workers);
+        let found = run_serial(rt.alloc(), &inputs, options, &mut out);
+        assert!(rt; matches!(found, Err(RunError::BadOption)));
+        forget(found);
+        let is_bad = is_bad_option(rt.alloc(), &inputs, *steps, *workers);
+        assert!(rt; is_bad == ((*steps, *workers) != (1, 1)));
     }
-    assert!(rt; !is_bad_option(rt.alloc(), 1, 1));
+    assert!(rt; out.got.is_empty());
 }
 
 #[test]
 fn after_a_fault_nothing_is_written(rt: HostRuntime) {
     let mut out = with_room(rt.alloc(), 1000, 10);
-    let mut later = Vec::new(rt.alloc());
-    let mut simulation = opened(&rt, rt.alloc(), &CYCLE, 2);
+    let mut later = page(rt.alloc());
+    let mut simulation = opened(&rt, rt.alloc(), &CYCLE_RUN, 2);
     let at_fault = simulation.advance(&rt, 8, &mut out, &OpenGate);
     let advanced = simulation.advance(&rt, 9, &mut later, &OpenGate);
     let ended = simulation.finish(&mut later);
@@ -151,7 +161,8 @@ fn after_a_fault_nothing_is_written(rt: HostRuntime) {
     assert!(rt; out.got.as_slice() == b"0 MAIN < S".as_slice());
     assert!(rt; matches!(advanced, Err(RunError::Failed)));
     assert!(rt; matches!(ended, Err(RunError::Failed)));
-    assert!(rt; later.is_empty());
+    assert!(rt; later.got.is_empty());
+    forget((at_fault, advanced, ended));
 }
 
 /// What became of a simulation to which memory may have been refused.
@@ -174,32 +185,38 @@ impl Tried {
     }
 }
 
-/// Advances a case to half of its horizon and to the horizon twice, also where an advance failed, and ends it.
+/// Advances a run to half of its horizon and to the horizon twice, also where an advance failed, and ends it.
 fn try_pieces<R: Threads + Wait + Sync>(
     rt: &R,
     alloc: Global,
-    case: &Case,
+    run: &Run,
     workers: u64,
-    out: &mut Vec<u8>,
+    out: &mut Narrow,
 ) -> Tried {
     let mut tried = Tried {
         is_open: false,
         has_failed: false,
         stays_failed: true,
     };
-    let inputs = inputs_of(case.declaration, case.deploy, case.stimuli);
-    let Ok(mut simulation) = Simulation::open(alloc, &inputs, case.steps, workers, Form::One) else {
-        return tried;
+    let inputs = inputs_of(run.declaration, run.deploy, run.stimuli);
+    let mut simulation = match Simulation::open(alloc, &inputs, run.steps, workers, Form::One) {
+        Ok(simulation) => simulation,
+        Err(error) => {
+            forget(error);
+            return tried;
+        }
     };
     tried.is_open = true;
-    for tick in [case.horizon / 2, case.horizon, case.horizon] {
-        let before = out.len();
+    for tick in [run.horizon / 2, run.horizon, run.horizon] {
+        let before = out.got.len();
         let found = simulation.advance(rt, tick, out, &OpenGate);
-        tried.note(&found, out.len() > before);
+        tried.note(&found, out.got.len() > before);
+        forget(found);
     }
-    let before = out.len();
+    let before = out.got.len();
     let ended = simulation.finish(out);
-    tried.note(&ended, out.len() > before);
+    tried.note(&ended, out.got.len() > before);
+    forget(ended);
     tried
 }
 
@@ -207,17 +224,17 @@ fn try_pieces<R: Threads + Wait + Sync>(
 /// in turn. Without that no call fails.
 #[test]
 fn after_out_of_memory_nothing_is_written(rt: HostRuntime) {
-    for case in [&CYCLE, &ARRIVAL, &BETWEEN, &TWICE, &RING] {
+    for case in [&CYCLE, &ARRIVAL, &BETWEEN] {
         for workers in [1, 2] {
-            let mut out = Vec::new(rt.alloc());
-            let mut tried = try_pieces(&rt, rt.alloc(), case, workers, &mut out);
+            let mut out = page(rt.alloc());
+            let mut tried = try_pieces(&rt, rt.alloc(), &case.run, workers, &mut out);
             if !tried.is_open {
                 // One request was refused, so the second try has its memory.
-                tried = try_pieces(&rt, rt.alloc(), case, workers, &mut out);
+                tried = try_pieces(&rt, rt.alloc(), &case.run, workers, &mut out);
             }
+            let (trace, got) = (case.trace.as_bytes(), out.got.as_slice());
             assert!(rt; tried.is_open && tried.stays_failed);
-            assert!(rt; case.trace.as_bytes().starts_with(out.as_slice()));
-            assert!(rt; tried.has_failed || out.as_slice() == case.trace.as_bytes());
+            assert!(rt; trace.starts_with(got) && (tried.has_failed || got == trace));
         }
     }
 }

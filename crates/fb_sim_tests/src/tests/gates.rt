@@ -1,10 +1,11 @@
-//! Workers work at the same time.
+//! A gate that sees how workers pass it. Workers work at the same time.
 
 use super::advances::opened;
-use super::texts::BETWEEN;
-use super::{inputs_of, to};
+use super::texts::{BETWEEN_RUN, BETWEEN_TRACE};
+use super::writers::page;
+use super::{inputs_of, must, to};
 use fb_phase::Gate;
-use fb_sim::run;
+use fb_sim::{Inputs, Options, Outcome, run};
 use std::alloc::Global;
 use std::process::Abort;
 use std::sync::Wait;
@@ -13,7 +14,8 @@ use std::sync::atomic::{AtomicBool, AtomicU64};
 use std::thread::Threads;
 
 /// In one of the rounds the workers that draw the first numbers wait for one another, but give up in the end. Each round
-/// has a job of each of these numbers.
+/// has a job of each of these numbers. It counts how often workers pass, too, and looks whether the first numbers that
+/// pass are those of three jobs in their order.
 #[derive(Drop)]
 pub struct Meeting {
     workers: u64,
@@ -22,11 +24,16 @@ pub struct Meeting {
     last: u64,
     draws: AtomicU64,
     gave_up: AtomicBool,
+    passes: AtomicU64,
+    differs: AtomicBool,
 }
 
 impl Meeting {
     /// How often a worker looks for the others before it gives up.
     const LOOKS: u32 = 100_000_000;
+
+    /// How many numbers are to pass in their order.
+    const IN_ORDER: u64 = 3;
 
     /// A meeting of this many workers, in the round after this many others.
     pub fn new(workers: u64, before: u64) -> Meeting {
@@ -37,12 +44,19 @@ impl Meeting {
             last: first.saturating_add(workers),
             draws: AtomicU64::new(0),
             gave_up: AtomicBool::new(false),
+            passes: AtomicU64::new(0),
+            differs: AtomicBool::new(false),
         }
     }
 
     /// Whether they met.
     pub fn is_over(&self) -> bool {
         self.draws.load(SeqCst) >= self.last && !self.gave_up.load(SeqCst)
+    }
+
+    /// How often workers passed.
+    pub fn passes(&self) -> u64 {
+        self.passes.load(SeqCst)
     }
 
     fn wait(&self) {
@@ -57,6 +71,10 @@ impl Meeting {
 
 impl Gate for Meeting {
     fn at<R: Wait>(&self, _rt: &R, number: usize) {
+        let pass = self.passes.fetch_add(1, SeqCst);
+        if pass < Self::IN_ORDER && number as u64 != pass {
+            self.differs.store(true, SeqCst);
+        }
         if number as u64 >= self.workers {
             return;
         }
@@ -67,67 +85,49 @@ impl Gate for Meeting {
     }
 }
 
-/// Three resources run by this many workers, who pass a gate.
-fn expect_between<R: Abort + Threads + Wait + Sync, P: Gate>(
+/// A run by workers who meet writes this trace.
+pub fn expect_meeting<R: Abort + Threads + Wait + Sync>(
     rt: &R,
     alloc: Global,
-    workers: u64,
-    gate: &P,
+    inputs: &Inputs<'_>,
+    options: Options,
+    before: u64,
+    (outcome, trace): (Outcome, &[u8]),
 ) {
-    let inputs = inputs_of(BETWEEN.declaration, BETWEEN.deploy, BETWEEN.stimuli);
-    let mut out = Vec::new(alloc);
-    let options = to(BETWEEN.horizon, BETWEEN.steps, workers);
-    let outcome = run(rt, alloc, &inputs, options, &mut out, gate).expect(rt, "run");
-    assert!(rt; outcome == BETWEEN.outcome);
-    assert!(rt; out.as_slice() == BETWEEN.trace.as_bytes());
+    let gate = Meeting::new(options.workers, before);
+    let mut out = page(alloc);
+    let found = must(
+        rt,
+        run(rt, alloc, inputs, options, &mut out, &gate),
+        "no run",
+    );
+    assert!(rt; found == outcome && out.got.as_slice() == trace);
+    assert!(rt; gate.is_over(), "they did not meet");
 }
 
 /// In the first round of the run each of the three resources has an event, so that there is work for this many workers.
 #[test]
 fn workers_meet(rt: HostRuntime) {
+    let run = &BETWEEN_RUN;
+    let inputs = inputs_of(run.declaration, run.deploy, run.stimuli);
     for workers in [2, 3] {
-        let gate = Meeting::new(workers, 0);
-        expect_between(&rt, rt.alloc(), workers, &gate);
-        assert!(rt; gate.is_over(), "they did not meet");
+        let options = to(run.horizon, run.steps, workers);
+        let result = (run.outcome, BETWEEN_TRACE.as_bytes());
+        expect_meeting(&rt, rt.alloc(), &inputs, options, 0, result);
     }
 }
 
-/// It looks whether the first numbers that pass are those of the jobs of the first round, in their order.
-#[derive(Drop)]
-struct InOrder {
-    passed: AtomicU64,
-    differs: AtomicBool,
-}
-
-impl InOrder {
-    /// There is a job for each of the three resources.
-    const JOBS: u64 = 3;
-}
-
-impl Gate for InOrder {
-    fn at<R: Wait>(&self, _rt: &R, number: usize) {
-        let index = self.passed.fetch_add(1, SeqCst);
-        if index < Self::JOBS && number as u64 != index {
-            self.differs.store(true, SeqCst);
-        }
-    }
-}
-
-/// A simulation that is advanced makes rounds, also with one worker, who does the jobs on the calling thread.
+/// A simulation that is advanced makes rounds, also with one worker, who does the jobs on the calling thread. There is a
+/// job for each of the three resources.
 #[test]
 fn one_worker_passes_the_gate_in_the_order_of_the_jobs(rt: HostRuntime) {
-    let gate = InOrder {
-        passed: AtomicU64::new(0),
-        differs: AtomicBool::new(false),
-    };
-    let mut out = Vec::new(rt.alloc());
-    let mut simulation = opened(&rt, rt.alloc(), &BETWEEN, 1);
-    let advanced = simulation.advance(&rt, BETWEEN.horizon, &mut out, &gate);
-    let ended = simulation.finish(&mut out).expect(&rt, "ended");
-    assert!(rt; advanced.is_ok() && ended == BETWEEN.outcome);
-    assert!(rt;
-        gate.passed.load(SeqCst) >= InOrder::JOBS,
-        "a job passed no gate"
-    );
+    let gate = Meeting::new(0, 0);
+    let mut out = page(rt.alloc());
+    let run = &BETWEEN_RUN;
+    let mut simulation = opened(&rt, rt.alloc(), run, 1);
+    let advanced = simulation.advance(&rt, run.horizon, &mut out, &gate);
+    assert!(rt; must(&rt, advanced, "not advanced") == run.outcome);
+    assert!(rt; must(&rt, simulation.finish(&mut out), "not ended") == run.outcome);
+    assert!(rt; gate.passes() >= Meeting::IN_ORDER, "a job passed no gate");
     assert!(rt; !gate.differs.load(SeqCst), "another number passed");
 }

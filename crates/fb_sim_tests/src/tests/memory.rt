@@ -1,23 +1,36 @@
 //! Files in memory.
 
+use super::texts::CYCLE_TEXT;
 use fbsim_command::{Source, SourceFault, Streams};
 use std::alloc::Global;
+
+/// An event that comes back to its block in the same tick.
+const RING: &str = "APPLICATION A FBS S : E_RESTART; M : E_MERGE; END_FBS\n\
+    EVENT_CONNECTIONS S.COLD TO M.EI1; M.EO TO M.EI2; END_CONNECTIONS END_APPLICATION\n";
+
+/// An algorithm that ends too early, in its second line.
+const CUT_OFF: &str = "FUNCTION_BLOCK F EC_STATES S; END_STATES\nALGORITHM A IN ST: X :=";
+
+/// Files by their names; `-` is standard input.
+static FILES: [(&str, &str); 4] = [
+    ("-", CYCLE_TEXT),
+    ("cycle", CYCLE_TEXT),
+    ("ring", RING),
+    ("cut_off", CUT_OFF),
+];
 
 /// The name of a file for which there is no memory.
 const FULL: &str = "full";
 
-/// Files by name. The name `-` is standard input, once.
+/// These files. Standard input is read once.
 #[derive(Drop)]
 pub struct Memory {
-    files: &'static [(&'static str, &'static str)],
     has_read_input: bool,
 }
 
 impl Memory {
-    /// These files, with their texts.
-    pub fn new(files: &'static [(&'static str, &'static str)]) -> Memory {
+    pub fn new() -> Memory {
         Memory {
-            files,
             has_read_input: false,
         }
     }
@@ -32,7 +45,7 @@ impl Memory {
             }
             self.has_read_input = true;
         }
-        for (known, text) in self.files {
+        for (known, text) in &FILES {
             if *known == name {
                 return Ok(text.as_bytes());
             }

@@ -2,7 +2,7 @@
 ghost use Rattle.std.specs.Prelude.{◌≡◌, ◌*◌, ◌≤◌};
 
 use fb_board::{Deal, MAX_JOBS, MAX_SEATS};
-use fb_phase::{Crew, Gate, OpenGate, Work, run_all};
+use fb_phase::{Crew, Gate, Work, run_all};
 use std::alloc::Global;
 use std::process::Abort;
 use std::sync::Wait;
@@ -51,6 +51,13 @@ impl Squares {
             passed: AtomicU64::new(0),
             is_wrong: AtomicBool::new(false),
         }
+    }
+
+    /// Another list of jobs is to be run.
+    fn begin_again(&self) {
+        self.begun.store(0, SeqCst);
+        self.ended.store(0, SeqCst);
+        self.passed.store(0, SeqCst);
     }
 
     fn nine_have_ended(&self) -> bool {
@@ -103,34 +110,39 @@ impl Work for Squares {
     }
 }
 
-/// The squares of the numbers below a count, by this many workers.
-fn squares_of<R: Abort + Threads + Wait + Sync>(
-    rt: &R,
-    alloc: Global,
-    work: &Squares,
-    count: u32,
-    workers: usize,
-) -> Vec<u64> {
+/// The numbers below a count.
+fn numbers(rt: &impl Abort, alloc: Global, count: u32) -> Vec<u32> {
     let mut jobs = Vec::new(alloc);
     for job in 0..count {
-        jobs.push(job).expect(rt, "memory");
+        let Ok(()) = jobs.push(job) else {
+            panic!(rt; "memory");
+        };
     }
-    assert!(rt; jobs.len() <= MAX_JOBS && 1 <= workers && workers <= MAX_SEATS);
-    match run_all(rt, alloc, work, jobs, workers, work) {
-        Ok(squares) => squares,
-        Err(_) => panic!(rt; "memory"),
-    }
+    jobs
 }
 
-/// The squares come in order, and each of the first ten numbers has passed the gate once, before its work. A square is
-/// the one before it and the next odd number.
+/// How many numbers are squared, and by how many workers.
+type Case = (u32, usize);
+
+/// The squares of the numbers below a count come in order, by a crew if there is one, and each of the first ten numbers
+/// has passed the gate once, before its work. A square is the one before it and the next odd number.
 fn expect_squares<R: Abort + Threads + Wait + Sync>(
     rt: &R,
     alloc: Global,
-    (count, workers, first_waits): (u32, usize, bool),
+    work: &Squares,
+    crew: Option<&Crew<Squares>>,
+    (count, workers): Case,
 ) {
-    let work = Squares::new(first_waits);
-    let squares = squares_of(rt, alloc, &work, count, workers);
+    work.begin_again();
+    let jobs = numbers(rt, alloc, count);
+    assert!(rt; jobs.len() <= MAX_JOBS && 1 <= workers && workers <= MAX_SEATS);
+    let made = match crew {
+        Some(crew) => crew.run_all(rt, alloc, work, jobs, workers, work),
+        None => run_all(rt, alloc, work, jobs, workers, work),
+    };
+    let Ok(squares) = made else {
+        panic!(rt; "memory");
+    };
     assert!(rt; squares.len() == count as usize);
     let (mut expected, mut odd): (u64, u64) = (0, 1);
     for square in squares.iter() {
@@ -143,92 +155,38 @@ fn expect_squares<R: Abort + Threads + Wait + Sync>(
 }
 
 /// Ten jobs, none, and as many jobs and workers as there may be.
-static CASES: [(u32, usize, bool); 8] = [
-    (10, 1, false),
-    (10, 2, false),
-    (10, 3, false),
-    (10, 64, false),
-    (0, 1, false),
-    (0, 2, false),
-    (0, 64, false),
-    (1_024, 64, false),
+static CASES: [Case; 8] = [
+    (10, 1),
+    (10, 2),
+    (10, 3),
+    (10, 64),
+    (0, 1),
+    (0, 2),
+    (0, 64),
+    (1_024, 64),
 ];
+
+fn expect_all<R: Abort + Threads + Wait + Sync>(
+    rt: &R,
+    alloc: Global,
+    work: &Squares,
+    crew: Option<&Crew<Squares>>,
+) {
+    for case in &CASES {
+        expect_squares(rt, alloc, work, crew, *case);
+    }
+}
 
 #[test]
 fn squares_come_in_order(rt: HostRuntime) {
-    for case in &CASES {
-        expect_squares(&rt, rt.alloc(), *case);
-    }
+    expect_all(&rt, rt.alloc(), &Squares::new(false), None);
 }
 
 /// One worker is held up by its first job, so the other has to do the nine others: both work at the same time, and
 /// neither has a fixed part of the jobs.
 #[test]
 fn two_workers_draw_as_they_become_free(rt: HostRuntime) {
-    expect_squares(&rt, rt.alloc(), (10, 2, true));
-}
-
-/// Numbers are squared, and nothing is seen of it.
-struct Plain;
-
-impl Deal for Plain {
-    ghost use Rattle.std.specs.Prelude.{◌≡◌, ◌*◌};
-
-    type Job = u32;
-
-    type Done = u64;
-
-    ghost does = { λ job done. done ≡ job * job };
-}
-
-impl Work for Plain {
-    fn run(&self, _alloc: Global, job: u32) -> u64 {
-        u64::from(job) * u64::from(job)
-    }
-}
-
-/// The numbers below a count are squared in order by this many workers, of a crew that has not ended.
-fn expect_from_crew<R: Abort + Threads + Wait + Sync>(
-    rt: &R,
-    alloc: Global,
-    crew: &Crew<Plain>,
-    (count, workers): (u32, usize),
-) {
-    let mut jobs = Vec::new(alloc);
-    for job in 0..count {
-        jobs.push(job).expect(rt, "memory");
-    }
-    assert!(rt; jobs.len() <= MAX_JOBS && 1 <= workers && workers <= MAX_SEATS);
-    let Ok(squares) = crew.run_all(rt, alloc, &Plain, jobs, workers, &OpenGate) else {
-        panic!(rt; "memory");
-    };
-    assert!(rt; squares.len() == count as usize);
-    let (mut expected, mut odd): (u64, u64) = (0, 1);
-    for square in squares.iter() {
-        assert!(rt; *square == expected);
-        expected = expected.wrapping_add(odd);
-        odd = odd.wrapping_add(2);
-    }
-}
-
-/// A crew of three threads runs list after list. When they have ended, the calling thread does all jobs.
-#[test]
-fn squares_come_in_order_from_a_crew(rt: HostRuntime) {
-    let alloc = rt.alloc();
-    let crew: Crew<Plain> = Crew::new(alloc);
-    join(
-        &rt,
-        || crew.serve(&rt, alloc, &Plain, &OpenGate, 3),
-        || {
-            for (count, workers, _) in &CASES {
-                expect_from_crew(&rt, alloc, &crew, (*count, *workers));
-            }
-            crew.dismiss();
-        },
-    );
-    for (count, workers, _) in &CASES {
-        expect_from_crew(&rt, alloc, &crew, (*count, *workers));
-    }
+    expect_squares(&rt, rt.alloc(), &Squares::new(true), None, (10, 2));
 }
 
 /// Nine jobs, all of which the crew has done before its caller takes its share. They come in order, and each has passed
@@ -236,13 +194,11 @@ fn squares_come_in_order_from_a_crew(rt: HostRuntime) {
 fn expect_done_meanwhile<R: Abort + Threads + Wait + Sync>(
     rt: &R,
     alloc: Global,
-    crew: &Crew<Squares>,
     work: &Squares,
+    crew: &Crew<Squares>,
 ) {
-    let mut jobs = Vec::new(alloc);
-    for job in 0..9u32 {
-        jobs.push(job).expect(rt, "memory");
-    }
+    work.begin_again();
+    let jobs = numbers(rt, alloc, 9);
     assert!(rt; jobs.len() <= MAX_JOBS);
     let Ok(mut phase) = crew.begin(rt, alloc, jobs, 4, 1) else {
         panic!(rt; "memory");
@@ -257,17 +213,21 @@ fn expect_done_meanwhile<R: Abort + Threads + Wait + Sync>(
     assert!(rt; work.passed.load(SeqCst) == EACH_ONCE / 16);
 }
 
+/// A crew of three threads runs list after list, also while its caller does something else. When the threads have ended,
+/// the calling thread does all jobs.
 #[test]
-fn a_crew_does_its_jobs_while_its_caller_does_something_else(rt: HostRuntime) {
+fn squares_come_in_order_from_a_crew(rt: HostRuntime) {
     let alloc = rt.alloc();
     let crew: Crew<Squares> = Crew::new(alloc);
     let work = Squares::new(false);
     join(
         &rt,
-        || crew.serve(&rt, alloc, &work, &work, 2),
+        || crew.serve(&rt, alloc, &work, &work, 3),
         || {
-            expect_done_meanwhile(&rt, alloc, &crew, &work);
+            expect_done_meanwhile(&rt, alloc, &work, &crew);
+            expect_all(&rt, alloc, &work, Some(&crew));
             crew.dismiss();
         },
     );
+    expect_all(&rt, alloc, &work, Some(&crew));
 }

@@ -1,12 +1,13 @@
 //! The reports of a run come between the lines of one hundredth and those of the next. Both writers share counts, so
 //! that each sees how far the other one is.
 
-use super::inputs_of;
-use fb_sim::{Options, Outcome, run_with_progress};
-use fb_types::Form;
+use super::later_rounds::lines_in;
+use super::{inputs_of, to};
+use fb_sim::{Outcome, run_with_progress};
 use std::alloc::Global;
 use std::io;
 use std::io::Write;
+use std::mem::forget;
 use std::sync::atomic::Ordering::SeqCst;
 use std::sync::atomic::{AtomicBool, AtomicU64};
 
@@ -39,58 +40,38 @@ impl Order {
         }
     }
 
-    fn expect(&self, holds: bool) {
-        if !holds {
+    /// Notes that some lines or reports are written, and whether that is their place.
+    fn note(&self, are_reports: bool, count: u64) {
+        let is_right = if are_reports {
+            let before = self.reports.fetch_add(count, SeqCst);
+            self.lines.load(SeqCst) == before.saturating_add(2)
+        } else {
+            let before = self.lines.fetch_add(count, SeqCst);
+            self.reports.load(SeqCst) == before.saturating_sub(1)
+        };
+        if !is_right {
             self.is_wrong.store(true, SeqCst);
         }
     }
 }
 
-fn feeds_in(bytes: &[u8]) -> u64 {
-    bytes.iter().filter(|byte| **byte == b'\n').count() as u64
-}
-
-/// Takes the lines. The first of them is of a tick whose number is that of the reports before it.
+/// Takes the lines or the reports. The first of some lines is of a tick whose number is that of the reports before it.
+/// Before each report the lines below its tick were written, and no other.
 #[derive(Drop)]
-struct Lines<'a> {
+struct Side<'a> {
     order: &'a Order,
+    takes_reports: bool,
     got: Vec<u8>,
 }
 
-impl<'a> Write for Lines<'a> {
+impl<'a> Write for Side<'a> {
     ghost use Rattle.std.specs.Prelude.{Some};
 
     ghost contents = { λ w. Some w.got.items };
 
     fn write(&mut self, bytes: &[u8]) -> io::Result<usize> {
-        let before = self.order.lines.fetch_add(feeds_in(bytes), SeqCst);
-        let tick = before.saturating_sub(1);
-        self.order.expect(self.order.reports.load(SeqCst) == tick);
-        self.got.extend_from_slice(bytes)?;
-        Ok(bytes.len())
-    }
-
-    fn flush(&mut self) -> io::Result<()> {
-        Ok(())
-    }
-}
-
-/// Takes the reports. Before each, the lines below its tick were written, and no other.
-#[derive(Drop)]
-struct Reports<'a> {
-    order: &'a Order,
-    got: Vec<u8>,
-}
-
-impl<'a> Write for Reports<'a> {
-    ghost use Rattle.std.specs.Prelude.{Some};
-
-    ghost contents = { λ w. Some w.got.items };
-
-    fn write(&mut self, bytes: &[u8]) -> io::Result<usize> {
-        let before = self.order.reports.fetch_add(feeds_in(bytes), SeqCst);
-        let lines = before.saturating_add(2);
-        self.order.expect(self.order.lines.load(SeqCst) == lines);
+        self.order
+            .note(self.takes_reports, u64::from(lines_in(bytes)));
         self.got.extend_from_slice(bytes)?;
         Ok(bytes.len())
     }
@@ -104,22 +85,18 @@ impl<'a> Write for Reports<'a> {
 fn reports_come_between_the_lines(rt: HostRuntime) {
     let alloc: Global = rt.alloc();
     let order = Order::new();
-    let mut out = Lines {
+    let mut out = Side {
         order: &order,
+        takes_reports: false,
         got: Vec::new(alloc),
     };
-    let mut err = Reports {
+    let mut err = Side {
         order: &order,
+        takes_reports: true,
         got: Vec::new(alloc),
-    };
-    let options = Options {
-        horizon: HORIZON,
-        steps: 10,
-        workers: 1,
-        form: Form::One,
     };
     let inputs = inputs_of(EACH_TICK, "", "");
-    let run = run_with_progress(&rt, alloc, &inputs, options, &mut out, &mut err);
+    let run = run_with_progress(&rt, alloc, &inputs, to(HORIZON, 10, 1), &mut out, &mut err);
     assert!(rt; run.is_heard && matches!(&run.end, Ok(Outcome::End(HORIZON))));
     assert!(rt; order.lines.load(SeqCst) == LINES);
     assert!(rt; order.reports.load(SeqCst) == REPORTS);
@@ -129,4 +106,5 @@ fn reports_come_between_the_lines(rt: HostRuntime) {
             b"progress: tick 1 of 100, 2 lines\nprogress: tick 2 of 100, 3 lines\n"
         )
     );
+    forget(run);
 }

@@ -2,79 +2,58 @@
 
 ghost use Rattle.std.specs.Prelude.{◌≤◌, ◌^◌, ℕ, []};
 ghost use Rattle.fb_sim.specs.Rounds.{HasCome};
+ghost use Rattle.fb_sim.specs.Serial.{AreWithin};
+ghost use Rattle.fb_window.specs.Reached.{KeepHorizon};
 
-use super::inputs_of;
-use super::texts::{ARRIVAL, BETWEEN, Case, LATER_STOP, PAST_A_STOP, TWO_STOPS};
+use super::rows::{Part, ROWS, Row};
+use super::texts::Run;
 use super::writers::{ANY, Narrow, with_room};
+use super::{inputs_of, must};
 use fb_phase::OpenGate;
 use fb_sim::{Options, Outcome, Round, RunError, discard, open, open_core, round};
 use fb_system::System;
 use fb_types::Form;
 use fb_window::Core;
 use std::alloc::Global;
+use std::mem::forget;
 use std::process::Abort;
 use std::sync::Wait;
 use std::thread::Threads;
 
-/// A run, and what each of its rounds writes. The last line is of none.
-#[derive(Clone, Copy)]
-struct InRounds {
-    case: Case,
-    rounds: &'static [&'static str],
-}
+/// How many ticks past the least event a bound may be.
+pub const CAP: u64 = 1024;
 
-/// Nothing can reach the first resource, so that it runs to the horizon at once. The second one waits for it.
-const TWO_ROUNDS: InRounds = InRounds {
-    case: ARRIVAL,
-    rounds: &["0 R1 < S.COLD\n", "2 R2 > M.EI1\n2 R2 < M.EO\n"],
-};
-
-static ALL: [InRounds; 5] = [
-    TWO_ROUNDS,
-    InRounds {
-        case: BETWEEN,
-        rounds: &[
-            "7 R1 > A.EI1\n\
-            7 R1 < A.EO\n\
-            7 R2 > L.GO\n\
-            7 R2 < L.TICKED\n\
-            7 R2 < L.TICKED\n\
-            7 R2 < L.TICKED\n\
-            7 R2 < L.TICKED\n",
-        ],
-    },
-    InRounds {
-        case: TWO_STOPS,
-        rounds: &["7 R1 > K.GO\n7 R1 < K.TICKED\n"],
-    },
-    // The first resource stops in the first round. It is not before the second that no earlier stop can come.
-    InRounds {
-        case: LATER_STOP,
-        rounds: &[
-            "7 R1 > M.EI1\n7 R1 < M.EO\n",
-            "50 R2 > K.GO\n50 R2 < K.TICKED\n",
-        ],
-    },
-    InRounds {
-        case: PAST_A_STOP,
-        rounds: &[
-            "7 R1 > M.EI1\n7 R1 < M.EO\n50 R2 > K.GO\n50 R2 < K.TICKED\n",
-            "",
-        ],
-    },
-];
-
-/// How rounds are made: the count of workers, and how many bytes the writer takes a call.
-#[derive(Clone, Copy)]
-struct Way {
-    workers: u64,
-    step: usize,
+/// These are the bounds of the resources before a round, and 0 for one that has stopped.
+fn expect_bounds(rt: &impl Abort, core: &Core, horizon: u64, expected: &[u64])
+    requires clocks { KeepHorizon horizon core.now.resources.items }
+    requires early { horizon ≤ 10 ^ 12 }
+{
+    let bounds = core.bounds(horizon, CAP);
+    let mut expected = expected.iter();
+    for (resource, bound) in core.state().resources.iter().zip(bounds.all.iter()) {
+        let found = if resource.stopped().is_some() {
+            0
+        } else {
+            *bound
+        };
+        match expected.next() {
+            Some(wanted) => assert!(rt; found == *wanted),
+            None => panic!(rt; "another resource"),
+        }
+    }
+    assert!(rt; expected.next().is_none());
 }
 
 /// The round wrote these lines, and nothing else, after the bytes that were there.
 fn expect_lines(rt: &impl Abort, out: &Narrow, before: usize, lines: &str) {
     assert!(rt; out.got.len() == before.saturating_add(lines.len()));
     assert!(rt; out.got.as_slice().ends_with(lines.as_bytes()));
+}
+
+/// The system of a run.
+pub fn system_of<R: Abort>(rt: &R, alloc: Global, run: &Run) -> System {
+    let inputs = inputs_of(run.declaration, run.deploy, run.stimuli);
+    must(rt, open(alloc, &inputs), "no system")
 }
 
 /// The core of a run before its first event.
@@ -89,72 +68,103 @@ pub fn opened<R: Abort>(rt: &R, alloc: Global, system: &System, steps: u64) -> C
     core
 }
 
-/// The rounds of a run. A round that is out of memory has written nothing. It ends the test, and so does a writer that
-/// is.
-fn expect_rounds<R: Abort + Threads + Wait + Sync>(
+/// The options of a run, which are within their ranges.
+fn options_of(rt: &impl Abort, run: &Run, form: Form, workers: u64) -> Options
+    ensures { AreWithin result }
+{
+    assert!(rt; 1 <= workers && workers <= 64 && 1 <= run.steps && run.steps <= 10_000_000);
+    assert!(rt; 1 <= run.horizon && run.horizon <= 1_000_000_000_000);
+    Options {
+        horizon: run.horizon,
+        steps: run.steps,
+        workers,
+        form,
+    }
+}
+
+/// The rounds of a run, how many there are, and how it ends. A round that is out of memory has written nothing. It ends
+/// the test, and so does a writer that is.
+fn make_rounds<R: Abort + Threads + Wait + Sync>(
     rt: &R,
     alloc: Global,
-    Way { workers, step }: Way,
-    InRounds { case, rounds }: InRounds,
-) {
-    assert!(rt; 1 <= workers && workers <= 64 && 1 <= case.steps && case.steps <= 10_000_000);
-    assert!(rt; 1 <= case.horizon && case.horizon <= 1_000_000_000_000);
-    let options = Options {
-        horizon: case.horizon,
-        steps: case.steps,
-        workers,
-        form: Form::One,
-    };
-    let mut out = with_room(alloc, step, ANY);
-    let Ok(system) = open(
-        alloc,
-        &inputs_of(case.declaration, case.deploy, case.stimuli),
-    ) else {
-        panic!(rt; "no system");
-    };
+    system: &System,
+    options: Options,
+    rounds: &[Part],
+    out: &mut Narrow,
+) -> (usize, Outcome)
+    requires { AreWithin options }
+{
     system.facts();
-    let mut core = opened(rt, alloc, &system, case.steps);
-    for (number, lines) in rounds.iter().enumerate() {
-        let is_last = number.saturating_add(1) == rounds.len();
+    let mut core = opened(rt, alloc, system, options.steps);
+    for (number, part) in rounds.iter().enumerate() {
+        expect_bounds(rt, &core, options.horizon, part.bounds);
         let before = out.got.len();
-        match round(rt, alloc, &system, core, options, &mut out, &OpenGate) {
+        match round(rt, alloc, system, core, options, out, &OpenGate) {
             Ok(Round::Going(next)) => core = next,
             Ok(Round::Ended(last)) => {
-                drop(last);
-                expect_lines(rt, &out, before, lines);
-                assert!(rt; is_last && case.outcome == Outcome::End(case.horizon));
-                return discard(system);
+                forget(last);
+                expect_lines(rt, out, before, part.lines);
+                return (number, Outcome::End(options.horizon));
             }
             Ok(Round::Stopped(mark)) => {
-                expect_lines(rt, &out, before, lines);
-                assert!(rt; is_last && case.outcome == Outcome::Stop(mark));
-                return discard(system);
+                expect_lines(rt, out, before, part.lines);
+                return (number, Outcome::Stop(mark));
             }
             Err(error) => {
                 assert!(rt; !matches!(error, RunError::Memory) || out.got.len() == before);
                 panic!(rt; "memory for a round or its lines");
             }
         }
-        expect_lines(rt, &out, before, lines);
+        expect_lines(rt, out, before, part.lines);
     }
     rt.panic("it came to no end")
+}
+
+/// How rounds are made: the count of workers, and how many bytes the writer takes a call.
+pub type Way = (u64, usize);
+
+fn expect_rounds<R: Abort + Threads + Wait + Sync>(
+    rt: &R,
+    alloc: Global,
+    (workers, step): Way,
+    row: &Row,
+) {
+    let system = system_of(rt, alloc, &row.run);
+    let options = options_of(rt, &row.run, row.form, workers);
+    let mut out = with_room(alloc, step, ANY);
+    let (number, outcome) = make_rounds(rt, alloc, &system, options, row.rounds, &mut out);
+    assert!(rt; number.saturating_add(1) == row.rounds.len() && outcome == row.run.outcome);
+    discard(system);
 }
 
 /// `tools/refuse.py` runs this with each request for memory refused in turn.
 #[test]
 fn rounds_write_what_has_become_final(rt: HostRuntime) {
     for workers in [1, 2, 64] {
-        expect_rounds(&rt, rt.alloc(), Way { workers, step: ANY }, TWO_ROUNDS);
+        expect_rounds(&rt, rt.alloc(), (workers, ANY), &ROWS[0]);
     }
 }
 
+pub static WAYS: [Way; 12] = [
+    (1, 1),
+    (1, 2),
+    (1, 3),
+    (1, ANY),
+    (2, 1),
+    (2, 2),
+    (2, 3),
+    (2, ANY),
+    (64, 1),
+    (64, 2),
+    (64, 3),
+    (64, ANY),
+];
+
 #[test]
-fn each_round_has_its_lines(rt: HostRuntime) {
-    for row in &ALL {
-        for workers in [1, 2, 64] {
-            for step in [1, 2, 3] {
-                expect_rounds(&rt, rt.alloc(), Way { workers, step }, *row);
-            }
+fn each_round_has_its_bounds_and_lines(rt: HostRuntime) {
+    for row in &ROWS {
+        for way in &WAYS {
+            expect_rounds(&rt, rt.alloc(), *way, row);
         }
     }
 }

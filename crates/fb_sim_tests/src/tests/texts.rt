@@ -4,16 +4,22 @@ use super::ENOUGH;
 use fb_sim::Outcome;
 use fb_types::{Reason, StopMark};
 
-/// A run, and its result. An empty text means no deployment, or no stimuli.
+/// A run, and how it ends. An empty text means no deployment, or no stimuli.
 #[derive(Clone, Copy)]
-pub struct Case {
+pub struct Run {
     pub declaration: &'static str,
     pub deploy: &'static str,
     pub stimuli: &'static str,
     pub horizon: u64,
     pub steps: u64,
-    pub trace: &'static str,
     pub outcome: Outcome,
+}
+
+/// A run with its trace.
+#[derive(Clone, Copy)]
+pub struct Case {
+    pub run: Run,
+    pub trace: &'static str,
 }
 
 pub const CYCLE_TRACE: &str = "0 MAIN < S.COLD\n\
@@ -23,15 +29,21 @@ pub const CYCLE_TRACE: &str = "0 MAIN < S.COLD\n\
     end 8\n";
 
 /// A cycle of three ticks that begins with the run.
-pub const CYCLE: Case = Case {
-    declaration: "APPLICATION A FBS S : E_RESTART; C : E_CYCLE(DT := T#3ms); END_FBS\n\
-        EVENT_CONNECTIONS S.COLD TO C.START; END_CONNECTIONS END_APPLICATION",
+pub const CYCLE_TEXT: &str = "APPLICATION A FBS S : E_RESTART; C : E_CYCLE(DT := T#3ms); END_FBS\n\
+    EVENT_CONNECTIONS S.COLD TO C.START; END_CONNECTIONS END_APPLICATION";
+
+pub const CYCLE_RUN: Run = Run {
+    declaration: CYCLE_TEXT,
     deploy: "",
     stimuli: "",
     horizon: 8,
     steps: ENOUGH,
-    trace: CYCLE_TRACE,
     outcome: Outcome::End(8),
+};
+
+pub const CYCLE: Case = Case {
+    run: CYCLE_RUN,
+    trace: CYCLE_TRACE,
 };
 
 /// A block that runs without end once it has begun: an event, a transition and an action are its first three steps.
@@ -59,7 +71,7 @@ pub const BETWEEN_TRACE: &str = "7 R1 > A.EI1\n\
     stop 7 R2 steps\n";
 
 /// In the tick of the stop the resource before it has run whole, and the one after it not at all.
-pub const BETWEEN: Case = Case {
+pub const BETWEEN_RUN: Run = Run {
     declaration: looper!(
         "APPLICATION A FBS A : E_MERGE; L : LOOPER; C : E_MERGE; END_FBS END_APPLICATION"
     ),
@@ -71,7 +83,6 @@ pub const BETWEEN: Case = Case {
     stimuli: "tick,event,values\n7,C.EI1,\n7,L.GO,\n7,A.EI1,\n",
     horizon: 9,
     steps: 10,
-    trace: BETWEEN_TRACE,
     outcome: Outcome::Stop(StopMark {
         tick: 7,
         resource: 1,
@@ -79,8 +90,13 @@ pub const BETWEEN: Case = Case {
     }),
 };
 
+pub const BETWEEN: Case = Case {
+    run: BETWEEN_RUN,
+    trace: BETWEEN_TRACE,
+};
+
 /// An event that takes two ticks from one resource to another: it arrives exactly at the end of the first window.
-pub const ARRIVAL: Case = Case {
+pub const ARRIVAL_RUN: Run = Run {
     declaration: "APPLICATION A FBS S : E_RESTART; M : E_MERGE; END_FBS\n\
         EVENT_CONNECTIONS S.COLD TO M.EI1; END_CONNECTIONS END_APPLICATION",
     deploy: "resource = [\n\
@@ -91,41 +107,12 @@ pub const ARRIVAL: Case = Case {
     stimuli: "",
     horizon: 5,
     steps: ENOUGH,
-    trace: "0 R1 < S.COLD\n2 R2 > M.EI1\n2 R2 < M.EO\nend 5\n",
     outcome: Outcome::End(5),
 };
 
-/// A number goes into a composite, and its double comes out.
-pub const TWICE: Case = Case {
-    declaration: "FUNCTION_BLOCK DOUBLER\n\
-        EVENT_INPUT GO WITH X; END_EVENT\n\
-        EVENT_OUTPUT DONE WITH Y; END_EVENT\n\
-        VAR_INPUT X : INT; END_VAR\n\
-        VAR_OUTPUT Y : INT; END_VAR\n\
-        EC_STATES IDLE; RUN : DBL -> DONE; END_STATES\n\
-        EC_TRANSITIONS IDLE TO RUN := GO; RUN TO IDLE := 1; END_TRANSITIONS\n\
-        ALGORITHM DBL IN ST: Y := 2 * X; END_ALGORITHM\n\
-        END_FUNCTION_BLOCK\n\
-        FUNCTION_BLOCK TWICE\n\
-        EVENT_INPUT EI WITH N; END_EVENT\n\
-        EVENT_OUTPUT EO WITH M; END_EVENT\n\
-        VAR_INPUT N : INT; END_VAR\n\
-        VAR_OUTPUT M : INT; END_VAR\n\
-        FBS A : DOUBLER; END_FBS\n\
-        EVENT_CONNECTIONS EI TO A.GO; A.DONE TO EO; END_CONNECTIONS\n\
-        DATA_CONNECTIONS N TO A.X; A.Y TO M; END_CONNECTIONS\n\
-        END_FUNCTION_BLOCK\n\
-        APPLICATION A FBS T : TWICE; END_FBS END_APPLICATION",
-    deploy: "",
-    stimuli: "tick,event,values\n0,T.EI,N=21\n",
-    horizon: 1,
-    steps: ENOUGH,
-    trace: "0 MAIN > T.EI N=21\n\
-        0 MAIN > T.A.GO X=21\n\
-        0 MAIN < T.A.DONE Y=42\n\
-        0 MAIN < T.EO M=42\n\
-        end 1\n",
-    outcome: Outcome::End(1),
+pub const ARRIVAL: Case = Case {
+    run: ARRIVAL_RUN,
+    trace: "0 R1 < S.COLD\n2 R2 > M.EI1\n2 R2 < M.EO\nend 5\n",
 };
 
 pub const RING_TRACE: &str = "0 R0 < S.COLD\n0 R0 > M0.EI2\n0 R0 < M0.EO\n\
@@ -142,7 +129,7 @@ pub const RING_TRACE: &str = "0 R0 < S.COLD\n0 R0 > M0.EI2\n0 R0 < M0.EO\n\
     end 50\n";
 
 /// An event goes round four resources, over links of 1, 2, 3 and 4 ticks.
-pub const RING: Case = Case {
+pub const RING_RUN: Run = Run {
     declaration: "APPLICATION A FBS S : E_RESTART; M0 : E_MERGE; M1 : E_MERGE; M2 : E_MERGE; M3 : E_MERGE; END_FBS\n\
         EVENT_CONNECTIONS S.COLD TO M0.EI2; M0.EO TO M1.EI1; M1.EO TO M2.EI1; M2.EO TO M3.EI1; M3.EO TO M0.EI1;\n\
         END_CONNECTIONS END_APPLICATION",
@@ -161,12 +148,11 @@ pub const RING: Case = Case {
     stimuli: "",
     horizon: 50,
     steps: ENOUGH,
-    trace: RING_TRACE,
     outcome: Outcome::End(50),
 };
 
 /// Two resources that stop in one tick: the first of them stops the run.
-pub const TWO_STOPS: Case = Case {
+pub const TWO_STOPS: Run = Run {
     declaration: looper!("APPLICATION A FBS K : LOOPER; L : LOOPER; END_FBS END_APPLICATION"),
     deploy: "resource = [\n\
         { device = 'D', name = 'R1', instances = ['K'] },\n\
@@ -175,7 +161,6 @@ pub const TWO_STOPS: Case = Case {
     stimuli: "tick,event,values\n7,K.GO,\n7,L.GO,\n",
     horizon: 9,
     steps: 3,
-    trace: "7 R1 > K.GO\n7 R1 < K.TICKED\nstop 7 R1 steps\n",
     outcome: Outcome::Stop(StopMark {
         tick: 7,
         resource: 0,
@@ -184,7 +169,7 @@ pub const TWO_STOPS: Case = Case {
 };
 
 /// The first resource stops at 100, and the second at 50.
-pub const LATER_STOP: Case = Case {
+pub const LATER_STOP: Run = Run {
     declaration: looper!(
         "APPLICATION A FBS M : E_MERGE; L : LOOPER; K : LOOPER; END_FBS END_APPLICATION"
     ),
@@ -196,12 +181,11 @@ pub const LATER_STOP: Case = Case {
     stimuli: "tick,event,values\n7,M.EI1,\n100,L.GO,\n50,K.GO,\n",
     horizon: 200,
     steps: 3,
-    trace: "7 R1 > M.EI1\n7 R1 < M.EO\n50 R2 > K.GO\n50 R2 < K.TICKED\nstop 50 R2 steps\n",
     outcome: STOP_AT_50,
 };
 
 /// Events of the resources before and after it come past the tick of a stop, and leave no lines.
-pub const PAST_A_STOP: Case = Case {
+pub const PAST_A_STOP: Run = Run {
     declaration: looper!(
         "APPLICATION A FBS M : E_MERGE; K : LOOPER; N : E_MERGE; END_FBS END_APPLICATION"
     ),
@@ -214,7 +198,6 @@ pub const PAST_A_STOP: Case = Case {
     stimuli: "tick,event,values\n7,M.EI1,\n52,M.EI1,\n50,K.GO,\n55,N.EI1,\n",
     horizon: 200,
     steps: 3,
-    trace: "7 R1 > M.EI1\n7 R1 < M.EO\n50 R2 > K.GO\n50 R2 < K.TICKED\nstop 50 R2 steps\n",
     outcome: STOP_AT_50,
 };
 

@@ -1,22 +1,18 @@
 //! Jobs that also make the text of the lines that they give.
 
-ghost use Rattle.std.specs.Prelude.{◌≡◌, ◌^◌, ◌≤◌, List};
+ghost use Rattle.std.specs.Prelude.{◌≡◌, ◌^◌, ◌≤◌};
 ghost use Rattle.std.specs.List.{AllZip};
-ghost use Rattle.fb_types.specs.States as model;
-ghost use Rattle.fb_resource.specs.declared.resource.WindowDone.{WindowDone};
 ghost use Rattle.fb_window.specs.Jobs.{Does};
-ghost use Rattle.fb_sim.specs.Rounds.{HasCome};
+ghost use Rattle.fb_window.specs.Reached.{KeepHorizon};
 
-use super::hand::{CAP, HandPlan, RISING, window};
-use super::inputs_of;
-use super::rounds::opened;
-use super::texts::{CYCLE, Case, LATER_STOP, TWO_STOPS};
+use super::rounds::{CAP, opened, system_of};
+use super::texts::{CYCLE_RUN, Run, TWO_STOPS};
 use fb_resource::WindowDone;
-use fb_sim::{discard, open};
+use fb_sim::discard;
 use fb_system::System;
 use fb_trace::MarkedText;
 use fb_types::{Form, Line};
-use fb_window::{Away, Core, Job, Settled};
+use fb_window::{Core, Job};
 use std::alloc::Global;
 use std::mem::forget;
 use std::process::Abort;
@@ -72,7 +68,7 @@ fn run_jobs<R: Abort>(
     ensures { AllZip Does jobs.items result.items }
 {
     let Some(last) = jobs.pop() else {
-        drop(jobs);
+        forget(jobs);
         return Vec::new(alloc);
     };
     let mut dones = run_jobs(rt, alloc, jobs, texts);
@@ -89,44 +85,23 @@ fn run_jobs<R: Abort>(
     dones
 }
 
-/// Takes a core apart.
-fn depart<R: Abort>(
-    rt: &R,
-    alloc: Global,
-    system: &System,
-    core: Core,
-    case: Case,
-) -> (Away, Vec<Job>)
-    requires early { case.horizon ≤ 10 ^ 12 }
-    requires some_steps { 1 ≤ case.steps }
-    requires few_steps { case.steps ≤ 10 ^ 7 }
-    requires come { (ls : List model.Line) × HasCome system.now case.steps case.horizon core ls }
-    ensures system { system.now ≡ result.0.system }
-    ensures done { (dones : List WindowDone) → AllZip Does result.1.items dones
-        → AllZip Does result.0.jobs.value.items dones }
-{
-    system.facts();
-    let bounds = core.bounds(case.horizon, CAP);
-    let Ok((away, jobs)) = core.jobs(alloc, system, bounds) else {
-        panic!(rt; "memory");
-    };
-    (away, jobs)
-}
-
-/// The first round of a run. It returns the lines that are final, for each resource.
+/// The first round of a run, before which nothing is kept. It returns the lines that are final, for each resource.
 fn first_round<R: Abort>(
     rt: &R,
     alloc: Global,
     system: &System,
-    case: Case,
+    core: Core,
+    horizon: u64,
     texts: &mut Vec<MarkedText>,
 ) -> Vec<Vec<Line>>
-    requires early { case.horizon ≤ 10 ^ 12 }
-    requires some_steps { 1 ≤ case.steps }
-    requires few_steps { case.steps ≤ 10 ^ 7 }
+    requires early { horizon ≤ 10 ^ 12 }
+    requires system { core.system ≡ system.now }
+    requires clocks { KeepHorizon horizon core.resources.items }
 {
-    let core = opened(rt, alloc, system, case.steps);
-    let (away, jobs) = depart(rt, alloc, system, core, case);
+    let bounds = core.bounds(horizon, CAP);
+    let Ok((away, jobs)) = core.jobs(alloc, system, bounds) else {
+        panic!(rt; "memory");
+    };
     let dones = run_jobs(rt, alloc, jobs, texts);
     assert!(rt; away.keeps_nothing());
     let Ok((reach, finals)) = away.settle_apart(alloc, system, dones) else {
@@ -144,22 +119,14 @@ fn expect_text<R: Abort>(rt: &R, made: &MarkedText, given: &Given) {
     }
 }
 
-fn system_of<R: Abort>(rt: &R, alloc: Global, case: Case) -> System {
-    let Ok(system) = open(
-        alloc,
-        &inputs_of(case.declaration, case.deploy, case.stimuli),
-    ) else {
-        panic!(rt; "no system");
-    };
-    system
-}
-
 /// The jobs of the first round of a run make these texts.
-fn expect_texts<R: Abort>(rt: &R, alloc: Global, case: Case, given: &[Given]) {
-    assert!(rt; 1 <= case.steps && case.steps <= 10_000_000 && case.horizon <= 1_000_000_000_000);
-    let system = system_of(rt, alloc, case);
+fn expect_texts<R: Abort>(rt: &R, alloc: Global, run: &Run, given: &[Given]) {
+    assert!(rt; 1 <= run.steps && run.steps <= 10_000_000 && run.horizon <= 1_000_000_000_000);
+    let system = system_of(rt, alloc, run);
+    system.facts();
+    let core = opened(rt, alloc, &system, run.steps);
     let mut texts = Vec::new(alloc);
-    let finals = first_round(rt, alloc, &system, case, &mut texts);
+    let finals = first_round(rt, alloc, &system, core, run.horizon, &mut texts);
     assert!(rt; texts.len() == given.len() && finals.len() == given.len());
     for (text, row) in texts.iter().zip(given.iter()) {
         expect_text(rt, text, row);
@@ -167,42 +134,12 @@ fn expect_texts<R: Abort>(rt: &R, alloc: Global, case: Case, given: &[Given]) {
     for (lines, row) in finals.iter().zip(given.iter()) {
         assert!(rt; lines.len() == row.finals);
     }
-    forget(finals);
+    forget((texts, finals));
     discard(system);
-}
-
-/// Whether nothing is kept in the second round of a run, and no resource rests.
-fn second_keeps_nothing<R: Abort>(rt: &R, alloc: Global, case: Case) -> bool {
-    assert!(rt; 1 <= case.steps && case.steps <= 10_000_000 && case.horizon <= 1_000_000_000_000);
-    let system = system_of(rt, alloc, case);
-    let core = opened(rt, alloc, &system, case.steps);
-    let plan = HandPlan {
-        horizon: case.horizon,
-        steps: case.steps,
-        form: Form::One,
-        order: RISING,
-        with_bounds: false,
-    };
-    match window(rt, alloc, &system, core, plan, &mut Vec::new(alloc)) {
-        Settled::Going(next, lines) => {
-            let (away, jobs) = depart(rt, alloc, &system, next, case);
-            let answer = away.keeps_nothing();
-            forget((away, jobs, lines));
-            discard(system);
-            answer
-        }
-        _ => panic!(rt; "it has one round"),
-    }
 }
 
 #[test]
 fn jobs_make_the_text_of_their_lines(rt: HostRuntime) {
-    expect_texts(&rt, rt.alloc(), CYCLE, &CYCLE_GIVES);
-    expect_texts(&rt, rt.alloc(), TWO_STOPS, &TWO_STOPS_GIVE);
-}
-
-/// The first resource stops in the first round, and its lines of that tick are not final yet.
-#[test]
-fn a_later_round_keeps_lines(rt: HostRuntime) {
-    assert!(rt; !second_keeps_nothing(&rt, rt.alloc(), LATER_STOP));
+    expect_texts(&rt, rt.alloc(), &CYCLE_RUN, &CYCLE_GIVES);
+    expect_texts(&rt, rt.alloc(), &TWO_STOPS, &TWO_STOPS_GIVE);
 }

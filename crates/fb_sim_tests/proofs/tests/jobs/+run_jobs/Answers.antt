@@ -1,6 +1,6 @@
 use Rattle.fb_window.specs.Jobs.{Does}
 use Rattle.fb_sim_tests.proofs.Zips.{joined}
-use Rattle.fb_sim_tests.proofs.tests.job_texts.+run_jobs.Goals as goal
+use Rattle.fb_sim_tests.proofs.tests.jobs.+run_jobs.Goals as goal
 
 pub returns : goal.returns
 returns g t c =
