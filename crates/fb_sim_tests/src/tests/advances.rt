@@ -5,7 +5,7 @@
 
 use super::rounds::{WAYS, Way};
 use super::texts::{
-    ARRIVAL, BETWEEN, BETWEEN_RUN, BETWEEN_TRACE, CYCLE, CYCLE_RUN, CYCLE_TRACE, RING_RUN,
+    ARRIVAL, BETWEEN, BETWEEN_RUN, BETWEEN_TRACE, CYCLE, CYCLE_RUN, CYCLE_TRACE, Case, RING_RUN,
     RING_TRACE, Run,
 };
 use super::writers::{ANY, Narrow, page, with_room};
@@ -162,7 +162,9 @@ fn after_a_fault_nothing_is_written(rt: HostRuntime) {
     assert!(rt; matches!(advanced, Err(RunError::Failed)));
     assert!(rt; matches!(ended, Err(RunError::Failed)));
     assert!(rt; later.got.is_empty());
-    forget((at_fault, advanced, ended));
+    forget(at_fault);
+    forget(advanced);
+    forget(ended);
 }
 
 /// What became of a simulation to which memory may have been refused.
@@ -220,21 +222,25 @@ fn try_pieces<R: Threads + Wait + Sync>(
     tried
 }
 
+/// One request was refused if the first try is not open, so the second one has its memory.
+fn expect_failed_for_good<R: Abort + Threads + Wait + Sync>(rt: &R, alloc: Global, case: &Case) {
+    for workers in [1, 2] {
+        let mut out = page(alloc);
+        let mut tried = try_pieces(rt, alloc, &case.run, workers, &mut out);
+        if !tried.is_open {
+            tried = try_pieces(rt, alloc, &case.run, workers, &mut out);
+        }
+        let (trace, got) = (case.trace.as_bytes(), out.got.as_slice());
+        assert!(rt; tried.is_open && tried.stays_failed);
+        assert!(rt; trace.starts_with(got) && (tried.has_failed || got == trace));
+    }
+}
+
 /// A simulation that was once out of memory has failed for good. `tools/refuse.py` runs this with each request refused
 /// in turn. Without that no call fails.
 #[test]
 fn after_out_of_memory_nothing_is_written(rt: HostRuntime) {
-    for case in [&CYCLE, &ARRIVAL, &BETWEEN] {
-        for workers in [1, 2] {
-            let mut out = page(rt.alloc());
-            let mut tried = try_pieces(&rt, rt.alloc(), &case.run, workers, &mut out);
-            if !tried.is_open {
-                // One request was refused, so the second try has its memory.
-                tried = try_pieces(&rt, rt.alloc(), &case.run, workers, &mut out);
-            }
-            let (trace, got) = (case.trace.as_bytes(), out.got.as_slice());
-            assert!(rt; tried.is_open && tried.stays_failed);
-            assert!(rt; trace.starts_with(got) && (tried.has_failed || got == trace));
-        }
-    }
+    expect_failed_for_good(&rt, rt.alloc(), &CYCLE);
+    expect_failed_for_good(&rt, rt.alloc(), &ARRIVAL);
+    expect_failed_for_good(&rt, rt.alloc(), &BETWEEN);
 }

@@ -38,5 +38,7 @@ fn a_number_that_is_kept_is_named(rt: HostRuntime) {
         panic!(rt; "all are home");
     };
     assert!(rt; unfinished.number == 1);
-    forget((seats, other, kept));
+    forget(seats);
+    forget(other);
+    forget(kept);
 }

@@ -91,17 +91,12 @@ pub fn expect_meeting<R: Abort + Threads + Wait + Sync>(
     alloc: Global,
     inputs: &Inputs<'_>,
     options: Options,
-    before: u64,
+    gate: &Meeting,
     (outcome, trace): (Outcome, &[u8]),
 ) {
-    let gate = Meeting::new(options.workers, before);
     let mut out = page(alloc);
-    let found = must(
-        rt,
-        run(rt, alloc, inputs, options, &mut out, &gate),
-        "no run",
-    );
-    assert!(rt; found == outcome && out.got.as_slice() == trace);
+    let found = run(rt, alloc, inputs, options, &mut out, gate);
+    assert!(rt; must(rt, found, "no run") == outcome && out.got.as_slice() == trace);
     assert!(rt; gate.is_over(), "they did not meet");
 }
 
@@ -113,7 +108,14 @@ fn workers_meet(rt: HostRuntime) {
     for workers in [2, 3] {
         let options = to(run.horizon, run.steps, workers);
         let result = (run.outcome, BETWEEN_TRACE.as_bytes());
-        expect_meeting(&rt, rt.alloc(), &inputs, options, 0, result);
+        expect_meeting(
+            &rt,
+            rt.alloc(),
+            &inputs,
+            options,
+            &Meeting::new(workers, 0),
+            result,
+        );
     }
 }
 

@@ -114,7 +114,8 @@ fn first_round<R: Abort>(
 fn expect_text<R: Abort>(rt: &R, made: &MarkedText, given: &Given) {
     assert!(rt; made.text.as_slice() == given.text.as_bytes());
     assert!(rt; made.lines == given.lines && made.marks.len() == given.marks.len());
-    for (mark, (tick, end)) in made.marks.iter().zip(given.marks.iter()) {
+    for (index, (tick, end)) in given.marks.iter().enumerate() {
+        let mark = &made.marks[index];
         assert!(rt; mark.tick == *tick && mark.end == *end);
     }
 }
@@ -134,7 +135,8 @@ fn expect_texts<R: Abort>(rt: &R, alloc: Global, run: &Run, given: &[Given]) {
     for (lines, row) in finals.iter().zip(given.iter()) {
         assert!(rt; lines.len() == row.finals);
     }
-    forget((texts, finals));
+    forget(texts);
+    forget(finals);
     discard(system);
 }
 

@@ -285,5 +285,12 @@ fn workers_meet_in_a_later_round(rt: HostRuntime) {
     assert!(rt; trace.ends_with(LAST_LINES.as_bytes()));
     let options = to(HORIZON, ENOUGH, 2);
     let result = (Outcome::End(HORIZON), trace);
-    expect_meeting(&rt, rt.alloc(), &inputs, options, 3, result);
+    expect_meeting(
+        &rt,
+        rt.alloc(),
+        &inputs,
+        options,
+        &Meeting::new(2, 3),
+        result,
+    );
 }

@@ -5,7 +5,10 @@ ghost use Rattle.fb_sim.specs.Rounds.{HasCome};
 ghost use Rattle.fb_sim.specs.Serial.{AreWithin};
 ghost use Rattle.fb_window.specs.Reached.{KeepHorizon};
 
-use super::rows::{Part, ROWS, Row};
+use super::rows::{
+    ARRIVAL_ROW, BETWEEN_ROW, CYCLE_ROW, LATER_FIRST_ROW, LATER_STOP_ROW, OLD_COPY_ROW,
+    OVERTAKEN_ROW, PAST_A_STOP_ROW, Part, Row, TOGETHER_ROW, TWO_STOPS_ROW,
+};
 use super::texts::Run;
 use super::writers::{ANY, Narrow, with_room};
 use super::{inputs_of, must};
@@ -141,7 +144,7 @@ fn expect_rounds<R: Abort + Threads + Wait + Sync>(
 #[test]
 fn rounds_write_what_has_become_final(rt: HostRuntime) {
     for workers in [1, 2, 64] {
-        expect_rounds(&rt, rt.alloc(), (workers, ANY), &ROWS[0]);
+        expect_rounds(&rt, rt.alloc(), (workers, ANY), &ARRIVAL_ROW);
     }
 }
 
@@ -160,11 +163,26 @@ pub static WAYS: [Way; 12] = [
     (64, ANY),
 ];
 
-#[test]
-fn each_round_has_its_bounds_and_lines(rt: HostRuntime) {
-    for row in &ROWS {
-        for way in &WAYS {
-            expect_rounds(&rt, rt.alloc(), *way, row);
-        }
+fn expect_all_ways<R: Abort + Threads + Wait + Sync>(rt: &R, alloc: Global, row: &Row) {
+    for way in &WAYS {
+        expect_rounds(rt, alloc, *way, row);
     }
+}
+
+#[test]
+fn each_round_of_messages_has_its_bounds_and_lines(rt: HostRuntime) {
+    expect_all_ways(&rt, rt.alloc(), &ARRIVAL_ROW);
+    expect_all_ways(&rt, rt.alloc(), &LATER_FIRST_ROW);
+    expect_all_ways(&rt, rt.alloc(), &OLD_COPY_ROW);
+    expect_all_ways(&rt, rt.alloc(), &OVERTAKEN_ROW);
+    expect_all_ways(&rt, rt.alloc(), &TOGETHER_ROW);
+}
+
+#[test]
+fn each_round_before_a_stop_has_its_bounds_and_lines(rt: HostRuntime) {
+    expect_all_ways(&rt, rt.alloc(), &BETWEEN_ROW);
+    expect_all_ways(&rt, rt.alloc(), &TWO_STOPS_ROW);
+    expect_all_ways(&rt, rt.alloc(), &LATER_STOP_ROW);
+    expect_all_ways(&rt, rt.alloc(), &PAST_A_STOP_ROW);
+    expect_all_ways(&rt, rt.alloc(), &CYCLE_ROW);
 }

@@ -78,170 +78,177 @@ const TOGETHER: Run = Run {
     ..OVERTAKEN
 };
 
-pub static ROWS: [Row; 10] = [
-    // R1 runs to the horizon at once, since nothing can reach it. The arrival at R2 is exactly at the end of its first
-    // window.
-    Row {
-        run: ARRIVAL_RUN,
-        form: Form::One,
-        rounds: &[
-            Part {
-                bounds: &[5, 2],
-                lines: "0 R1 < S.COLD\n",
-            },
-            Part {
-                bounds: &[5, 5],
-                lines: "2 R2 > M.EI1\n\
+/// R1 runs to the horizon at once, since nothing can reach it. The arrival at R2 is exactly at the end of its first
+/// window.
+pub static ARRIVAL_ROW: Row = Row {
+    run: ARRIVAL_RUN,
+    form: Form::One,
+    rounds: &[
+        Part {
+            bounds: &[5, 2],
+            lines: "0 R1 < S.COLD\n",
+        },
+        Part {
+            bounds: &[5, 5],
+            lines: "2 R2 > M.EI1\n\
                     2 R2 < M.EO\n",
-            },
-        ],
-    },
-    Row {
-        run: LATER_FIRST,
-        form: Form::One,
-        rounds: &[
-            Part {
-                bounds: &[6, 6, 2],
-                lines: "1 R2 > B.EI1\n\
+        },
+    ],
+};
+
+pub static LATER_FIRST_ROW: Row = Row {
+    run: LATER_FIRST,
+    form: Form::One,
+    rounds: &[
+        Part {
+            bounds: &[6, 6, 2],
+            lines: "1 R2 > B.EI1\n\
                     1 R2 < B.EO\n\
                     4 R1 > A.EI1\n\
                     4 R1 < A.EO\n",
-            },
-            Part {
-                bounds: &[6, 6, 6],
-                lines: "5 R3 > M.EI1\n\
+        },
+        Part {
+            bounds: &[6, 6, 6],
+            lines: "5 R3 > M.EI1\n\
                     5 R3 < M.EO\n\
                     5 R3 > M.EI2\n\
                     5 R3 < M.EO\n",
-            },
-        ],
-    },
-    Row {
-        run: OLD_COPY,
-        form: Form::One,
-        rounds: &[
-            Part {
-                bounds: &[6, 5],
-                lines: "3 R1 > F.S\n\
+        },
+    ],
+};
+
+pub static OLD_COPY_ROW: Row = Row {
+    run: OLD_COPY,
+    form: Form::One,
+    rounds: &[
+        Part {
+            bounds: &[6, 5],
+            lines: "3 R1 > F.S\n\
                     3 R1 < F.EO Q=TRUE\n",
-            },
-            Part {
-                bounds: &[6, 6],
-                lines: "5 R2 > W.EI G=FALSE\n\
+        },
+        Part {
+            bounds: &[6, 6],
+            lines: "5 R2 > W.EI G=FALSE\n\
                     5 R2 < W.EO0\n\
                     5 R2 > W.EI G=TRUE\n\
                     5 R2 < W.EO1\n",
-            },
-        ],
-    },
-    Row {
-        run: BETWEEN_RUN,
-        form: Form::One,
-        rounds: &[Part {
-            bounds: &[9, 9, 9],
-            lines: "7 R1 > A.EI1\n\
+        },
+    ],
+};
+
+pub static BETWEEN_ROW: Row = Row {
+    run: BETWEEN_RUN,
+    form: Form::One,
+    rounds: &[Part {
+        bounds: &[9, 9, 9],
+        lines: "7 R1 > A.EI1\n\
                     7 R1 < A.EO\n\
                     7 R2 > L.GO\n\
                     7 R2 < L.TICKED\n\
                     7 R2 < L.TICKED\n\
                     7 R2 < L.TICKED\n\
                     7 R2 < L.TICKED\n",
-        }],
-    },
-    Row {
-        run: TWO_STOPS,
-        form: Form::One,
-        rounds: &[Part {
-            bounds: &[9, 9],
-            lines: "7 R1 > K.GO\n\
+    }],
+};
+
+pub static TWO_STOPS_ROW: Row = Row {
+    run: TWO_STOPS,
+    form: Form::One,
+    rounds: &[Part {
+        bounds: &[9, 9],
+        lines: "7 R1 > K.GO\n\
                     7 R1 < K.TICKED\n",
-        }],
-    },
-    // R1 stops at 100 in the first round, and R2 at 50 in the second.
-    Row {
-        run: LATER_STOP,
-        form: Form::One,
-        rounds: &[
-            Part {
-                bounds: &[200, 8],
-                lines: "7 R1 > M.EI1\n\
+    }],
+};
+
+/// R1 stops at 100 in the first round, and R2 at 50 in the second.
+pub static LATER_STOP_ROW: Row = Row {
+    run: LATER_STOP,
+    form: Form::One,
+    rounds: &[
+        Part {
+            bounds: &[200, 8],
+            lines: "7 R1 > M.EI1\n\
                     7 R1 < M.EO\n",
-            },
-            Part {
-                bounds: &[0, 101],
-                lines: "50 R2 > K.GO\n\
+        },
+        Part {
+            bounds: &[0, 101],
+            lines: "50 R2 > K.GO\n\
                     50 R2 < K.TICKED\n",
-            },
-        ],
-    },
-    // All lines before the stop are handed out in the first round, and in the second R3 comes past the stop.
-    Row {
-        run: PAST_A_STOP,
-        form: Form::One,
-        rounds: &[
-            Part {
-                bounds: &[200, 200, 8],
-                lines: "7 R1 > M.EI1\n\
+        },
+    ],
+};
+
+/// All lines before the stop are handed out in the first round, and in the second R3 comes past the stop.
+pub static PAST_A_STOP_ROW: Row = Row {
+    run: PAST_A_STOP,
+    form: Form::One,
+    rounds: &[
+        Part {
+            bounds: &[200, 200, 8],
+            lines: "7 R1 > M.EI1\n\
                     7 R1 < M.EO\n\
                     50 R2 > K.GO\n\
                     50 R2 < K.TICKED\n",
-            },
-            Part {
-                bounds: &[200, 0, 51],
-                lines: "",
-            },
-        ],
-    },
-    Row {
-        run: OVERTAKEN,
-        form: Form::One,
-        rounds: &[
-            Part {
-                bounds: &[14, 11],
-                lines: "8 R1 > P.EI1\n\
+        },
+        Part {
+            bounds: &[200, 0, 51],
+            lines: "",
+        },
+    ],
+};
+
+pub static OVERTAKEN_ROW: Row = Row {
+    run: OVERTAKEN,
+    form: Form::One,
+    rounds: &[
+        Part {
+            bounds: &[14, 11],
+            lines: "8 R1 > P.EI1\n\
                     8 R1 < P.EO\n\
                     10 R1 > Q.EI1\n\
                     10 R1 < Q.EO\n",
-            },
-            Part {
-                bounds: &[14, 14],
-                lines: "11 R2 > M.EI2\n\
+        },
+        Part {
+            bounds: &[14, 14],
+            lines: "11 R2 > M.EI2\n\
                     11 R2 < M.EO\n\
                     13 R2 > M.EI1\n\
                     13 R2 < M.EO\n",
-            },
-        ],
-    },
-    Row {
-        run: TOGETHER,
-        form: Form::One,
-        rounds: &[
-            Part {
-                bounds: &[14, 11],
-                lines: "8 R1 > P.EI1\n\
+        },
+    ],
+};
+
+pub static TOGETHER_ROW: Row = Row {
+    run: TOGETHER,
+    form: Form::One,
+    rounds: &[
+        Part {
+            bounds: &[14, 11],
+            lines: "8 R1 > P.EI1\n\
                     8 R1 < P.EO\n\
                     12 R1 > Q.EI1\n\
                     12 R1 < Q.EO\n",
-            },
-            Part {
-                bounds: &[14, 14],
-                lines: "13 R2 > M.EI1\n\
+        },
+        Part {
+            bounds: &[14, 14],
+            lines: "13 R2 > M.EI1\n\
                     13 R2 < M.EO\n\
                     13 R2 > M.EI2\n\
                     13 R2 < M.EO\n",
-            },
-        ],
-    },
-    // A cycle in one resource, with the keys of the events whose lines these are.
-    Row {
-        run: CYCLE_RUN,
-        form: Form::Two,
-        rounds: &[Part {
-            bounds: &[8],
-            lines: "1 0 0 0 MAIN < S.COLD\n\
+        },
+    ],
+};
+
+/// A cycle in one resource, with the keys of the events whose lines these are.
+pub static CYCLE_ROW: Row = Row {
+    run: CYCLE_RUN,
+    form: Form::Two,
+    rounds: &[Part {
+        bounds: &[8],
+        lines: "1 0 0 0 MAIN < S.COLD\n\
                     3 0 0 0 MAIN > C.START DT=3\n\
                     1 1 0 3 MAIN < C.EO\n\
                     1 1 0 6 MAIN < C.EO\n",
-        }],
-    },
-];
+    }],
+};
