@@ -15,6 +15,8 @@ CYCLE = re.compile(r"\s*#\[cycle\((\w+)\)\]$")
 # An item that brings names, but for one of clauses, a comment, and a word.
 USE = re.compile(r"^(?:pub(?:\([a-z]+\))? )?use [^;]*;", re.M)
 COMMENT = re.compile(r"^\s*//.*", re.M)
+# What names definitions of the logic, and no function: an item that brings them, and a clause.
+GHOST = re.compile(r"^ghost use [^;]*;|^\s*(?:requires|ensures)\b.*", re.M)
 WORD = re.compile(r"\w+")
 # A path's last word, and the path of the first type that its brackets hold.
 PATH = re.compile(r"(?:\w+::)*(\w+)(?:<((?:\w+::)*\w+))?")
@@ -184,8 +186,8 @@ def blank(text):
 
 
 def words_of(text):
-    """Returns the words of a text, without those of its comments and of the items that bring names."""
-    return {*WORD.findall(COMMENT.sub("", USE.sub("", text)))}
+    """Returns the words of a text, without those of its comments, of its clauses and of the items that bring names."""
+    return {*WORD.findall(GHOST.sub("", COMMENT.sub("", USE.sub("", text))))}
 
 
 def unnamed(texts, functions, other_words):

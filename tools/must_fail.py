@@ -200,7 +200,7 @@ class Trial:
         own = {gone for it in holes for gone in (it.proof(), it.cycle_proof)}
         files = [it for it in rtlib.files_of(self.crate.folder) if it.endswith(".antt")]
         kept = [it for it in files if os.path.relpath(os.path.dirname(it), self.crate.folder) not in own]
-        words = {word for it in kept for word in WORD.findall(rtlib.text_of(it))}
+        words = {word for it in kept for word in named_in(self.crate.name, rtlib.text_of(it))}
         return unnamed(texts, [it for it in holes if it.kind in ("free", "own")], words)
 
     def check(self, has_holes):
@@ -230,6 +230,12 @@ class Trial:
         """Returns the line by which each edit is refused, for those that are."""
         found = {edit: refusal(self.crate.name, it, lines) for edit, it in self.functions.items()}
         return {edit: line for edit, line in found.items() if line}
+
+
+def named_in(crate, text):
+    """Returns the words of the paths by which a definition or proof may name a function of the crate, as Rattle.sample.proofs.next.Goals."""
+    path = re.compile(rf"\bRattle\.{re.escape(crate)}\.[^\s(){{}}]*")
+    return {word for it in path.findall(text) for word in WORD.findall(it)}
 
 
 def write_text(file, text):

@@ -10,9 +10,9 @@ import os
 import sys
 import tempfile
 
-from functions import Function, impl_of
+from functions import Function, impl_of, words_of
 from kit import rt, rtlib
-from must_fail import REFUSED, refusal, try_all
+from must_fail import REFUSED, named_in, refusal, try_all
 
 SOURCE = """//! Numbers, for a test of wrong implementations.
 #![tactic(auto)]
@@ -156,6 +156,26 @@ def test_on_impls():
     return [head for head, *named in IMPLS if [*impl_of(head)] != named]
 
 
+# Texts, and which of the functions next, part and least each names: not in what only names definitions.
+NAMING = [
+    ("/// The next number.\npub fn of(number: u32) -> u32\n    ensures next { part number }\n{\n    part(number)\n}\n", {"part"}),
+    ("use crate::range::{next, part};\nghost use Rattle.sample.specs.Ranges.{least};\n", set()),
+    ("    requires { next number }\n    number.least()\n", {"least"}),
+]
+PROVING = [
+    ("use Rattle.sample.proofs.next.Goals as goal\n\npub least : goal.part\n", {"next"}),
+    ("use Rattle.sample.proofs.Steps.{next, least}\nuse Rattle.sample.specs.contracts.part.Goals as part\n", {"part"}),
+    ("use Rattle.other.proofs.next.Goals as goal\n", set()),
+]
+
+
+def test_on_names():
+    """Returns the texts of which other functions would be taken for named than those that are."""
+    functions = {"next", "part", "least"}
+    found = [text for text, named in NAMING if words_of(text) & functions != named]
+    return found + [text for text, named in PROVING if named_in("sample", text) & functions != named]
+
+
 def test_on_what_is_said():
     """Has `refusal` judge sentences of the prover, and returns those that it judges wrongly."""
     outside = Function("src/exec.rt", "exec", "", "free", (1, 3, 8))
@@ -164,10 +184,10 @@ def test_on_what_is_said():
 
 
 def main():
-    failed = test_on_impls() + test_on_what_is_said() + test_on_a_crate()
+    failed = test_on_impls() + test_on_names() + test_on_what_is_said() + test_on_a_crate()
     for it in failed:
         print(f"FAILED: {it}")
-    tried = len(IMPLS) + len(CASES) + len(EDITS)
+    tried = len(IMPLS) + len(NAMING) + len(PROVING) + len(CASES) + len(EDITS)
     print(f"wrong implementations: {tried - len(failed)} of {tried} are judged as they must be")
     return 1 if failed else 0
 
