@@ -23,9 +23,10 @@ failed. With crates it does the same only for these and those below them, on a c
 
 It runs the kit's own `rt ci`, so it proves and judges like that. Some kits cache on the machine what passed, by the checksums of
 everything that it depends on. With such a kit a later run, in another clone too, proves and tries only what changed and what depends
-on that. With others each run is from scratch. Four things differ: a crate that has only tests is proved only with them; all wrong
-implementations of a crate are in one check, each in its own function (tools/must_fail.py); a check gets a second job only if
-a processor would be idle (tools/lanes.py); and both compilers build the program at the same time."""
+on that. With others each run is from scratch. Five things differ: a crate that has only tests is proved only with them, and LLVM does
+not optimize them; all wrong implementations of a crate are in one check, each in its own function (tools/must_fail.py); each check
+has one job, and those with the longest chain of others after them begin first (tools/lanes.py); and both compilers build the program
+at the same time."""
 
 import os
 import re
@@ -61,7 +62,7 @@ import stops
 import traces
 import waves
 import wide
-from kit import EACH, KEEPS, TOP, rt, rtlib
+from kit import EACH, KEEPS, TOP, rt, rtlib, toolchain_with
 from lanes import in_lanes
 from must_fail import add_edits, try_all
 
@@ -89,6 +90,17 @@ WORK = {"tests": 2, "edits": 0.5}
 # The lines of a library whose proof takes as long as both compilers take for the program. By its own few lines the program would begin
 # after everything that can run at the same time, and then alone.
 LINES_OF_COMPILERS = 2000
+# The most jobs of one check. A second one costs a sixth more processor time, and the gate is to take little of it.
+MOST_JOBS = 1
+# A clang that does not optimize. LLVM compiles tests with all that they reach, which takes up to two minutes at -O3.
+QUICK_CLANG = """#!/bin/sh
+for it do
+    shift
+    [ "$it" = -O3 ] && it=-O0
+    set -- "$@" "$it"
+done
+exec {given} "$@"
+"""
 # The line in src/lib.rt of a crate that has only tests.
 TESTS_ALONE = re.compile(r"(//.*\n)*#!\[tactic\(auto\)\]\n(\s*#\[cfg\(test\)\]\nmod \w+;\n)+")
 
@@ -96,11 +108,19 @@ TESTS_ALONE = re.compile(r"(//.*\n)*#!\[tactic\(auto\)\]\n(\s*#\[cfg\(test\)\]\n
 class Crate(rt.Crate):
     """A crate as `rt ci` sees it. One that has only tests is proved with them, and not again without: then it has no code."""
 
+    # A folder like the kit's toolchain, for tests.
+    toolchain = None
+
     def ci(self, flags, tests):
         if not tests and self.has_tests_alone():
             rt.say("all of it is tests: see what is said of these", self.out)
             return 0
         return super().ci(flags, tests)
+
+    def prove(self, *commands):
+        """Proves as the kit does. Tests are compiled by a clang that does not optimize, if there is one."""
+        kits = f"{rt.KIT}/toolchain"
+        return super().prove(*([self.toolchain or it if it == kits and "--test" in words else it for it in words] for words in commands))
 
     def compile_by(self, backend, words, to):
         """Compiles and links a proved program. The kit asks for LLVM's program, and then for that of Rattle's own compiler, when
@@ -232,7 +252,7 @@ def share_processors():
             # (a check of edits proves few of the crate's functions)
             needs = (EACH + needs) // 2 if key[1] == "edits" else needs
             tasks[key] = (waits, int(lines * WORK.get(key[1], 1)) + more, needs, call)
-        return in_lanes(tasks)
+        return in_lanes(tasks, MOST_JOBS)
 
     rt.in_lanes = by_work
 
@@ -316,6 +336,7 @@ def main(words):
         return 1
     with tempfile.TemporaryDirectory(prefix="gate-") as room:
         look = Beside("tools/must_fail_test.py")
+        Crate.toolchain = toolchain_with(room, "clang", QUICK_CLANG)
         call_after_each_run()
         share_processors()
         has_failed = tell_before_the_last_line(Times(room), look)

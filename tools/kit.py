@@ -3,6 +3,7 @@
 import importlib.machinery
 import importlib.util
 import os
+import shlex
 import shutil
 import sys
 
@@ -62,3 +63,16 @@ def crates_as_built():
     rtlib.Crate, rt.Crate.allowed = rt.Crate, rt.handles_of(TOP)
     crates = rtlib.crates_below(TOP)
     return sorted(crates, key=lambda it: len(it.below()))
+
+
+def toolchain_with(room, name, script):
+    """Makes a folder like the kit's toolchain, but that one of its programs is this shell script, in which {given} is the kit's own
+    program, and returns it."""
+    folder, given = f"{room}/toolchain", f"{rtlib.KIT}/toolchain"
+    os.makedirs(f"{folder}/bin")
+    for at in [it for it in os.listdir(given) if it != "bin"] + [f"bin/{it}" for it in os.listdir(f"{given}/bin") if it != name]:
+        os.symlink(f"{given}/{at}", f"{folder}/{at}")
+    with open(f"{folder}/bin/{name}", "w") as it:
+        it.write(script.format(given=shlex.quote(f"{given}/bin/{name}")))
+    os.chmod(f"{folder}/bin/{name}", 0o755)
+    return folder

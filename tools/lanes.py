@@ -2,10 +2,11 @@
 
 The kit gives a proof all processors that no other proof waits for. A check by four jobs takes up to twice the processor time of one by
 a single job, since a job is a copy of the process that checks some functions, and what it made is read back; and the tries of wrong
-implementations wait meanwhile. Here each task has one job, and those with the longest chain of others after them begin first. The proofs
-share what other tasks leave free, and one that all waits for has two jobs: it heads the longest chain, and that takes longer than the
-processors need for all that is left. (By a model of the tasks on four processors that takes four minutes off the gate, and half a minute
-off ./simulate.) A check of few lines always has one job: most of its time is the loading of libraries, which comes before the jobs."""
+implementations wait meanwhile. Here each task has one job, and those with the longest chain of others after them begin first. For
+./simulate, which is waited for, the proofs share what other tasks leave free, and one that all waits for has two jobs: it heads the longest
+chain, and that takes longer than the processors need for all that is left. (By a model of the tasks on four processors that takes half a
+minute off.) A check of few lines always has one job: most of its time is the loading of libraries, which comes before the jobs. The gate is
+to take little processor time, so each of its checks has one job."""
 
 from concurrent.futures import FIRST_COMPLETED, ThreadPoolExecutor, wait
 
@@ -35,14 +36,14 @@ def chains(tasks):
     return after
 
 
-def jobs_of(key, lines, idle, ready, is_urgent):
+def jobs_of(key, lines, idle, ready, is_urgent, most_jobs):
     """Returns how many jobs a task gets that may begin, while `idle` processors are free and `ready` tasks are ready, this one among them."""
     if key[1] not in PROOFS or lines < FEW_LINES:
         return 1
-    return min(max(1 + is_urgent, 1 + idle - ready), MOST_JOBS)
+    return min(max(1 + is_urgent, 1 + idle - ready), most_jobs)
 
 
-def in_lanes(tasks):
+def in_lanes(tasks, most_jobs=MOST_JOBS):
     """Runs tasks side by side, one a processor, as many as memory holds, each once those it waits for have ended, and returns what each gave. A task is
     what it waits for, its work in lines, its memory, and a call that gets what was given and how many jobs it may use."""
     lanes, memory, after = rt.processors(), MEMORY * rt.free(), chains(tasks)
@@ -69,7 +70,7 @@ def in_lanes(tasks):
                     continue
                 # (what has no lines has no work)
                 others = sum(tasks[it][1] > 0 for it in ready[number:])
-                jobs = jobs_of(key, lines, idle, others, is_urgent(key))
+                jobs = jobs_of(key, lines, idle, others, is_urgent(key), most_jobs)
                 jobs = max(1, min(jobs, 1 + int((room / needs - 1) / MORE_MEMORY)))
                 left.remove(key)
                 running[pool.submit(call, given, jobs)] = key, needs * (1 + MORE_MEMORY * (jobs - 1)), jobs
