@@ -7,7 +7,7 @@ ghost use Rattle.fb_window.specs.Reached.{KeepHorizon};
 
 use super::rows::{
     ARRIVAL_ROW, BETWEEN_ROW, CYCLE_ROW, LATER_FIRST_ROW, LATER_STOP_ROW, OLD_COPY_ROW,
-    OVERTAKEN_ROW, PAST_A_STOP_ROW, Part, Row, TOGETHER_ROW, TWO_STOPS_ROW,
+    OVERTAKEN_ROW, PAST_A_STOP_ROW, Part, RING_ROW, Row, TOGETHER_ROW, TWO_STOPS_ROW,
 };
 use super::texts::Run;
 use super::writers::{ANY, Narrow, with_room};
@@ -185,4 +185,9 @@ fn each_round_before_a_stop_has_its_bounds_and_lines(rt: HostRuntime) {
     expect_all_ways(&rt, rt.alloc(), &LATER_STOP_ROW);
     expect_all_ways(&rt, rt.alloc(), &PAST_A_STOP_ROW);
     expect_all_ways(&rt, rt.alloc(), &CYCLE_ROW);
+}
+
+#[test]
+fn each_round_of_a_ring_has_its_bounds_and_lines(rt: HostRuntime) {
+    expect_all_ways(&rt, rt.alloc(), &RING_ROW);
 }

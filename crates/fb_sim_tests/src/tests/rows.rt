@@ -1,7 +1,9 @@
 //! Runs whose rounds were worked out by hand.
 
 use super::ENOUGH;
-use super::texts::{ARRIVAL_RUN, BETWEEN_RUN, CYCLE_RUN, LATER_STOP, PAST_A_STOP, Run, TWO_STOPS};
+use super::texts::{
+    ARRIVAL_RUN, BETWEEN_RUN, CYCLE_RUN, LATER_STOP, PAST_A_STOP, RING_RUN, Run, TWO_STOPS,
+};
 use fb_sim::Outcome;
 use fb_types::Form;
 
@@ -251,4 +253,114 @@ pub static CYCLE_ROW: Row = Row {
                     1 1 0 3 MAIN < C.EO\n\
                     1 1 0 6 MAIN < C.EO\n",
     }],
+};
+
+/// An event goes round a ring of four resources, one link in each round. A resource may send from its clock on, and not
+/// before the least event, so that nothing arrives at the next one until the latency of the link later.
+pub static RING_ROW: Row = Row {
+    run: RING_RUN,
+    form: Form::One,
+    rounds: &[
+        Part {
+            bounds: &[4, 1, 2, 3],
+            lines: "0 R0 < S.COLD\n\
+                    0 R0 > M0.EI2\n\
+                    0 R0 < M0.EO\n",
+        },
+        Part {
+            bounds: &[7, 5, 3, 5],
+            lines: "1 R1 > M1.EI1\n\
+                    1 R1 < M1.EO\n",
+        },
+        Part {
+            bounds: &[9, 8, 7, 6],
+            lines: "3 R2 > M2.EI1\n\
+                    3 R2 < M2.EO\n",
+        },
+        Part {
+            bounds: &[10, 10, 10, 10],
+            lines: "6 R3 > M3.EI1\n\
+                    6 R3 < M3.EO\n",
+        },
+        Part {
+            bounds: &[14, 11, 12, 13],
+            lines: "10 R0 > M0.EI1\n\
+                    10 R0 < M0.EO\n",
+        },
+        Part {
+            bounds: &[17, 15, 13, 15],
+            lines: "11 R1 > M1.EI1\n\
+                    11 R1 < M1.EO\n",
+        },
+        Part {
+            bounds: &[19, 18, 17, 16],
+            lines: "13 R2 > M2.EI1\n\
+                    13 R2 < M2.EO\n",
+        },
+        Part {
+            bounds: &[20, 20, 20, 20],
+            lines: "16 R3 > M3.EI1\n\
+                    16 R3 < M3.EO\n",
+        },
+        Part {
+            bounds: &[24, 21, 22, 23],
+            lines: "20 R0 > M0.EI1\n\
+                    20 R0 < M0.EO\n",
+        },
+        Part {
+            bounds: &[27, 25, 23, 25],
+            lines: "21 R1 > M1.EI1\n\
+                    21 R1 < M1.EO\n",
+        },
+        Part {
+            bounds: &[29, 28, 27, 26],
+            lines: "23 R2 > M2.EI1\n\
+                    23 R2 < M2.EO\n",
+        },
+        Part {
+            bounds: &[30, 30, 30, 30],
+            lines: "26 R3 > M3.EI1\n\
+                    26 R3 < M3.EO\n",
+        },
+        Part {
+            bounds: &[34, 31, 32, 33],
+            lines: "30 R0 > M0.EI1\n\
+                    30 R0 < M0.EO\n",
+        },
+        Part {
+            bounds: &[37, 35, 33, 35],
+            lines: "31 R1 > M1.EI1\n\
+                    31 R1 < M1.EO\n",
+        },
+        Part {
+            bounds: &[39, 38, 37, 36],
+            lines: "33 R2 > M2.EI1\n\
+                    33 R2 < M2.EO\n",
+        },
+        Part {
+            bounds: &[40, 40, 40, 40],
+            lines: "36 R3 > M3.EI1\n\
+                    36 R3 < M3.EO\n",
+        },
+        Part {
+            bounds: &[44, 41, 42, 43],
+            lines: "40 R0 > M0.EI1\n\
+                    40 R0 < M0.EO\n",
+        },
+        Part {
+            bounds: &[47, 45, 43, 45],
+            lines: "41 R1 > M1.EI1\n\
+                    41 R1 < M1.EO\n",
+        },
+        Part {
+            bounds: &[49, 48, 47, 46],
+            lines: "43 R2 > M2.EI1\n\
+                    43 R2 < M2.EO\n",
+        },
+        Part {
+            bounds: &[50, 50, 50, 50],
+            lines: "46 R3 > M3.EI1\n\
+                    46 R3 < M3.EO\n",
+        },
+    ],
 };
