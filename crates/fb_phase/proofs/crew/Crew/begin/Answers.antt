@@ -1,4 +1,4 @@
-use Rattle.std.proofs.Common.{All}
+use Rattle.std.proofs.Common.{All, ap, ◌∙◌}
 use Rattle.std.proofs.lemmas.List.Elements.{All-drop}
 use Rattle.fb_board.specs.Models.{BoardModel, IsIdleSeatOf, IsNewSeatOf, SeatModel}
 use Rattle.fb_phase.proofs.crew.Crew.begin.Goals as goal
@@ -14,3 +14,6 @@ shifts-requires-after_bounds g c κs within =
     let idle : All (IsIdleSeatOf board) seats = λ k d few. new_is_idle board _ (c.in_ok-board.ensures.seats.1 k d few) in
     let left : All (IsIdleSeatOf board) c.remove-seat.new.self.items = rw c.remove-seat.ensures.items (All-drop (IsIdleSeatOf board) 1 seats idle) in
     rw c.in-Ok.ensures.ok left
+
+pub returns : goal.returns
+returns g c = ap (λ b. b.jobs) c.in-Ok.ensures.ok ∙ c.in_ok-board.ensures.jobs
