@@ -102,6 +102,12 @@ module _ {A : Type 0} where
   at_push (x ∷ xs) a b zero e = inl e
   at_push (x ∷ xs) a b (suc j) e = ⊎_elim inl (λ (t : (j ≡ length xs) × (a ≡ b)). inr (ap suc t.0, t.1)) (at_push xs a b j e)
 
+  pub slice_get_push : (l : List A) (a b : A) (j : ℕ) → slice_get (l ++ a ∷ []) j ≡ Some b → (slice_get l j ≡ Some b) ⊎ ((j ≡ length l) × (a ≡ b))
+  slice_get_push [] a b zero e = let p : a ≡ b = cc in inr (refl, p)
+  slice_get_push [] a b (suc j) e = absurd cc
+  slice_get_push (x ∷ xs) a b zero e = inl e
+  slice_get_push (x ∷ xs) a b (suc j) e = ⊎_elim inl (λ (t : (j ≡ length xs) × (a ≡ b)). inr (ap suc t.0, t.1)) (slice_get_push xs a b j e)
+
 -- 1 if k is below n, and else 0
 abbrev pub below : ℕ → ℕ → ℕ
 below k n = if nat_lt k n then 1 else 0
