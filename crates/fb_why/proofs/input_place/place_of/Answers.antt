@@ -1,0 +1,25 @@
+use Rattle.std.proofs.Common.{◌≡◌, Option, Some, refl, sym, ap, ◌∙◌, subst}
+use Rattle.std.specs.Option.{option_map}
+use Rattle.fb_read.specs.Blank.{Text}
+use Rattle.fb_read.specs.declared.token.Span.{Span}
+use Rattle.fb_inputs.specs.declared.position.StimuliPosition.{StimuliPosition}
+use Rattle.fb_read_positions.specs.Locations.{IsLocation, IsStretch}
+use Rattle.fb_read_positions.specs.declared.text_locations.TextLocation.{TextLocation}
+use Rattle.fb_why.specs.InputPlaces.{IsNearIn, IsPlaceFor, row_of}
+use Rattle.fb_why.specs.declared.input_place.InputFile.TheVariants as file
+use Rattle.fb_why.specs.declared.input_place.InputPosition.{InputPosition}
+use Rattle.fb_why.specs.declared.input_place.InputPosition.TheVariants as input
+use Rattle.fb_why.proofs.input_place.place_of.Goals as goal
+
+-- the location of the bytes that are nearest to a position in the stimuli is its place
+place_in_rows : (deploy stimuli : Option Text) (position : Option InputPosition) (row : StimuliPosition) (bytes : Text) (span : Span) (location : TextLocation)
+    → position ≡ Some (input.Stimuli row) → stimuli ≡ Some bytes → IsNearIn stimuli (row_of position) span → IsStretch span.start span.end location → IsLocation bytes location
+    → IsPlaceFor deploy stimuli position (Some (record { file = file.Stimuli; at = location }))
+place_in_rows deploy stimuli position row bytes span location is given near there located =
+    let nearest = subst (λ s. IsNearIn s row span) given (subst (λ p. IsNearIn stimuli (row_of p) span) is near) in
+    subst (λ p. IsPlaceFor deploy stimuli p (Some (record { file = file.Stimuli; at = location }))) (sym is)
+    (bytes, given, refl, record { span = span; near = nearest; there = there; located = located })
+
+pub returns-in_ok-at-in-Stimuli : goal.returns-in_ok-at-in-Stimuli
+returns-in_ok-at-in-Stimuli c = place_in_rows _ _ _ _ _ _ _ (c.in_ok-position.was ∙ ap (λ p. Some p) c.in-Stimuli.is)
+    (ap (option_map (λ b. b.now)) c.in_ok-stimuli-in-Stimuli.was) c.requires c.in_ok-at-in-Stimuli.ensures.there c.in_ok-at-in-Stimuli.ensures.location
