@@ -7,11 +7,13 @@ use fb_read_positions::Text;
 use fb_types::{Body, Expr, Stmt};
 use std::alloc::{AllocError, Global};
 
-/// An algorithm or a guard, by the indexes of its block type and its own.
+/// A part of a basic type: an algorithm or a guard, by the indexes of the type and its own, or a list of the type.
 #[derive(Clone, Copy, PartialEq, Eq)]
 pub(crate) enum Source {
     Algorithm(usize, usize),
     Guard(usize, usize),
+    States(usize),
+    Algorithms(usize),
 }
 
 /// The text of an algorithm or of a guard.
@@ -19,13 +21,6 @@ pub(crate) enum Source {
 pub(crate) enum SourceText<'a> {
     Body(&'a Body),
     Guard(&'a Expr),
-}
-
-/// A list of a basic type, by the index of the type.
-#[derive(Clone, Copy, PartialEq, Eq)]
-pub(crate) enum NameList {
-    States(usize),
-    Algorithms(usize),
 }
 
 /// What the last algorithm or guard consists of, and the names of the last list. Findings follow the order of the text,
@@ -40,7 +35,7 @@ pub(crate) struct Contents<'a> {
     mentioned: Option<Source>,
     mentions: Vec<Mention<'a>>,
     /// The list that has these names.
-    named: Option<NameList>,
+    named: Option<Source>,
     names: String,
 }
 
@@ -103,7 +98,7 @@ impl<'a> Contents<'a> {
     }
 
     /// Adds the names of a list, which has these items.
-    pub fn push_names<T: Named>(&mut self, text: &mut Text, list: NameList, items: &[T]) {
+    pub fn push_names<T: Named>(&mut self, text: &mut Text, list: Source, items: &[T]) {
         if self.named != Some(list) {
             let mut names = Text::new(self.alloc);
             names.names(items);

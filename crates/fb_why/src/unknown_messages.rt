@@ -1,6 +1,6 @@
 //! The text for an unknown name (E21), after the words for its position: what was expected there.
 
-use crate::contents::{Contents, NameList, Source, SourceText};
+use crate::contents::{Contents, Source, SourceText};
 use fb_check_names::{PortKind, Side, UnknownName};
 use fb_check_types::mentions::Mention;
 use fb_read_positions::headings::basic_at;
@@ -9,8 +9,8 @@ use fb_read_positions::{
     name_at,
 };
 use fb_types::{
-    BasicType, BlockType, CompositeType, Connection, Instance, Library, Link, Name, Network, Plan,
-    ResourceEntry, instance_named,
+    BasicType, BlockType, CompositeType, Connection, Instance, Library, Name, Network, Plan,
+    instance_named,
 };
 use std::alloc::AllocError;
 
@@ -102,12 +102,12 @@ fn push_in_basic<'a>(
         BasicPart::Transition(_, TransitionPart::From | TransitionPart::To) => {
             text.named(": ", &basic.name);
             text.named(" has no state ", required);
-            contents.push_names(text, NameList::States(block), basic.states.as_slice());
+            contents.push_names(text, Source::States(block), basic.states.as_slice());
         }
         BasicPart::Action(_, _) => {
             text.named(": ", &basic.name);
             text.named(" has no algorithm ", required);
-            let list = NameList::Algorithms(block);
+            let list = Source::Algorithms(block);
             contents.push_names(text, list, basic.algorithms.as_slice());
         }
         BasicPart::OutputAlone(_, _) | BasicPart::OutputAfter(_, _) => {
@@ -185,38 +185,28 @@ fn push_mention(text: &mut Text, basic: &BasicType, mention: Result<Option<Menti
     }
 }
 
-/// Adds which instance of this resource the application lacks.
-fn push_mapped(text: &mut Text, library: &Library, resource: &ResourceEntry, instance: usize) {
-    text.named("resource ", &resource.name);
-    if let Some(instance) = resource.instances.get(instance) {
-        text.named(": instance ", instance);
-        text.named(": application ", &library.application.name);
-        text.named(" has no instance ", instance);
-    }
-}
-
-/// Adds which resource at an end of this link there is not.
-fn push_link_end(text: &mut Text, link: &Link, side: Side) {
-    text.named("link from ", &link.from);
-    text.named(" to ", &link.to);
-    let required = match side {
-        Side::From => &link.from,
-        Side::To => &link.to,
-    };
-    text.named(": there is no resource ", required);
-}
-
 /// Adds what is unknown in the deployment.
 fn push_in_plan(text: &mut Text, library: &Library, plan: &Plan, name: UnknownName) {
     match name {
         UnknownName::Mapped { resource, instance } => {
             if let Some(resource) = plan.resources.get(resource) {
-                push_mapped(text, library, resource, instance);
+                text.named("resource ", &resource.name);
+                if let Some(instance) = resource.instances.get(instance) {
+                    text.named(": instance ", instance);
+                    text.named(": application ", &library.application.name);
+                    text.named(" has no instance ", instance);
+                }
             }
         }
         UnknownName::LinkEnd { link, side } => {
             if let Some(link) = plan.links.get(link) {
-                push_link_end(text, link, side);
+                text.named("link from ", &link.from);
+                text.named(" to ", &link.to);
+                let required = match side {
+                    Side::From => &link.from,
+                    Side::To => &link.to,
+                };
+                text.named(": there is no resource ", required);
             }
         }
         _ => {}
