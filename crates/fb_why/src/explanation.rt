@@ -1,13 +1,14 @@
 //! The explanation of a refusal, of a warning, or of the reason of a stop.
 
-ghost use Rattle.std.specs.Prelude.{◌≡◌, ◌++◌, ◌∷◌, [], true, Contains, IfSome, codes, is_some, map};
+ghost use Rattle.std.specs.Prelude.{◌≡◌, ◌++◌, ◌∷◌, [], true, Contains, IfSome, codes, drop, is_some, map, take};
 ghost use Rattle.std.specs.List.{list_any};
 ghost use Rattle.std.specs.Str.{str_eq_ignore_ascii_case};
 ghost use Rattle.fb_why.specs.Explained as spec;
 ghost use Rattle.fb_why.specs.Explained.{explained};
 
 use crate::table::{
-    Explanation, OF_CHECKS, OF_DECLARATIONS, OF_INPUTS, OF_RULES, OF_STOPS, OF_WARNINGS,
+    Explanation, OF_CHECKS, OF_DECLARATIONS, OF_INPUTS, OF_MAPPINGS, OF_MORE_WARNINGS, OF_RULES,
+    OF_STOPS, OF_WARNINGS,
 };
 
 // A search needs only the names in a table. So each table is lent by a function whose contract is about the names only.
@@ -25,9 +26,15 @@ fn of_inputs() -> &'static [Explanation]
 }
 
 fn of_checks() -> &'static [Explanation]
-    ensures { map (λ e. e.name.now) result.now ≡ spec.of_checks ++ codes "file fault" ∷ [] }
+    ensures { map (λ e. e.name.now) result.now ≡ take 6 spec.of_checks }
 {
     &OF_CHECKS
+}
+
+fn of_mappings() -> &'static [Explanation]
+    ensures { map (λ e. e.name.now) result.now ≡ drop 6 spec.of_checks ++ codes "file fault" ∷ [] }
+{
+    &OF_MAPPINGS
 }
 
 fn of_rules() -> &'static [Explanation]
@@ -37,9 +44,15 @@ fn of_rules() -> &'static [Explanation]
 }
 
 fn of_warnings() -> &'static [Explanation]
-    ensures { map (λ e. e.name.now) result.now ≡ spec.of_warnings }
+    ensures { map (λ e. e.name.now) result.now ≡ take 6 spec.of_warnings }
 {
     &OF_WARNINGS
+}
+
+fn of_more_warnings() -> &'static [Explanation]
+    ensures { map (λ e. e.name.now) result.now ≡ drop 6 spec.of_warnings }
+{
+    &OF_MORE_WARNINGS
 }
 
 fn of_stops() -> &'static [Explanation]
@@ -78,7 +91,9 @@ pub fn explain(name: &str) -> Option<Explanation>
     look_up(of_declarations(), name)
         .or(look_up(of_inputs(), name))
         .or(look_up(of_checks(), name))
+        .or(look_up(of_mappings(), name))
         .or(look_up(of_rules(), name))
         .or(look_up(of_warnings(), name))
+        .or(look_up(of_more_warnings(), name))
         .or(look_up(of_stops(), name))
 }

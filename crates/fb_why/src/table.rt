@@ -15,7 +15,7 @@ pub struct Explanation {
     pub look: &'static str,
 }
 
-// Six tables, since the proof of the function that lends one takes time in the square of its text. docs/FORMATS.md
+// Eight tables, since the proof of the function that lends one takes time in the square of its text. docs/FORMATS.md
 // shows them one after another; `tools/explained.py` compares.
 
 /// Refusals of the text of a declaration.
@@ -110,8 +110,8 @@ pub static OF_INPUTS: [Explanation; 7] = [
     },
 ];
 
-/// Refusals of the check, and faults of files.
-pub static OF_CHECKS: [Explanation; 12] = [
+/// Refusals of the check for what a declaration says.
+pub static OF_CHECKS: [Explanation; 6] = [
     Explanation {
         name: "E20",
         meaning: "A name, an event connection or a link is given twice.",
@@ -154,6 +154,10 @@ pub static OF_CHECKS: [Explanation; 12] = [
         other: "A type that has an instance of a type that has an instance of the first one.",
         look: "The types of the instances in FBS, from type to type. Types that no instance uses count too.",
     },
+];
+
+/// Refusals of the check for mappings, links, stimuli and limits, and faults of files.
+pub static OF_MAPPINGS: [Explanation; 6] = [
     Explanation {
         name: "E26",
         meaning: "An instance of the application is in no resource, or in two.",
@@ -245,7 +249,7 @@ pub static OF_RULES: [Explanation; 6] = [
 ];
 
 /// Warnings about inputs that are accepted.
-pub static OF_WARNINGS: [Explanation; 13] = [
+pub static OF_WARNINGS: [Explanation; 6] = [
     Explanation {
         name: "L01",
         meaning: "No event input of the block type samples a data input.",
@@ -288,6 +292,10 @@ pub static OF_WARNINGS: [Explanation; 13] = [
         other: "A transition that names the wrong state before TO.",
         look: "Whether the block is meant to react to no event after it has entered this state.",
     },
+];
+
+/// More of these warnings.
+pub static OF_MORE_WARNINGS: [Explanation; 7] = [
     Explanation {
         name: "L07",
         meaning: "A transition is never taken: an earlier one of the same state clears whenever it would.",

@@ -1,4 +1,4 @@
-use Rattle.std.proofs.Common.{◌≡◌, ◌||◌, Bool, List, [], ◌∷◌, ◌++◌, Option, Some, None, true, map, is_some, refl, sym, subst, ◌∙◌, ap}
+use Rattle.std.proofs.Common.{◌≡◌, ◌||◌, Bool, List, [], ◌∷◌, ◌++◌, Option, Some, None, true, drop, map, take, is_some, refl, sym, subst, ◌∙◌, ap}
 use Rattle.std.specs.Option.{option_or}
 use Rattle.std.specs.Prelude.{IfSome, codes}
 use Rattle.std.specs.List.{list_any}
@@ -47,16 +47,20 @@ returns-clause-named c =
     let n = c.args.name.now in
     let given = named n _ _ _ c.or.ensures c.look_up.ensures.named c.look_up-2.ensures.named in
     let checks = named n _ _ _ c.or-2.ensures given c.look_up-3.ensures.named in
-    let ruled = named n _ _ _ c.or-3.ensures checks c.look_up-4.ensures.named in
-    let warned = named n _ _ _ c.or-4.ensures ruled c.look_up-5.ensures.named in
-    named n _ _ _ c.or-5.ensures warned c.look_up-6.ensures.named
+    let mapped = named n _ _ _ c.or-3.ensures checks c.look_up-4.ensures.named in
+    let ruled = named n _ _ _ c.or-4.ensures mapped c.look_up-5.ensures.named in
+    let warned = named n _ _ _ c.or-5.ensures ruled c.look_up-6.ensures.named in
+    let more = named n _ _ _ c.or-6.ensures warned c.look_up-7.ensures.named in
+    named n _ _ _ c.or-7.ensures more c.look_up-8.ensures.named
 
 pub returns-clause-all : goal.returns-clause-all
 returns-clause-all c =
     let n = c.args.name.now in
     let declared = c.look_up.ensures.found ∙ among_names n c.of_declarations.result.now of_declarations c.of_declarations.ensures in
     let given = after n of_declarations of_inputs c.of_inputs.result.now _ _ _ c.or.ensures declared c.of_inputs.ensures c.look_up-2.ensures.found in
-    let checks = after n (of_declarations ++ of_inputs) checked c.of_checks.result.now _ _ _ c.or-2.ensures given c.of_checks.ensures c.look_up-3.ensures.found in
-    let ruled = after n (of_declarations ++ of_inputs ++ checked) of_rules c.of_rules.result.now _ _ _ c.or-3.ensures checks c.of_rules.ensures c.look_up-4.ensures.found in
-    let warned = after n (of_declarations ++ of_inputs ++ checked ++ of_rules) of_warnings c.of_warnings.result.now _ _ _ c.or-4.ensures ruled c.of_warnings.ensures c.look_up-5.ensures.found in
-    after n (of_declarations ++ of_inputs ++ checked ++ of_rules ++ of_warnings) of_stops c.of_stops.result.now _ _ _ c.or-5.ensures warned c.of_stops.ensures c.look_up-6.ensures.found
+    let checks = after n (of_declarations ++ of_inputs) (take 6 of_checks) c.of_checks.result.now _ _ _ c.or-2.ensures given c.of_checks.ensures c.look_up-3.ensures.found in
+    let mapped = after n (of_declarations ++ of_inputs ++ take 6 of_checks) (drop 6 of_checks ++ codes "file fault" ∷ []) c.of_mappings.result.now _ _ _ c.or-3.ensures checks c.of_mappings.ensures c.look_up-4.ensures.found in
+    let ruled = after n (of_declarations ++ of_inputs ++ checked) of_rules c.of_rules.result.now _ _ _ c.or-4.ensures mapped c.of_rules.ensures c.look_up-5.ensures.found in
+    let warned = after n (of_declarations ++ of_inputs ++ checked ++ of_rules) (take 6 of_warnings) c.of_warnings.result.now _ _ _ c.or-5.ensures ruled c.of_warnings.ensures c.look_up-6.ensures.found in
+    let more = after n (of_declarations ++ of_inputs ++ checked ++ of_rules ++ take 6 of_warnings) (drop 6 of_warnings) c.of_more_warnings.result.now _ _ _ c.or-6.ensures warned c.of_more_warnings.ensures c.look_up-7.ensures.found in
+    after n (of_declarations ++ of_inputs ++ checked ++ of_rules ++ of_warnings) of_stops c.of_stops.result.now _ _ _ c.or-7.ensures more c.of_stops.ensures c.look_up-8.ensures.found
