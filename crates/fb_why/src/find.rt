@@ -13,7 +13,7 @@ use crate::hints::misses_semicolon;
 use fb_read::read::span_before;
 use fb_read::token::Located;
 use fb_read::{ReadFault, Refusal, TextFault, discard, read_located};
-use fb_read_positions::{TextLocation, location_at, tokens_of};
+use fb_read_positions::{TextLocation, discard as discard_tokens, location_at, tokens_of};
 use std::alloc::{AllocError, Global};
 
 /// Why a declaration text is refused, and where it shows.
@@ -43,8 +43,14 @@ fn end_of_last(alloc: Global, text: &[u8], tokens: &[Located]) -> Option<usize>
 fn end_of_tokens(alloc: Global, text: &[u8]) -> Option<usize>
     ensures { IfSome result (EndsAt text.now) }
 {
-    let tokens = tokens_of(alloc, text).ok()?;
-    end_of_last(alloc, text, tokens.as_slice())
+    match tokens_of(alloc, text) {
+        Ok(tokens) => {
+            let end = end_of_last(alloc, text, tokens.as_slice());
+            discard_tokens(tokens);
+            end
+        }
+        Err(_) => None,
+    }
 }
 
 /// The end of the last token before an offset, if a line ends between them.

@@ -3,7 +3,7 @@
 
 use fb_read::Expected;
 use fb_read::token::{Located, Mark, Token};
-use fb_read_positions::{Text, tokens_of};
+use fb_read_positions::{Text, discard, tokens_of};
 use std::alloc::Global;
 
 /// Words of IEC 61131-3 that the profile leaves out.
@@ -62,11 +62,13 @@ pub(crate) fn push_else_if(alloc: Global, message: &mut Text, before: &[u8], exp
     if !is_among(b"END_IF", expected) {
         return;
     }
-    if let Ok(tokens) = tokens_of(alloc, before) {
-        if has_else_if(tokens.as_slice()) {
-            message.words(" (ELSE IF begins another IF with an END_IF of its own, ELSIF does not)");
-        }
+    let Ok(tokens) = tokens_of(alloc, before) else {
+        return;
+    };
+    if has_else_if(tokens.as_slice()) {
+        message.words(" (ELSE IF begins another IF with an END_IF of its own, ELSIF does not)");
     }
+    discard(tokens);
 }
 
 // ---- Times with a fraction, as `T#1.5s`, and how they are written in whole numbers.
