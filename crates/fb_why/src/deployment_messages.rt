@@ -3,7 +3,7 @@
 use fb_inputs::{DeployKey, DeployLocation, TableFault, TableLocation};
 use fb_read_positions::Text;
 use std::alloc::{AllocError, Global};
-use toml::Table;
+use toml::{Table, Value};
 
 /// What is wrong at a location of a deployment, and what was expected there.
 pub fn deployment_message(
@@ -146,7 +146,13 @@ fn table_at(keys: &Table, table: TableLocation) -> Option<&Table> {
 
 /// The table at an index of the array of tables at a key.
 pub(crate) fn item_at<'a>(keys: &'a Table, key: &str, index: usize) -> Option<&'a Table> {
-    keys.get(key)?.as_array()?.get(index)?.as_table()
+    let Some(Value::Array(items)) = keys.get(key) else {
+        return None;
+    };
+    match items.get(index) {
+        Some(Value::Table(found)) => Some(found),
+        _ => None,
+    }
 }
 
 /// Adds the latency of an entry of a link, or the latency of a link without entries.

@@ -30,7 +30,6 @@ fn kind_at(position: Position) -> &'static str {
 }
 
 /// Adds which two ports or variables of a block type have one name (E20).
-/// Adds which two ports or variables of a block type have one name.
 fn push_ports(text: &mut Text, library: &Library, block: usize, pair: Repeat) {
     let Some(declared) = library.blocks.get(block) else {
         return;

@@ -4,7 +4,7 @@ use crate::deployment_messages::{item_at, push_further};
 use fb_expect::{RuleFault, RuleKey, RulesLocation, key_text};
 use fb_read_positions::words::{Text, front};
 use std::alloc::{AllocError, Global};
-use toml::Table;
+use toml::{Table, Value};
 
 /// Where rules are refused, and what was expected there.
 pub fn rules_message(
@@ -128,13 +128,10 @@ pub fn unknown_key_message(alloc: Global, rule: usize, key: RuleKey) -> Result<S
 /// Adds a key and its text, which is no pattern.
 fn push_pattern(text: &mut Text, keys: Option<&Table>, key: RuleKey) {
     text.phrase(&[key_text(key), ": "]);
-    if let Some(written) = text_at(keys, key) {
-        text.quoted(written.as_bytes());
+    if let Some(keys) = keys {
+        if let Some(Value::String(written)) = keys.get(key_text(key)) {
+            text.quoted(written.as_bytes());
+        }
     }
     text.words(" is no pattern");
-}
-
-/// The text at a key of a rule.
-fn text_at(keys: Option<&Table>, key: RuleKey) -> Option<&str> {
-    keys?.get(key_text(key))?.as_str()
 }
