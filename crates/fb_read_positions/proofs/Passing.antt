@@ -5,19 +5,25 @@ use Rattle.std.specs.Prelude.{Some, None, Result, if◌then◌else◌}
 use Rattle.fb_types.specs.Names.{Name}
 use Rattle.fb_types.specs.declared.library.Action.{Action}
 use Rattle.fb_read.specs.Charts.{action}
+use Rattle.fb_read.specs.Network.{application}
 use Rattle.fb_read.specs.Nodes.{action_of}
 use Rattle.fb_read.specs.Parser.{Outcome, Reads, ◌>>=◌, ◌>>◌, and_then, pure, refuse, eat, expect, name, name_if, sees, sees_name, rest_of, after, syntax}
 use Rattle.fb_read.specs.Tokens.{Tokens}
 use Rattle.fb_read.specs.declared.fault.ParseFault.{ParseFault}
 use Rattle.fb_read.specs.declared.token.Mark.TheVariants as mark
 use Rattle.fb_read.specs.declared.token.Token.TheVariants as token
-use Rattle.fb_read_positions.specs.Walks.{Walk, after_name, pass_actions, passed, skip, take, take_all}
+use Rattle.fb_read_positions.specs.Walks.{Walk, after_name, pass_actions, passed, past_application, skip, take, take_all}
 use Rattle.fb_read_positions.specs.declared.step.Step.TheVariants as step
 use Rattle.fb_read_positions.proofs.Steps.{fault_at, fault_on, pass_fault, pass_more, then_on}
 
 -- what is the same outcome was read too
 pub read_as : {A : Type 0} (o p : Outcome A) (read : Result A ParseFault) (new : Tokens) → o ≡ p → Reads p read new → Reads o read new
 read_as {A} o p read new same r = subst (λ (x : Outcome A). Reads x read new) (sym same) r
+
+-- ---- The application
+
+pub application_passed : (ts : Tokens) (b : Bool) → b ≡ sees mark.Application ts → b ≡ true → past_application ts ≡ skip application ts
+application_passed ts b found seen = ap (λ (x : Bool). if x then skip application ts else Ok (tt, ts)) (sym found ∙ seen)
 
 -- ---- Names
 
