@@ -1,35 +1,50 @@
 //! Where a refusal applies to inputs that can be read.
 
-ghost use Rattle.std.specs.Prelude.{◌≡◌, IfOk, slice_get};
+ghost use Rattle.std.specs.Prelude.{◌≡◌, IfOk, length, slice_get};
 ghost use Rattle.fb_why.specs.Listings.{AreSpots, spots_of};
 
 use crate::spot::Spot;
 use fb_check::{Case, Fault, Refusal, why_refused};
 use std::alloc::{AllocError, Global};
 
-/// What a list has at an index.
-fn at<T: Copy>(found: &[T], index: usize) -> Option<T>
-    ensures { result ≡ slice_get found.now index }
+/// How many locations a refusal has.
+fn count(refusal: &Refusal) -> usize
+    ensures { result ≡ length (spots_of refusal.now) }
 {
-    found.get(index).copied()
+    match refusal {
+        Refusal::Twice(found) => found.len(),
+        Refusal::NameUnknown(found) => found.len(),
+        Refusal::KindWrong(found) => found.len(),
+        Refusal::OutOfRange(found) => found.len(),
+        Refusal::TwoSources(found) => found.len(),
+        Refusal::TooHigh(_) => 1,
+        Refusal::NotMapped(found) => found.len(),
+        Refusal::NoLink(found) => found.len(),
+        Refusal::NoEvent(found) => found.len(),
+        Refusal::BadStimulus(found) => found.len(),
+        Refusal::OverLimit(_) => 1,
+    }
 }
 
 /// The location at an index among those of a refusal.
 fn spot_at(refusal: &Refusal, index: usize) -> Option<Spot>
     ensures { result ≡ slice_get (spots_of refusal.now) index }
 {
+    if index >= count(refusal) {
+        return None;
+    }
     match refusal {
-        Refusal::Twice(found) => Some(Spot::Twice(at(found, index)?)),
-        Refusal::NameUnknown(found) => Some(Spot::Unknown(at(found, index)?)),
-        Refusal::KindWrong(found) => Some(Spot::Misfit(at(found, index)?)),
-        Refusal::OutOfRange(found) => Some(Spot::Misjoin(at(found, index)?)),
-        Refusal::TwoSources(found) => Some(Spot::Joined(at(found, index)?)),
-        Refusal::TooHigh(descent) => (index == 0).then_some(Spot::TooHigh(*descent)),
-        Refusal::NotMapped(found) => Some(Spot::Unmapped(at(found, index)?)),
-        Refusal::NoLink(found) => Some(Spot::Unlinked(at(found, index)?)),
-        Refusal::NoEvent(found) => Some(Spot::Unserved(at(found, index)?)),
-        Refusal::BadStimulus(found) => Some(Spot::Stimulus(at(found, index)?)),
-        Refusal::OverLimit(limit) => (index == 0).then_some(Spot::Limit(*limit)),
+        Refusal::Twice(found) => Some(Spot::Twice(found[index])),
+        Refusal::NameUnknown(found) => Some(Spot::Unknown(found[index])),
+        Refusal::KindWrong(found) => Some(Spot::Misfit(found[index])),
+        Refusal::OutOfRange(found) => Some(Spot::Misjoin(found[index])),
+        Refusal::TwoSources(found) => Some(Spot::Joined(found[index])),
+        Refusal::TooHigh(descent) => Some(Spot::TooHigh(*descent)),
+        Refusal::NotMapped(found) => Some(Spot::Unmapped(found[index])),
+        Refusal::NoLink(found) => Some(Spot::Unlinked(found[index])),
+        Refusal::NoEvent(found) => Some(Spot::Unserved(found[index])),
+        Refusal::BadStimulus(found) => Some(Spot::Stimulus(found[index])),
+        Refusal::OverLimit(limit) => Some(Spot::Limit(*limit)),
     }
 }
 
