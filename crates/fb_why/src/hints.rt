@@ -3,7 +3,8 @@
 
 use fb_read::Expected;
 use fb_read::token::{Located, Mark, Token};
-use fb_read_positions::{Text, discard, tokens_of};
+use fb_read_positions::words::{Text, front};
+use fb_read_positions::{discard, tokens_of};
 use std::alloc::Global;
 
 /// Words of IEC 61131-3 that the profile leaves out.
@@ -167,7 +168,7 @@ pub(crate) fn fraction_of(bytes: &[u8]) -> Option<(&[u8], usize)> {
     };
     let (fraction, rest) = split_front(rest, Kind::Digits);
     let (unit, rest) = split_front(rest, Kind::Letters);
-    let literal = bytes.get(..bytes.len().saturating_sub(rest.len()))?;
+    let literal = front(bytes, bytes.len().saturating_sub(rest.len()));
     Some((literal, milliseconds(whole, fraction, unit)?))
 }
 
