@@ -1,12 +1,13 @@
 //! What statements do that hold no statements: assignments, labels, and the values of FOR.
 
-ghost use Rattle.std.specs.Prelude.{◌≡◌, ℕ, suc, true, false, int_le, ◌&&◌, IfOk};
+ghost use Rattle.std.specs.Prelude.{◌≡◌, ℕ, suc, true, false, int_le, ◌&&◌, Option, Some, IfErr, IfOk};
 ghost use Rattle.std.specs.List.{list_any};
-ghost use Rattle.fb_types.specs.Syntax.{Assign, expr_of, step_of};
-ghost use Rattle.fb_types.specs.Bodies.{label_fits, passed};
+ghost use Rattle.fb_types.specs.Syntax.{Assign, For, Stmts, expr_of, step_of};
+ghost use Rattle.fb_types.specs.Bodies.{Point, label_fits, passed};
 ghost use Rattle.fb_types.specs.Values.{value_of, whole};
 ghost use Rattle.fb_st.specs.Frames.{declared_in, is_declared, types_in, values_of};
-ghost use Rattle.fb_stop.specs.Blamed.{Advances, Runs, placed};
+ghost use Rattle.fb_stop.specs.Numbers.{next as number_after};
+ghost use Rattle.fb_stop.specs.Blamed.{Advances, Counts, End, Runs, RunsAll, Stopped, placed};
 ghost use Rattle.fb_stop.specs.Ends.{end_of};
 
 use crate::fault::{Fault, assign, eval};
@@ -71,6 +72,34 @@ pub(crate) fn step_value(step: &Option<Expr>, frame: &Frame, number: usize) -> R
 pub(crate) struct Count {
     pub(crate) end: Value,
     pub(crate) step: Value,
+}
+
+/// What FOR does before its iterations: start, end and step are evaluated once, in this order, before the variable has
+/// its first value.
+pub(crate) fn begin_for(
+    variable: &Reference,
+    start: &Expr,
+    end: &Expr,
+    step: &Option<Expr>,
+    frame: &mut Frame,
+    number: usize,
+) -> Result<Count, Fault>
+    requires known { is_declared (declared_in frame.old) variable.now ≡ true }
+    ensures begun { IfOk result (λ c. (around : Option ℕ) (body : Stmts) (left : ℕ) (e : End) (q : Point)
+        → Counts (types_in (declared_in frame.old)) number variable.now (whole c.end) (whole c.step) (RunsAll (types_in (declared_in frame.old)) (Some number) (number_after number) body) (record { vars = values_of frame.new; left = left }) e q
+        → Runs (types_in (declared_in frame.old)) around number (For variable.now (expr_of start.now) (expr_of end.now) (step_of step.now) body) (record { vars = values_of frame.old; left = suc left }) e q) }
+    ensures failed { IfErr result (λ f. (around : Option ℕ) (body : Stmts) (left : ℕ)
+        → Runs (types_in (declared_in frame.old)) around number (For variable.now (expr_of start.now) (expr_of end.now) (step_of step.now) body) (record { vars = values_of frame.old; left = suc left }) (Stopped f) (record { vars = values_of frame.new; left = left })) }
+    ensures declared { declared_in frame.new ≡ declared_in frame.old }
+{
+    let first = eval(start, frame, number)?;
+    let last = eval(end, frame, number)?;
+    let by = step_value(step, frame, number)?;
+    assign(frame, variable, first, number)?;
+    Ok(Count {
+        end: last,
+        step: by,
+    })
 }
 
 /// Whether a value of the variable of FOR has passed the end. With step 0 none has.

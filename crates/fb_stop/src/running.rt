@@ -11,9 +11,9 @@ ghost use Rattle.fb_stop.specs.Numbers.{after_branches, next as number_after};
 ghost use Rattle.fb_stop.specs.Blamed.{Runs, RunsAll, RunsBranch, Counts, Step, Then, Advances, blamed as loop_or_itself};
 ghost use Rattle.fb_stop.specs.Ends.{end_of};
 
-use crate::fault::{Fault, assign, begin, eval, holds};
+use crate::fault::{Fault, begin, eval, holds};
 use crate::number::{after, after_all, next};
-use crate::part::{Count, advance, has_label, has_passed, run_assignment, step_value};
+use crate::part::{Count, advance, begin_for, has_label, has_passed, run_assignment};
 use fb_st::{Flow, Frame, Meter};
 use fb_types::{Branch, Choice, Expr, Reference, Stmt, Value};
 
@@ -229,7 +229,7 @@ fn run_repeat(
     }
 }
 
-/// FOR: start, end and step are evaluated once, in this order, before the variable has its first value.
+/// FOR, once its step is begun.
 #[cycle(run)]
 fn run_for(
     body: &[Stmt],
@@ -248,14 +248,7 @@ fn run_for(
     ensures declared { declared_in frame.new ≡ declared_in frame.old }
     ensures fewer { meter.new.left ≤ meter.old.left }
 {
-    let first = eval(start, frame, number)?;
-    let last = eval(end, frame, number)?;
-    let by = step_value(step, frame, number)?;
-    assign(frame, variable, first, number)?;
-    let count = Count {
-        end: last,
-        step: by,
-    };
+    let count = begin_for(variable, start, end, step, frame, number)?;
     run_counts(body, variable, count, number, frame, meter)
 }
 

@@ -7,8 +7,6 @@ use Rattle.fb_types.specs.Bodies.{Point, passed}
 use Rattle.fb_types.specs.declared.text.Branch.{Branch}
 use Rattle.fb_types.specs.declared.text.Choice.{Choice}
 use Rattle.fb_types.specs.declared.text.Stmt as read
-use Rattle.fb_types.specs.declared.value.Reason.TheVariants as reason
-use Rattle.fb_st.specs.declared.frame.Slot.{Slot}
 use Rattle.fb_st.specs.declared.meter.Flow.TheVariants as flow
 use Rattle.fb_st.specs.Frames.{Declared, declared_in, types_in, values_of}
 use Rattle.fb_st.specs.Flows.{point, before_step, all_of, branches_of, choices_of}
@@ -17,34 +15,21 @@ use Rattle.fb_stop.specs.Numbers.{next, after_branches, after_choices}
 use Rattle.fb_stop.specs.Blamed.{End, Running, Went, Left, Returned, Stopped, RunsAll, RunsChoice, RunsBranch, Runs, Advances, holds_in, counts_on}
 use Rattle.fb_stop.specs.Ends.{end_of}
 use Rattle.fb_stop.specs.declared.fault.Fault.{Fault}
-use Rattle.fb_stop.proofs.Runs.{case_runs, began, for_counts, for_not_begun, stopped_by, ended_by, ok_by, turn_in, turn_as, turned, counted_turn, counted_on, whole_as, counts_as, all_goes_on, all_ends, all_as, runs_as, ends_at, choice_holds, choice_ran, choice_taken, choice_passed, choice_stops, choice_counted, choices_counted, branch_fits, branch_ran, branch_taken, branch_passed, branch_counted, branches_counted, loop_over, loop_stops, loop_left, loop_returned, loop_stopped, loop_goes_on, repeat_goes_on, repeat_over, repeat_stops, repeat_left, repeat_returned, repeat_stopped}
+use Rattle.fb_stop.proofs.Runs.{case_runs, began, stopped_by, ended_by, ok_by, turn_in, turn_as, turned, counted_turn, counted_on, whole_as, counts_as, all_goes_on, all_ends, all_as, runs_as, ends_at, choice_holds, choice_ran, choice_taken, choice_passed, choice_stops, choice_counted, choices_counted, branch_fits, branch_ran, branch_taken, branch_passed, branch_counted, branches_counted, loop_over, loop_stops, loop_left, loop_returned, loop_stopped, loop_goes_on, repeat_goes_on, repeat_over, repeat_stops, repeat_left, repeat_returned, repeat_stopped}
 use Rattle.fb_stop.proofs.running.+run.Goals as goal
 
 -- ---- FOR
 
-pub run_for-returns-in_err-assign-clause-run : goal.run_for-returns-in_err-assign-clause-run
-run_for-returns-in_err-assign-clause-run t c =
-    let T : Types = types_in (declared_in c.args.frame.now) in
-    let n : Name = c.args.variable.now in
-    let said : Stmt = For n (expr_of c.args.start.now) (expr_of c.args.end.now) (step_of c.args.step.now) (all_of c.args.body.now) in
-    let e = c.in_err-assign.ensures.err in
-    let x = err_from_is_err_and c.from_residual-in_err-assign.result c.from_residual-in_err-assign.ensures.1 in
-    let base = for_not_begun T c.args.around c.args.number n (expr_of c.args.start.now) (expr_of c.args.end.now) (step_of c.args.step.now) (all_of c.args.body.now)
-    (values_of c.args.frame.now) c.args.meter.now.left c.in_ok-first.first c.in_ok-last.last c.in_ok-by.by
-    (sym c.eval.ensures ∙ c.in_ok-first.was) (sym c.eval-2.ensures ∙ c.in_ok-last.was) (sym c.step_value.ensures ∙ c.in_ok-by.was) e.1 in
-    rw (x.1, x.2, e.0)
-    (subst (λ (s : List Slot). Runs T c.args.around c.args.number said (before_step c.args.frame.now c.args.meter.now) (Stopped (record { reason = reason.Range; number = c.args.number })) (point s c.args.meter.now)) (sym e.2) base)
+pub run_for-returns-in_err-count-clause-run : goal.run_for-returns-in_err-count-clause-run
+run_for-returns-in_err-count-clause-run t c =
+    let x = err_from_is_err_and c.from_residual.result c.from_residual.ensures.1 in
+    rw (x.1, x.2) (c.in_err-count.ensures.failed c.args.around (all_of c.args.body.now) c.args.meter.now.left)
 
 pub run_for-returns-clause-run : goal.run_for-returns-clause-run
 run_for-returns-clause-run t c =
-    let T : Types = types_in (declared_in c.args.frame.now) in
-    let ok = c.in_ok-assign.ensures.ok in
-    for_counts T c.args.around c.args.number c.args.variable.now (expr_of c.args.start.now) (expr_of c.args.end.now) (step_of c.args.step.now) (all_of c.args.body.now)
-    (values_of c.args.frame.now) (values_of c.assign.new.frame) c.args.meter.now.left c.in_ok-first.first c.in_ok-last.last c.in_ok-by.by
-    (whole c.in_ok-last.last) (whole c.in_ok-by.by) (end_of c.run_counts.result) (point c.run_counts.new.frame c.run_counts.new.meter)
-    (sym c.eval.ensures ∙ c.in_ok-first.was) (sym c.eval-2.ensures ∙ c.in_ok-last.was) (sym c.step_value.ensures ∙ c.in_ok-by.was) refl refl ok.0 ok.1
-    (counts_as (declared_in c.assign.new.frame) (declared_in c.args.frame.now) c.args.number c.args.variable.now (whole c.in_ok-last.last) (whole c.in_ok-by.by) (all_of c.args.body.now)
-    (point c.assign.new.frame c.args.meter.now) (point c.run_counts.new.frame c.run_counts.new.meter) (end_of c.run_counts.result) c.assign.ensures.declared c.run_counts.ensures.run)
+    c.in_ok-count.ensures.begun c.args.around (all_of c.args.body.now) c.args.meter.now.left (end_of c.run_counts.result) (point c.run_counts.new.frame c.run_counts.new.meter)
+    (counts_as (declared_in c.begin_for.new.frame) (declared_in c.args.frame.now) c.args.number c.args.variable.now (whole c.in_ok-count.count.end) (whole c.in_ok-count.count.step) (all_of c.args.body.now)
+    (point c.begin_for.new.frame c.args.meter.now) (point c.run_counts.new.frame c.run_counts.new.meter) (end_of c.run_counts.result) c.begin_for.ensures.declared c.run_counts.ensures.run)
 
 -- ---- A statement, once its step is begun
 
