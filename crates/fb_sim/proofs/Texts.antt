@@ -1,8 +1,9 @@
 -- The text of a trace that is written piece by piece, with the counts of its bytes.
-use Rattle.std.proofs.Common.{◌≡◌, ℕ, zero, suc, ◌+◌, ◌^◌, ◌<◌, List, [], ◌∷◌, ◌++◌, map, length, take, Option, refl, sym, ap, ap₂, ◌∙◌, subst, arith, append_assoc, append-nil, length-append, get_or, drop, take-append-drop}
+use Rattle.std.proofs.Common.{◌≡◌, ℕ, zero, suc, ◌+◌, ◌^◌, ◌<◌, List, [], ◌∷◌, ◌++◌, map, length, take, Option, Result, Ok, Err, refl, sym, ap, ap₂, ◌∙◌, subst, arith, append_assoc, append-nil, length-append, get_or, drop, take-append-drop}
 use native.Mathlib.Nat.{le_refl}
 use denote.RawPtr.{null_ptr}
 use Rattle.std.specs.Global.{Global, Vec}
+use Rattle.std.specs.Prelude.{IfOk, IsOkAnd}
 use Rattle.std.specs.Io.KnownBytes.{Appends}
 use Rattle.std.proofs.KnownBytes.{Appends-trans}
 use Rattle.std.proofs.lemmas.List.{map-append, take_more}
@@ -44,6 +45,15 @@ woven_text-joined i form lists firsts lasts cut x y a b = record {
   woven = woven_joined lists firsts lasts cut a.all b.all a.woven b.woven;
   is = ap₂ ◌++◌ a.is b.is ∙ parts_text form (system_of i) a.all b.all (a.all ++ b.all) refl;
 }
+
+-- texts, and one more after them
+pub last_joined : {E : Type 0} (i : Inputs) (form : Form) (lists firsts lasts : List (List run.Line)) → AreDivided lists firsts lasts
+    → (a : Result (Vec (Vec ℕ)) E) (b : Result (Vec ℕ) E) (all : List ℕ) → IsOkAnd a (λ ts. IsOkAnd b (λ t. all ≡ all_bytes ts.items ++ t.items))
+    → IfOk a (λ v. IsWovenText i form firsts (all_bytes v.items)) → IfOk b (λ v. IsWovenText i form lasts v.items) → IsWovenText i form lists all
+last_joined i form lists firsts lasts cut (Ok ts) (Ok t) all is x y =
+    subst (IsWovenText i form lists) (sym is) (woven_text-joined i form lists firsts lasts cut (all_bytes ts.items) t.items x y)
+last_joined i form lists firsts lasts cut (Ok ts) (Err e) all is x y = absurd is
+last_joined i form lists firsts lasts cut (Err e) b all is x y = absurd is
 
 -- a list of these lines
 abbrev pub vec_of : Global → (xs : List run.Line) → length xs < 2 ^ 63 → Vec run.Line

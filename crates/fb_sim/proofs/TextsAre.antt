@@ -1,5 +1,5 @@
 -- The texts that jobs made, and the final lines that they are of.
-use Rattle.std.proofs.Common.{◌≡◌, ℕ, zero, suc, ◌+◌, ◌≤◌, List, [], ◌∷◌, ◌++◌, length, take, drop, map, Option, Some, None, refl, sym, ap, ◌∙◌, subst, arith, append-nil}
+use Rattle.std.proofs.Common.{◌≡◌, ℕ, zero, suc, ◌+◌, ◌≤◌, Bool, true, false, if◌then◌else◌, List, [], ◌∷◌, ◌++◌, length, take, drop, map, Option, Some, None, refl, sym, ap, ◌∙◌, subst, arith, append-nil}
 use Rattle.std.specs.Prelude.{IfSome, slice_get, slice_index_or}
 use Rattle.std.specs.Global.{Vec}
 use Rattle.std.specs.List.{AllZip}
@@ -167,11 +167,17 @@ held_texts i form lists (Some t) ts e h = subst (λ (f : Form). AllZip (IsMarked
 held_texts i form lists None ts e h = absurd e
 
 -- the texts that jobs made, where they are of use
-pub texts_used : (i : Inputs) (finals : List (Vec Line)) (dones : List WindowDone) (texts used : Option (Vec (Option MarkedText)))
+texts_used : (i : Inputs) (finals : List (Vec Line)) (dones : List WindowDone) (texts used : Option (Vec (Option MarkedText)))
     → AllZip IsFrontOf finals dones → IfSome texts (λ ts. AllZip (HasText i) dones ts.items) → used ≡ texts → IfSome used (λ ts. AreTextsFrom i finals ts.items)
 texts_used i finals dones None used f h is = subst (λ (o : Option (Vec (Option MarkedText))). IfSome o (λ ts. AreTextsFrom i finals ts.items)) (sym is) tt
 texts_used i finals dones (Some ts) used f h is = subst (λ (o : Option (Vec (Option MarkedText))). IfSome o (λ ts. AreTextsFrom i finals ts.items)) (sym is) (texts_from i finals dones ts.items f h)
 
 -- otherwise there are none
-pub no_texts_used : (i : Inputs) (finals : List (Vec Line)) (used : Option (Vec (Option MarkedText))) → used ≡ None → IfSome used (λ ts. AreTextsFrom i finals ts.items)
+no_texts_used : (i : Inputs) (finals : List (Vec Line)) (used : Option (Vec (Option MarkedText))) → used ≡ None → IfSome used (λ ts. AreTextsFrom i finals ts.items)
 no_texts_used i finals used is = subst (λ (o : Option (Vec (Option MarkedText))). IfSome o (λ ts. AreTextsFrom i finals ts.items)) (sym is) tt
+
+-- where a test says whether they are used
+pub texts_if_used : (i : Inputs) (finals : List (Vec Line)) (dones : List WindowDone) (texts used : Option (Vec (Option MarkedText))) (b : Bool)
+    → (b ≡ true → AllZip IsFrontOf finals dones) → IfSome texts (λ ts. AllZip (HasText i) dones ts.items) → used ≡ (if b then texts else None) → IfSome used (λ ts. AreTextsFrom i finals ts.items)
+texts_if_used i finals dones texts used true f h is = texts_used i finals dones texts used (f refl) h is
+texts_if_used i finals dones texts used false f h is = no_texts_used i finals used is

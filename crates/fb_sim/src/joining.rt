@@ -1,6 +1,6 @@
 //! The marked texts of several lists of lines, joined to one text: tick by tick, those of a tick list by list.
 
-ghost use Rattle.std.specs.Prelude.{◌≡◌, ◌≤◌, ℕ, List, drop, length, sum_by, IfOk};
+ghost use Rattle.std.specs.Prelude.{◌≡◌, ◌≤◌, ℕ, [], List, drop, length, sum_by, IfOk, OnOk};
 ghost use Rattle.std.specs.List.{AllZip};
 ghost use Rattle.fb_types.specs.Headline.{Inputs};
 ghost use Rattle.fb_types.specs.declared.run.Form.{Form};
@@ -138,7 +138,7 @@ fn all_whole<'a>(alloc: Global, texts: &'a [MarkedText]) -> Result<Vec<Rest<'a>>
 {
     let mut rests = Vec::with_capacity(alloc, texts.len())?;
     for text in texts {
-        rests.push(whole(text))?;
+        rests.push_reserved(whole(text));
     }
     Ok(rests)
 }
@@ -163,6 +163,30 @@ fn count_bytes(texts: &[MarkedText]) -> usize {
     count
 }
 
+/// Joins marked texts, of which all is left, where there is no text yet.
+fn join_all<'a>(
+    texts: &[MarkedText],
+    rests: &mut Vec<Rest<'a>>,
+    text: &mut Vec<u8>,
+) -> Result<(), AllocError>
+    requires { text.old.items ≡ [] }
+    ensures { (i : Inputs) (form : Form) (lists : List (List Line)) → AllZip (IsMarkedText i form) lists texts.now → AllZip (IsRest i form) lists rests.old.items
+        → OnOk result (IsWovenText i form lists text.new.items) }
+{
+    text.reserve(count_bytes(texts))?;
+    // Each turn takes a line at least, if there is one at its tick.
+    let mut turns = count_lines(texts);
+    let mut next = put_all(text, rests, 0)?;
+    while let Some(tick) = next {
+        if turns == 0 {
+            return Ok(());
+        }
+        turns -= 1;
+        next = put_all(text, rests, tick)?;
+    }
+    Ok(())
+}
+
 /// The text of all lines, tick by tick, those of a tick list by list: joined from the marked text of each list.
 ///
 /// # Errors
@@ -171,17 +195,8 @@ pub(crate) fn joined_text(alloc: Global, texts: &[MarkedText]) -> Result<Vec<u8>
     ensures { (i : Inputs) (form : Form) (lists : List (List Line)) → AllZip (IsMarkedText i form) lists texts.now
         → IfOk result (λ v. IsWovenText i form lists v.items) }
 {
-    let mut text = Vec::with_capacity(alloc, count_bytes(texts))?;
     let mut rests = all_whole(alloc, texts)?;
-    // Each turn takes a line at least, if there is one at its tick.
-    let mut turns = count_lines(texts);
-    let mut next = put_all(&mut text, &mut rests, 0)?;
-    while let Some(tick) = next {
-        if turns == 0 {
-            return Ok(text);
-        }
-        turns -= 1;
-        next = put_all(&mut text, &mut rests, tick)?;
-    }
+    let mut text = Vec::new(alloc);
+    join_all(texts, &mut rests, &mut text)?;
     Ok(text)
 }

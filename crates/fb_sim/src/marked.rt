@@ -82,7 +82,7 @@ fn texts_for(
         let Some(text) = text_for(alloc, system, form, lines, text)? else {
             return Ok(None);
         };
-        all.push(text)?;
+        all.push_reserved(text);
     }
     if all.len() < finals.len() {
         return Ok(None);

@@ -1,6 +1,6 @@
 //! The lines of a round as text, which several threads make if there are many.
 
-ghost use Rattle.std.specs.Prelude.{◌≡◌, ◌++◌, ◌≤◌, map, length, All, IfErr, IfOk};
+ghost use Rattle.std.specs.Prelude.{◌≡◌, ◌++◌, ◌≤◌, map, length, All, IfErr, IfOk, IsOkAnd};
 ghost use Rattle.std.specs.Io.KnownBytes.{Appends};
 ghost use Rattle.fb_system.specs.OfSystem.{BelongsTo};
 ghost use denote.Param.Send.{IsSync};
@@ -35,8 +35,20 @@ fn one_text(
     Ok(texts)
 }
 
-/// The text of the lines of lists in parts, each of which one of this many threads makes: all but the last one, and
-/// this.
+/// Texts with one more after them, where memory did not run out.
+fn with_last(
+    texts: Result<Vec<Vec<u8>>, AllocError>,
+    last: Result<Vec<u8>, AllocError>,
+) -> Result<Vec<Vec<u8>>, AllocError>
+    ensures { IfOk result (λ v. IsOkAnd texts (λ ts. IsOkAnd last (λ t. all_bytes v.items ≡ all_bytes ts.items ++ t.items))) }
+{
+    let mut texts = texts?;
+    let last = last?;
+    texts.push(last)?;
+    Ok(texts)
+}
+
+/// The text of the lines of lists in parts, each of which one of this many threads makes, several.
 #[cycle(parts)]
 fn parts_by<R: Threads + Sync>(
     rt: &R,
@@ -45,29 +57,27 @@ fn parts_by<R: Threads + Sync>(
     form: Form,
     lists: &[&[Line]],
     threads: usize,
-) -> Result<(Vec<Vec<u8>>, Vec<u8>), AllocError>
+) -> Result<Vec<Vec<u8>>, AllocError>
     requires belong { All (λ q. All (BelongsTo system.now) q.now) lists.now }
     requires several { 2 ≤ threads }
-    ensures { IfOk result (λ r. IsWovenText system.now form (map (λ q. q.now) lists.now) (all_bytes r.0.items ++ r.1.items)) }
+    ensures { IfOk result (λ v. IsWovenText system.now form (map (λ q. q.now) lists.now) (all_bytes v.items)) }
 {
     let fewer = threads - 1;
     let (firsts, lasts) = divide(alloc, lists, fewer, threads)?;
-    let first = firsts.as_slice();
-    let last = lasts.as_slice();
+    let front_lists = firsts.as_slice();
+    let back_lists = lasts.as_slice();
     let back = move || -> Result<Vec<u8>, AllocError>
-        requires { All (λ q. All (BelongsTo system.now) q.now) last.now }
-        ensures { IfOk result (λ v. IsWovenText system.entry.now form (map (λ q. q.now) last.entry.now) v.items) }
-    { woven_text(alloc, system, form, last) };
+        requires { All (λ q. All (BelongsTo system.now) q.now) back_lists.now }
+        ensures { IfOk result (λ v. IsWovenText system.entry.now form (map (λ q. q.now) back_lists.entry.now) v.items) }
+    { woven_text(alloc, system, form, back_lists) };
     let front = move || -> Result<Vec<Vec<u8>>, AllocError>
-        requires { IsSync R.row × All (λ q. All (BelongsTo system.now) q.now) first.now }
-        ensures { IfOk result (λ v. IsWovenText system.entry.now form (map (λ q. q.now) first.entry.now) (all_bytes v.items)) }
-    { texts_by(rt, alloc, system, form, first, fewer) };
+        requires { IsSync R.row × All (λ q. All (BelongsTo system.now) q.now) front_lists.now }
+        ensures { IfOk result (λ v. IsWovenText system.entry.now form (map (λ q. q.now) front_lists.entry.now) (all_bytes v.items)) }
+    { texts_by(rt, alloc, system, form, front_lists, fewer) };
     // The first closure gets a thread, and the second one runs here: so this thread starts all others. One that starts a
     // thread and works on often keeps it waiting for its own processor.
-    let (b, a) = thread::join(rt, back, front);
-    let texts = a?;
-    let text = b?;
-    Ok((texts, text))
+    let (last, texts) = thread::join(rt, back, front);
+    with_last(texts, last)
 }
 
 /// The text of the lines of lists in parts, one after another, each of which one of this many threads makes.
@@ -86,9 +96,7 @@ fn texts_by<R: Threads + Sync>(
     if threads < 2 {
         return one_text(alloc, system, form, lists);
     }
-    let (mut texts, last) = parts_by(rt, alloc, system, form, lists, threads)?;
-    texts.push(last)?;
-    Ok(texts)
+    parts_by(rt, alloc, system, form, lists, threads)
 }
 
 /// Writes a text, and answers how many bytes it has.

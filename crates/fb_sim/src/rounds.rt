@@ -6,7 +6,7 @@
 //! board with one worker. Both write the same lines.
 
 ghost use Rattle.std.specs.Global.{Vec};
-ghost use Rattle.std.specs.Prelude.{◌≡◌, ◌≤◌, ℕ, List, map, length, vec_len, All, IfOk, IfErr, IfSome};
+ghost use Rattle.std.specs.Prelude.{◌≡◌, ◌≤◌, ℕ, List, None, map, length, vec_len, if◌then◌else◌, All, IfOk, IfErr, IfSome};
 ghost use Rattle.std.specs.Io.KnownBytes.{Appends};
 ghost use Rattle.std.specs.List.{AllZip};
 ghost use Rattle.fb_types.specs.Cores.{CoreStep};
@@ -26,7 +26,7 @@ ghost use Rattle.fb_window.specs.Standing.{IsAt};
 ghost use Rattle.fb_resource.specs.declared.resource.Resource.{Resource};
 ghost use Rattle.fb_sim.specs.Serial.{AreWithin};
 ghost use Rattle.fb_sim.specs.Rounds as spec;
-ghost use Rattle.fb_sim.specs.Rounds.{RoundsWithCounts, HasCome, HasWalked, HoldsTo, IsHeldOf, IsHomeAgain, IsHomeOnce, IsOnItsWay, Rounds, WritesPartOf, lines_out};
+ghost use Rattle.fb_sim.specs.Rounds.{FailsToHandOut, HandsOut, RoundsWithCounts, HasCome, HasWalked, HoldsTo, IsHeldOf, IsHomeAgain, IsHomeOnce, IsOnItsWay, Rounds, WritesPartOf, lines_out};
 ghost use Rattle.fb_sim.specs.Texts.{AreDone, HasText};
 ghost use Rattle.fb_sim.specs.Weaving.{IsWovenText, all_bytes};
 ghost use Rattle.fb_sim.specs.declared.outcome.RunError.TheVariants.{Memory};
@@ -93,10 +93,10 @@ fn run_here<R: Wait, P: Gate>(
 ) -> Result<Vec<WindowDone>, AllocError>
     ensures { IfOk result (λ v. AllZip Does jobs.items v.items) }
 {
-    let mut dones = Vec::new(alloc);
+    let mut dones = Vec::with_capacity(alloc, jobs.len())?;
     for job in jobs {
         gate.at(rt, dones.len());
-        dones.push(job.run(alloc))?;
+        dones.push_reserved(job.run(alloc));
     }
     Ok(dones)
 }
@@ -257,6 +257,13 @@ impl WindowResult {
     }
 }
 
+/// A value, if it is of use.
+fn only_if<T: Drop>(is_used: bool, value: Option<T>) -> Option<T>
+    ensures { result ≡ (if is_used then value else None) }
+{
+    if is_used { value } else { None }
+}
+
 /// Puts all resources back with what became of their jobs. The lines that have become final are held, with the text that
 /// workers made of them if it is of use.
 fn settled_apart(
@@ -280,7 +287,7 @@ fn settled_apart(
     ensures memory { IfErr result (λ e. e ≡ Memory) }
 {
     let Dones { dones, texts } = done;
-    let texts = if away.keeps_nothing() { texts } else { None };
+    let texts = only_if(away.keeps_nothing(), texts);
     let (reach, finals) = away.settle_apart(alloc, system, dones)?;
     let texts = final_texts(alloc, system, form, &finals, texts)?;
     let held = Held::of(finals, texts)?;
@@ -379,6 +386,26 @@ pub(crate) fn hand_out<W: Write>(
     }
 }
 
+/// Writes the lines that the round before held, after a window, and gives what the round has done.
+fn hand_out_after<W: Write>(
+    alloc: Global,
+    system: &System,
+    form: Form,
+    held: Held,
+    gone: WindowResult,
+    out: &mut W,
+) -> Result<(Round, Held, Tally), RunError>
+    requires held { All (λ p. All (BelongsTo system.now) p.items) held.lists.items }
+    requires finals { All (λ p. All (BelongsTo system.now) p.items) gone.finals.lists.items }
+    ensures whole { IfOk result (λ r. HandsOut system.now form held.lists.items (W.contents out.old) (W.contents out.new) r.2.bytes r.2.final_lines) }
+    ensures round { IfOk result (λ r. (all : Vec Line) → r.0 ≡ spec.round_of (settled_of gone.reach all)) }
+    ensures next { IfOk result (λ r. r.1 ≡ gone.finals) }
+    ensures failed { IfErr result (FailsToHandOut system.now form held.lists.items (W.contents out.old) (W.contents out.new)) }
+{
+    let (bytes, lines) = held.hand_out(alloc, system, form, out)?;
+    Ok(gone.after(bytes, lines))
+}
+
 /// A round of a run, as planned, with what it has done. It writes the lines that the round before held, and holds those
 /// that have become final in it. Where many are held, their text is made while workers run its window. No byte is written
 /// before its window has ended, and no memory is allocated from the first byte to the last.
@@ -408,8 +435,7 @@ pub(crate) fn round_with_counts<R: Threads + Wait + Sync, W: Write, P: Gate>(
         return Ok(result.after(bytes, lines as u128));
     }
     let (_, result) = window(rt, alloc, system, core, None, plan, hands)?;
-    let (bytes, lines) = held.hand_out(alloc, system, options.form, out)?;
-    Ok(result.after(bytes, lines))
+    hand_out_after(alloc, system, options.form, held, result, out)
 }
 
 /// One phase and one exchange: each resource that has not stopped runs to its greatest legal bound, at most 1,024 ticks

@@ -26,7 +26,7 @@ pub(crate) fn slices<'a>(
 {
     let mut slices = Vec::with_capacity(alloc, lists.len())?;
     for list in lists {
-        slices.push(list.as_slice())?;
+        slices.push_reserved(list.as_slice());
     }
     Ok(slices)
 }
@@ -105,7 +105,7 @@ fn take_early<'a>(
         let (now, later) = list.split_at(early_count(*list, tick));
         add(parts, now)?;
         if !later.is_empty() {
-            left.push(later)?;
+            left.push_reserved(later);
         }
     }
     Ok(left)
@@ -202,8 +202,8 @@ fn cut_at(lists: &[&[Line]], some: usize, parts: usize) -> Cut {
     match list.get(index) {
         Some(line) => {
             let tick = line.key.tick;
-            let start = list.partition_point(|line| line.key.tick < tick);
-            let end = list.partition_point(|line| line.key.tick <= tick);
+            let start = count_before(list, 0, &Cut { tick, list: 0 });
+            let end = count_before(list, 0, &Cut { tick, list: 1 });
             let before = index.saturating_sub(start);
             let all = end.saturating_sub(start).max(1);
             Cut {
@@ -256,8 +256,8 @@ pub(crate) fn divide<'a>(
     for list in lists {
         let count = count_before(*list, firsts.len(), &cut);
         let (first, last) = list.split_at(count);
-        firsts.push(first)?;
-        lasts.push(last)?;
+        firsts.push_reserved(first);
+        lasts.push_reserved(last);
     }
     Ok((firsts, lasts))
 }

@@ -130,8 +130,8 @@ pub(crate) fn apart(alloc: Global, all: Vec<TextedDone>) -> Result<Dones, AllocE
     let mut texts = Vec::with_capacity(alloc, all.len())?;
     for one in all {
         let TextedDone { done, text } = one;
-        dones.push(done)?;
-        texts.push(text)?;
+        dones.push_reserved(done);
+        texts.push_reserved(text);
     }
     Ok(Dones {
         dones,
@@ -140,7 +140,7 @@ pub(crate) fn apart(alloc: Global, all: Vec<TextedDone>) -> Result<Dones, AllocE
 }
 
 /// Who runs the jobs of a round, and the gate that they pass.
-#[derive_where(Clone, Copy)]
+#[derive(Drop)]
 pub(crate) struct Hands<'a, P> {
     pub gate: &'a P,
     /// What a worker does with a job.

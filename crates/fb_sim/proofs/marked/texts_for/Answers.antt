@@ -8,6 +8,12 @@ use Rattle.fb_trace.specs.declared.marks.MarkedText.{MarkedText}
 use Rattle.fb_sim.proofs.TextsAre.{AreMade, one_made}
 use Rattle.fb_sim.proofs.marked.texts_for.Goals as goal
 
+pub push_reserved-requires : goal.push_reserved-requires
+push_reserved-requires c =
+    let room = c.loop-text.invariant.room in
+    let l = c.in-Some-get.ensures.lookup in
+    omega (arith, room, c.len.ensures, l.1)
+
 -- one text more
 pub loop-text-preserved : goal.loop-text-preserved
 loop-text-preserved c =
@@ -25,7 +31,8 @@ loop-text-preserved c =
     subst (λ (n : ℕ). slice_get finals n ≡ Some p) (c.len.ensures ∙ all.ok.0) (slice_get_read finals (length finals) c.len.result p refl l.3.0 l.1) in
     let is : IsMarkedText i form c.deref.result.now m = subst (λ (o : Option MarkedText). IfSome o (IsMarkedText i form c.deref.result.now)) c.in-Some-2.is c.in_ok-text.ensures in
     record {
-      made = subst (λ (ms : List MarkedText). AreMade i form finals ms left) (sym c.in_ok-push.ensures.items)
+      made = subst (λ (ms : List MarkedText). AreMade i form finals ms left) (sym c.push_reserved.ensures.items)
           (one_made i form finals all.items c.in-Some.text left it p at m (subst (λ (xs : List Line). IsMarkedText i form xs m) c.deref.ensures.value is));
       len = let same = ap length step.0 in omega (arith, c.loop-text.invariant.len, step.1, same);
+      room = omega (arith, c.loop-text.invariant.room, c.push_reserved.ensures.capacity);
     }

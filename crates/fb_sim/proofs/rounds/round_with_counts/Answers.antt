@@ -9,7 +9,7 @@ use Rattle.fb_sim.specs.Rounds.{WritesPartOf}
 use Rattle.fb_sim.specs.Weaving.{all_bytes}
 use Rattle.fb_sim.proofs.HandedOut.{part_by_text, whole_by_text}
 use Rattle.fb_sim.proofs.Texts.{merged_list}
-use Rattle.fb_sim.proofs.WindowIs.{held_failed, held_out_of_memory, held_passed, held_whole, home_since}
+use Rattle.fb_sim.proofs.WindowIs.{held_failed, held_handed, held_out_of_memory, held_passed, held_whole, home_since}
 use Rattle.fb_sim.proofs.rounds.round_with_counts.Goals as goal
 
 pub walked-requires-clause-come : goal.walked-requires-clause-come
@@ -94,17 +94,8 @@ returns-in_err-result g c ls h =
     let e = c.in_err-result.field-0.0 in
     held_passed c.args.system.now o s.core s.held ls h old old _ e c.from_residual-in_err-result.ensures.1 (held_out_of_memory c.args.system.now o s.core s.held ls h old old e c.in_err-result.ensures.memory refl)
 
-pub returns-in_err-bytes-2 : goal.returns-in_err-bytes-2
-returns-in_err-bytes-2 g c ls h =
-    let i = c.args.system.now in
-    let o = c.args.plan.options in
-    let s = c.args.standing in
-    let old = g.W.Write.contents c.args.out.now in
-    let new = g.W.Write.contents c.hand_out.new.out in
-    let e = c.in_err-bytes-2.field-0.0 in
-    let good : AreGood i = record { accepted = c.facts.ensures.accepted; limits = c.facts.ensures.limits } in
-    held_passed i o s.core s.held ls h old new _ e c.from_residual-in_err-bytes-2.ensures.1
-    (held_failed i o s.core s.held ls h old new good e c.in_err-bytes-2.ensures.failed)
+pub hand_out_after-requires-clause-finals : goal.hand_out_after-requires-clause-finals
+hand_out_after-requires-clause-finals g c = c.in_ok-result.ensures.held.belong
 
 pub returns : goal.returns
 returns g c ls h =
@@ -112,9 +103,10 @@ returns g c ls h =
     let o = c.args.plan.options in
     let s = c.args.standing in
     let old = g.W.Write.contents c.args.out.now in
-    let new = g.W.Write.contents c.hand_out.new.out in
-    held_whole i o s.core s.held ls h old new c.in_ok-result.result.reach c.in_ok-result.result.finals c.in_ok-bytes-2.bytes c.in_ok-bytes-2.lines c.after-2.result c.after-2.ensures.round c.after-2.ensures.held
-    c.after-2.ensures.bytes c.after-2.ensures.lines
+    let new = g.W.Write.contents c.hand_out_after.new.out in
+    let good : AreGood i = record { accepted = c.facts.ensures.accepted; limits = c.facts.ensures.limits } in
+    let did = c.hand_out_after.ensures in
+    held_handed i o s.core s.held ls h old new good c.in_ok-result.result.reach c.in_ok-result.result.finals c.hand_out_after.result did.whole did.round did.next did.failed
     (λ ks come all merged.
     let walked = c.in_ok-core.ensures.on ks come in
-    home_since i o.steps o.horizon (core_of i o.steps come.steps) ks _ walked _ (c.in_ok-result.ensures.home ks walked.way all merged)) c.in_ok-result.ensures.held c.in_ok-bytes-2.ensures.whole
+    home_since i o.steps o.horizon (core_of i o.steps come.steps) ks _ walked _ (c.in_ok-result.ensures.home ks walked.way all merged)) c.in_ok-result.ensures.held

@@ -1,4 +1,4 @@
-use Rattle.std.proofs.Common.{◌≡◌, ◌++◌, length}
+use Rattle.std.proofs.Common.{◌≡◌, ◌+◌, ◌≤◌, ◌++◌, length, vec_len, vec_capacity}
 use Rattle.std.specs.List.{AllZip}
 use Rattle.std.specs.Vec.Iter.{into_iter_items, into_iter_len}
 use Rattle.fb_window.specs.Jobs.{Does}
@@ -9,4 +9,5 @@ invariant-loop-job g l = record {
   done : AllZip Does l.yielded l.dones.items;
   rest : l.yielded ++ into_iter_items l.job-iterator ≡ l.fn.jobs.items;
   len : into_iter_len l.job-iterator ≡ length (into_iter_items l.job-iterator);
+  room : vec_len l.dones + into_iter_len l.job-iterator ≤ vec_capacity l.dones;
 }

@@ -8,9 +8,8 @@ use Rattle.fb_trace.specs.Merging.{flat}
 use Rattle.fb_window.specs.Settling.{IsMerged}
 use Rattle.fb_sim.specs.Texts.{AreTextsFrom, AreTextsOf}
 use Rattle.fb_sim.specs.declared.marked.FinalTexts.{FinalTexts}
-use Rattle.fb_sim.proofs.TextsAre.{no_texts_used, texts_used}
+use Rattle.fb_sim.proofs.TextsAre.{texts_if_used}
 use Rattle.fb_sim.proofs.rounds.settled_apart.Goals as goal
-use Rattle.fb_sim.proofs.rounds.settled_apart.Goals.{else-keeps_nothing, then-keeps_nothing}
 
 -- the lists belong to the system
 abbrev Belong : Inputs → List (Vec Line) → Type 0
@@ -25,11 +24,8 @@ pub final_texts-requires-clause-texts : goal.final_texts-requires-clause-texts
 final_texts-requires-clause-texts c =
     let i = c.args.system.now in
     let finals = c.in_ok-reach.finals.items in
-    subst (λ (ps : List (Vec Line)). IfSome c.if-keeps_nothing.texts2 (λ ts. AreTextsFrom i ps ts.items)) (sym c.deref.ensures.value)
-    (elim c.if-keeps_nothing.branch [
-      | then-keeps_nothing w ↦ texts_used i finals c.args.done.dones.items c.args.done.texts c.if-keeps_nothing.texts2 (c.in_ok-reach.ensures.fronts (c.keeps_nothing.ensures w.if-keeps_nothing.true)) c.requires.texts w.texts2-is
-      | else-keeps_nothing w ↦ no_texts_used i finals c.if-keeps_nothing.texts2 w.texts2-is
-    ])
+    subst (λ (ps : List (Vec Line)). IfSome c.only_if-texts.result (λ ts. AreTextsFrom i ps ts.items)) (sym c.deref.ensures.value)
+    (texts_if_used i finals c.args.done.dones.items c.args.done.texts c.only_if-texts.result c.keeps_nothing.result (λ e. c.in_ok-reach.ensures.fronts (c.keeps_nothing.ensures e)) c.requires.texts c.only_if-texts.ensures)
 
 pub returns-clause-settles : goal.returns-clause-settles
 returns-clause-settles c all m =

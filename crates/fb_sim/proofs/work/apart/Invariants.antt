@@ -1,4 +1,4 @@
-use Rattle.std.proofs.Common.{◌≡◌, ◌++◌, length}
+use Rattle.std.proofs.Common.{◌≡◌, ◌+◌, ◌≤◌, ◌++◌, length, vec_len, vec_capacity}
 use Rattle.std.specs.Vec.Iter.{into_iter_items, into_iter_len}
 use Rattle.fb_sim.proofs.TextsAre.{dones_of, texts_of}
 use Rattle.fb_sim.proofs.work.apart.Given as goal
@@ -9,4 +9,6 @@ invariant-loop-one l = record {
   texts : l.texts.items ≡ texts_of l.yielded;
   rest : l.yielded ++ into_iter_items l.one-iterator ≡ l.fn.all.items;
   len : into_iter_len l.one-iterator ≡ length (into_iter_items l.one-iterator);
+  dones_room : vec_len l.dones + into_iter_len l.one-iterator ≤ vec_capacity l.dones;
+  texts_room : vec_len l.texts + into_iter_len l.one-iterator ≤ vec_capacity l.texts;
 }
