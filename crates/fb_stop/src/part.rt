@@ -52,9 +52,12 @@ pub(crate) fn has_label(labels: &[Label], value: Value) -> bool
 fn is_any_around(labels: &[Label], number: i128) -> bool
     ensures { result ≡ list_any (λ l. int_le l.first number && int_le number l.last) labels.now }
 {
-    labels
-        .iter()
-        .any(|label| label.first <= number && number <= label.last)
+    for label in labels {
+        if label.first <= number && number <= label.last {
+            return true;
+        }
+    }
+    false
 }
 
 /// The step of FOR, which is 1 where the text has none.
