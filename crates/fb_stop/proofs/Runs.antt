@@ -179,6 +179,14 @@ module _ (T : Types) (o : Option ℕ) (k : ℕ) (n : Name) (a b c : Expr) (body 
       (subst (λ (z : ℤ). Counts T k n z step (RunsAll T (Some k) (next k) body) (record { vars = after; left = left }) e q) he run) in
       rw (ha, hb, hc) (Went, record { vars = after; left = left }, begun, turns)
 
+  pub for_stops_last : (vars : Values) (left : ℕ) (first : Value) (f : Fault) → placed k (value_of a vars) ≡ Ok first → placed k (value_of b vars) ≡ Err f
+      → Runs T o k (For n a b c body) (record { vars = vars; left = suc left }) (Stopped f) (record { vars = vars; left = left })
+  for_stops_last vars left first f ha hb = rw (ha, hb) (refl, refl)
+
+  pub for_stops_by : (vars : Values) (left : ℕ) (first last : Value) (f : Fault) → placed k (value_of a vars) ≡ Ok first → placed k (value_of b vars) ≡ Ok last → placed k (value_of c vars) ≡ Err f
+      → Runs T o k (For n a b c body) (record { vars = vars; left = suc left }) (Stopped f) (record { vars = vars; left = left })
+  for_stops_by vars left first last f ha hb hc = rw (ha, hb, hc) (refl, refl)
+
   pub for_not_begun : (vars : Values) (left : ℕ) (first last by : Value)
       → placed k (value_of a vars) ≡ Ok first → placed k (value_of b vars) ≡ Ok last → placed k (value_of c vars) ≡ Ok by → fits (T n) first ≡ false
       → Runs T o k (For n a b c body) (record { vars = vars; left = suc left }) (Stopped (record { reason = reason.Range; number = k })) (record { vars = vars; left = left })

@@ -7,8 +7,22 @@ use Rattle.fb_types.specs.declared.value.Reason.TheVariants as reason
 use Rattle.fb_st.specs.declared.frame.Slot.{Slot}
 use Rattle.fb_st.specs.Frames.{declared_in, types_in, values_of}
 use Rattle.fb_stop.specs.Blamed.{Runs, Stopped}
-use Rattle.fb_stop.proofs.Runs.{for_counts, for_not_begun}
+use Rattle.fb_stop.proofs.Runs.{for_counts, for_not_begun, for_stops_by, for_stops_last}
 use Rattle.fb_stop.proofs.part.begin_for.Goals as goal
+
+pub returns-in_err-last-clause-failed : goal.returns-in_err-last-clause-failed
+returns-in_err-last-clause-failed c =
+    let x = err_from_is_err_and c.from_residual-in_err-last.result c.from_residual-in_err-last.ensures.1 in
+    rw (x.1, x.2) (λ around body left.
+    for_stops_last (types_in (declared_in c.args.frame.now)) around c.args.number c.args.variable.now (expr_of c.args.start.now) (expr_of c.args.end.now) (step_of c.args.step.now) body
+    (values_of c.args.frame.now) left c.in_ok-first.first c.in_err-last.field-0.0 (sym c.eval.ensures ∙ c.in_ok-first.was) (sym c.eval-2.ensures ∙ c.in_err-last.was))
+
+pub returns-in_err-by-clause-failed : goal.returns-in_err-by-clause-failed
+returns-in_err-by-clause-failed c =
+    let x = err_from_is_err_and c.from_residual-in_err-by.result c.from_residual-in_err-by.ensures.1 in
+    rw (x.1, x.2) (λ around body left.
+    for_stops_by (types_in (declared_in c.args.frame.now)) around c.args.number c.args.variable.now (expr_of c.args.start.now) (expr_of c.args.end.now) (step_of c.args.step.now) body
+    (values_of c.args.frame.now) left c.in_ok-first.first c.in_ok-last.last c.in_err-by.field-0.0 (sym c.eval.ensures ∙ c.in_ok-first.was) (sym c.eval-2.ensures ∙ c.in_ok-last.was) (sym c.step_value.ensures ∙ c.in_err-by.was))
 
 pub returns-in_err-assign-clause-failed : goal.returns-in_err-assign-clause-failed
 returns-in_err-assign-clause-failed c =
