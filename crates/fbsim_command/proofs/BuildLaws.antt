@@ -1,9 +1,12 @@
 -- Commands that are made argument by argument, none of them global.
-use Rattle.std.proofs.Common.{◌≡◌, ◌||◌, Bool, Result, Ok, Err, false, ap, ap₂, subst, ◌∙◌}
+use Rattle.std.proofs.Common.{◌≡◌, ◌||◌, ◌<◌, ◌≤◌, ◌+◌, ℕ, Bool, List, Result, Ok, Err, false, ap, ap₂, drop, get_or, length, refl, sym, subst, ◌∙◌}
 use Rattle.std.specs.Prelude.{IfOk}
+use Rattle.std.proofs.lemmas.List.{drop_all, drop_more}
 use Rattle.clap.specs.Words.{App, Rule, AddsArg, AddsSubcommand, app_of, rule_of, with_rule, with_subcommand}
 use Rattle.clap.specs.declared.builder.arg.Arg.{Arg}
 use Rattle.clap.specs.declared.builder.command.Command.{Command}
+use Rattle.fbsim_command.specs.Line.{rule_for, with_arguments}
+use Rattle.fbsim_command.specs.declared.arguments.Argument.{Argument}
 use Rattle.clap.specs.declared.builder.command.Command.TheViews.{out-Command as fields_of}
 
 -- what a command represents, and that nothing in it is global
@@ -19,20 +22,6 @@ grown old new x a r adds local is at =
       local = adds.globals ∙ ap (λ (b : Bool). b || x.global) at.local ∙ local;
     }
 
-pub grown_well : {E : Type 0} (old : Command) (made : Result Command E) (x : Arg) (a : App) (r : Rule) → IfOk made (AddsArg old x) → x.global ≡ false → rule_of x ≡ r → Builds old a
-    → IfOk made (λ c. Builds c (with_rule a r))
-grown_well old (Err e) x a r adds local is at = tt
-grown_well old (Ok new) x a r adds local is at = grown old new x a r adds local is at
-
--- what is asked of the command that is made
-pub app_well : {E : Type 0} (made : Result Command E) (a : App) → IfOk made (λ c. Builds c a) → IfOk made (λ c. app_of c ≡ a)
-app_well (Err e) a at = tt
-app_well (Ok c) a at = at.app
-
-pub local_well : {E : Type 0} (made : Result Command E) (a : App) → IfOk made (λ c. Builds c a) → IfOk made (λ c. (fields_of c).has_globals ≡ false)
-local_well (Err e) a at = tt
-local_well (Ok c) a at = at.local
-
 -- one more subcommand
 pub joined : (old new sub : Command) (a b : App) → AddsSubcommand old sub new → (fields_of sub).has_globals ≡ false → app_of old ≡ a → app_of sub ≡ b → app_of new ≡ with_subcommand a b.top
 joined old new sub a b adds local is of = adds.shape local ∙ ap₂ with_subcommand is (ap (λ (x : App). x.top) of)
@@ -47,15 +36,29 @@ pub stands_well :
 stands_well (Err e) a app local = tt
 stands_well (Ok c) a app local = record { app = app; local = local }
 
--- one more argument of a command that may not be there
-abbrev pub AddsArgTo : {E : Type 0} → Result Command E → Arg → Command → Type 0
-AddsArgTo before x new = (old : Command) × (before ≡ Ok old) × AddsArg old x new
+-- ---- A list of arguments
 
-pub grown_on :
-    {E : Type 0} (before made : Result Command E) (x : Arg) (a : App) (r : Rule) → IfOk made (AddsArgTo before x) → x.global ≡ false → rule_of x ≡ r
-    → IfOk before (λ c. Builds c a) → IfOk made (λ c. Builds c (with_rule a r))
-grown_on before (Err e) x a r adds local is at = tt
-grown_on before (Ok new) x a r adds local is at = grown adds.0 new x a r adds.2 local is (made_so before adds.0 (λ c. Builds c a) at adds.1)
+-- with the arguments from here on this is the command that is asked for, and nothing in it is global
+pub record Goes (a : App) (xs : List Argument) (i : ℕ) (c : Command) : Type 0 where
+  pub app : with_arguments a xs ≡ with_arguments (app_of c) (drop i xs)
+  pub local : (fields_of c).has_globals ≡ false
+
+pub goes-first : (xs : List Argument) (c : Command) → (fields_of c).has_globals ≡ false → Goes (app_of c) xs 0 c
+goes-first xs c local = record { app = refl; local = local }
+
+pub goes-on :
+    (a : App) (xs : List Argument) (i : ℕ) (d : Argument) (old new : Command) (x : Arg) → i < length xs → AddsArg old x new → x.global ≡ false
+    → rule_of x ≡ rule_for (get_or xs i d) → Goes a xs i old → Goes a xs (i + 1) new
+goes-on a xs i d old new x lt adds local is goes =
+    let more : Builds new (with_rule (app_of old) (rule_for (get_or xs i d))) =
+    grown old new x (app_of old) (rule_for (get_or xs i d)) adds local is (record { app = refl; local = goes.local }) in
+    record {
+      app = goes.app ∙ ap (with_arguments (app_of old)) (drop_more xs i d lt) ∙ ap (λ (b : App). with_arguments b (drop (i + 1) xs)) (sym more.app);
+      local = more.local;
+    }
+
+pub goes-past : (a : App) (xs : List Argument) (i : ℕ) (c : Command) → length xs ≤ i → Goes a xs i c → app_of c ≡ with_arguments a xs
+goes-past a xs i c end goes = sym (goes.app ∙ ap (with_arguments (app_of c)) (drop_all i xs end))
 
 -- one more subcommand, where both may not be there
 abbrev pub AddsSubcommandTo : {E : Type 0} → (before sub : Result Command E) → Command → Type 0

@@ -92,6 +92,9 @@ flag_none rows id none = (λ t. absurd (let f : false ≡ true = t in cc), λ is
 pub no_declaration : (rows : List Row) (name : Text) → first_of (codes "DECL") rows ≡ None → (c : Task) → name ≡ command_name c.action → IsTask rows c → ⊥
 no_declaration rows name none c named is = let given = is.declaration in absurd cc
 
+pub no_action : (rows : List Row) (name : Text) → ((o : Action) → name ≡ command_name o → IsAction rows o → ⊥) → (c : Task) → name ≡ command_name c.action → IsTask rows c → ⊥
+no_action rows name none c named is = none c.action named is.action
+
 -- ---- A command by its name
 
 -- the name of a run or a check is no other one

@@ -10,6 +10,8 @@ use Rattle.clap.specs.declared.builder.value_parser.ValueParser.{ValueParser}
 use Rattle.clap.specs.declared.builder.value_parser.ValueParser.TheVariants as parser
 use Rattle.fb_types.specs.declared.run.Form.{Form}
 use Rattle.fb_types.specs.declared.run.Form.TheVariants.{One, Two}
+use Rattle.fbsim_command.specs.declared.arguments.Argument.{Argument}
+use Rattle.fbsim_command.specs.declared.arguments.Argument.TheVariants as argument
 use Rattle.fbsim_command.specs.declared.bench_line.Diff.{Diff}
 use Rattle.fbsim_command.specs.declared.bench_line.Expect.{Expect}
 use Rattle.fbsim_command.specs.declared.coverage_line.Coverage.{Coverage}
@@ -73,6 +75,26 @@ repeated id = record (file id) { action = Some Append }
 -- an option without a value
 abbrev pub flag : Text → Rule
 flag id = record (new_rule id) { long = Some id; action = Some SetTrue }
+
+-- an option with a value of this kind, and with the text of that which is taken without it
+abbrev pub preset : Text → ValueParser → Text → Rule
+preset id values text = record (limited id values) { defaults = text ∷ [] }
+
+-- the rule of an argument of a list
+abbrev pub rule_for : Argument → Rule
+rule_for (argument.Required id help) = required id.now
+rule_for (argument.Several id help) = several id.now
+rule_for (argument.Named id help) = file id.now
+rule_for (argument.Repeated id help) = repeated id.now
+rule_for (argument.Flag id help) = flag id.now
+rule_for (argument.Needed id most help) = record (limited id.now (up_to most)) { required = true }
+rule_for (argument.Number id most text help) = preset id.now (up_to most) text.now
+rule_for (argument.Worded id words text help) = preset id.now words text.now
+
+-- a command with the arguments of a list, one after another
+abbrev pub with_arguments : App → List Argument → App
+with_arguments a [] = a
+with_arguments a (x ∷ xs) = with_arguments (with_rule a (rule_for x)) xs
 
 -- a command with an argument that has to be there
 abbrev pub begun : Text → Text → App
@@ -164,19 +186,25 @@ coverage =
 abbrev pub explain : App
 explain = begun (codes "explain") (codes "NAME")
 
+-- the program's command, without its subcommands
+abbrev pub program : App
+program = record { top = record (new_app (codes "fbsim")).top { has_version = true; subcommand_required = true }; subs = [] }
+
+-- a command with those of a run, with this parser for the form of the trace, of a check and of a dump
+abbrev pub with_runs : ValueParser → App → App
+with_runs values a = with_subcommand (with_subcommand (with_subcommand a (with_run_options values (files (codes "run"))).top) check.top) wave.top
+
+-- a command with those that hold traces against rules, compare them, and draw
+abbrev pub with_benches : App → App
+with_benches a = with_subcommand (with_subcommand (with_subcommand a expect.top) diff.top) draw.top
+
+-- a command with those that show what traces leave out, and that explain
+abbrev pub with_insides : App → App
+with_insides a = with_subcommand (with_subcommand (with_subcommand a inspect.top) coverage.top) explain.top
+
 -- the program's command, with this parser for the form of the trace
 abbrev pub simulator_with : ValueParser → App
-simulator_with values = with_subcommand (with_subcommand (with_subcommand (with_subcommand (with_subcommand (with_subcommand (with_subcommand (with_subcommand (with_subcommand
-    (record { top = record (new_app (codes "fbsim")).top { has_version = true; subcommand_required = true }; subs = [] })
-    (with_run_options values (files (codes "run"))).top)
-    check.top)
-    wave.top)
-    expect.top)
-    diff.top)
-    draw.top)
-    inspect.top)
-    coverage.top)
-    explain.top
+simulator_with values = with_insides (with_benches (with_runs values program))
 
 abbrev pub simulator : App
 simulator = simulator_with forms

@@ -1,17 +1,16 @@
 //! The calls that check traces: against rules, and against one another.
 
 ghost use Rattle.std.specs.Prelude.{◌≡◌, IfNone, IfOk, IfSome, codes, false, map, option_map};
-ghost use Rattle.clap.specs.Words.{app_of, found_of, rows_of, rule_of};
+ghost use Rattle.clap.specs.Words.{app_of, found_of, rows_of};
 ghost use Rattle.clap.specs.declared.builder.command.Command.TheViews.{out-Command as fields_of};
 ghost use Rattle.fbsim_command.specs.Line as spec;
 ghost use Rattle.fbsim_command.specs.Line.{AsksDiff, AsksExpect, IsCall, call_name};
 ghost use Rattle.fbsim_command.specs.declared.bench_line.Diff.{Diff};
 ghost use Rattle.fbsim_command.specs.declared.bench_line.Expect.{Expect};
 
-use crate::line::{
-    Call, TYPES_HELP, begun, flag, has_flag, option, repeated, required, types_of, with_arg,
-};
-use clap::{Arg, ArgAction, ArgMatches, Command};
+use crate::arguments::{Argument, TYPES_HELP, made};
+use crate::line::{Call, has_flag, types_of};
+use clap::{ArgMatches, Command};
 use std::alloc::{AllocError, Global};
 
 /// Rules, and the traces against which they are checked.
@@ -58,7 +57,7 @@ const DIFF_EXAMPLE: &str = "Example: fbsim diff cell.reference cell.trace";
 const RULES_HELP: &str =
     "The file with the rules, in TOML, at most 1 MiB and 1000 rules; `-` is standard input, here and below.";
 
-const TRACES_HELP: &str = "The files with the traces, of any length and in either form.";
+pub(crate) const TRACES_HELP: &str = "The files with the traces, of any length and in either form.";
 
 const DECL_HELP: &str =
     "The file with a declaration, at most 1 MiB, which must have all names of the rules.";
@@ -77,34 +76,22 @@ const FIRST_HELP: &str = "The file with the first trace; `-` is standard input, 
 
 const SECOND_HELP: &str = "The file with the second trace.";
 
-/// The arguments that are the names of the traces.
-pub(crate) fn traces<'a>(alloc: Global) -> Arg<'a>
-    ensures rule { rule_of result ≡ spec.several (codes "TRACE") }
-    ensures local { result.global ≡ false }
-{
-    required(alloc, "TRACE", TRACES_HELP).action(ArgAction::Append)
-}
-
 /// The command that checks rules against traces.
 pub(crate) fn expect_command<'a>(alloc: Global) -> Result<Command<'a>, AllocError>
     ensures app { IfOk result (λ c. app_of c ≡ spec.expect) }
     ensures globals { IfOk result (λ c. (fields_of c).has_globals ≡ false) }
 {
-    let command = begun(
-        alloc,
-        "expect",
-        EXPECT_ABOUT,
-        EXPECT_EXAMPLE,
-        "RULES",
-        RULES_HELP,
-    );
-    let command = with_arg(command, traces(alloc));
-    let command = with_arg(command, option(alloc, "decl", DECL_HELP));
-    let command = with_arg(command, repeated(alloc, "types", TYPES_HELP));
-    let command = with_arg(command, option(alloc, "deploy", DEPLOY_HELP));
-    let command = with_arg(command, flag(alloc, "strict", STRICT_HELP));
-    let command = with_arg(command, flag(alloc, "cut", CUT_HELP));
-    with_arg(command, flag(alloc, "why", WHY_HELP))
+    let arguments = [
+        Argument::Required("RULES", RULES_HELP),
+        Argument::Several("TRACE", TRACES_HELP),
+        Argument::Named("decl", DECL_HELP),
+        Argument::Repeated("types", TYPES_HELP),
+        Argument::Named("deploy", DEPLOY_HELP),
+        Argument::Flag("strict", STRICT_HELP),
+        Argument::Flag("cut", CUT_HELP),
+        Argument::Flag("why", WHY_HELP),
+    ];
+    made(alloc, "expect", EXPECT_ABOUT, EXPECT_EXAMPLE, &arguments)
 }
 
 /// The command that compares two traces.
@@ -112,8 +99,11 @@ pub(crate) fn diff_command<'a>(alloc: Global) -> Result<Command<'a>, AllocError>
     ensures app { IfOk result (λ c. app_of c ≡ spec.diff) }
     ensures globals { IfOk result (λ c. (fields_of c).has_globals ≡ false) }
 {
-    let command = begun(alloc, "diff", DIFF_ABOUT, DIFF_EXAMPLE, "A", FIRST_HELP);
-    with_arg(command, required(alloc, "B", SECOND_HELP))
+    let arguments = [
+        Argument::Required("A", FIRST_HELP),
+        Argument::Required("B", SECOND_HELP),
+    ];
+    made(alloc, "diff", DIFF_ABOUT, DIFF_EXAMPLE, &arguments)
 }
 
 /// Whether a deployment or block types are given without a declaration.

@@ -7,10 +7,9 @@ ghost use Rattle.fbsim_command.specs.Line as spec;
 ghost use Rattle.fbsim_command.specs.Line.{AsksCoverage, IsCall, call_name};
 ghost use Rattle.fbsim_command.specs.declared.coverage_line.Coverage.{Coverage};
 
-use crate::bench_line::traces;
-use crate::line::{
-    Call, WHY_HELP, deployed, flag, has_flag, limited, number, types_of, up_to, with_arg,
-};
+use crate::arguments::{Argument, deployed};
+use crate::bench_line::TRACES_HELP;
+use crate::line::{Call, WHY_HELP, has_flag, number, types_of};
 use clap::{ArgMatches, Command};
 use fb_types::MOST_STEPS;
 use std::alloc::{AllocError, Global};
@@ -48,12 +47,13 @@ pub(crate) fn coverage_command<'a>(alloc: Global) -> Result<Command<'a>, AllocEr
     ensures app { IfOk result (λ c. app_of c ≡ spec.coverage) }
     ensures globals { IfOk result (λ c. (fields_of c).has_globals ≡ false) }
 {
-    let command = deployed(alloc, "coverage", ABOUT, EXAMPLE);
-    let command = with_arg(command, traces(alloc));
-    let steps = limited(alloc, "steps", up_to(MOST_STEPS), STEPS_HELP).default_value("10000");
-    let command = with_arg(command, steps);
-    let command = with_arg(command, flag(alloc, "cut", CUT_HELP));
-    with_arg(command, flag(alloc, "why", WHY_HELP))
+    let arguments = [
+        Argument::Several("TRACE", TRACES_HELP),
+        Argument::Number("steps", MOST_STEPS, "10000", STEPS_HELP),
+        Argument::Flag("cut", CUT_HELP),
+        Argument::Flag("why", WHY_HELP),
+    ];
+    deployed(alloc, "coverage", ABOUT, EXAMPLE, &arguments)
 }
 
 /// The call that reports what traces cover, with what was found.

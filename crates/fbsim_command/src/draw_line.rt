@@ -7,7 +7,8 @@ ghost use Rattle.fbsim_command.specs.Line as spec;
 ghost use Rattle.fbsim_command.specs.Line.{AsksDraw, IsCall, call_name};
 ghost use Rattle.fbsim_command.specs.declared.draw_line.Draw.{Draw};
 
-use crate::line::{Call, deployed, option, types_of, with_arg};
+use crate::arguments::{Argument, deployed};
+use crate::line::{Call, types_of};
 use clap::{ArgMatches, Command};
 use std::alloc::{AllocError, Global};
 
@@ -35,8 +36,8 @@ pub(crate) fn draw_command<'a>(alloc: Global) -> Result<Command<'a>, AllocError>
     ensures app { IfOk result (λ c. app_of c ≡ spec.draw) }
     ensures globals { IfOk result (λ c. (fields_of c).has_globals ≡ false) }
 {
-    let command = deployed(alloc, "draw", ABOUT, EXAMPLE);
-    with_arg(command, option(alloc, "type", TYPE_HELP))
+    let arguments = [Argument::Named("type", TYPE_HELP)];
+    deployed(alloc, "draw", ABOUT, EXAMPLE, &arguments)
 }
 
 /// The call that draws what is declared, from the parser's matches.

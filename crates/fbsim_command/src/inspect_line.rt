@@ -7,10 +7,8 @@ ghost use Rattle.fbsim_command.specs.Line as spec;
 ghost use Rattle.fbsim_command.specs.Line.{AsksInspect, IsCall, call_name, or_none};
 ghost use Rattle.fbsim_command.specs.declared.inspect_line.Inspect.{Inspect};
 
-use crate::line::{
-    Call, WHY_HELP, deployed, flag, has_flag, limited, number, repeated, required, types_of, up_to,
-    with_arg,
-};
+use crate::arguments::{Argument, deployed};
+use crate::line::{Call, WHY_HELP, has_flag, number, types_of};
 use clap::{ArgMatches, Command};
 use fb_types::MOST_STEPS;
 use std::alloc::{AllocError, Global};
@@ -56,13 +54,14 @@ pub(crate) fn inspect_command<'a>(alloc: Global) -> Result<Command<'a>, AllocErr
     ensures app { IfOk result (λ c. app_of c ≡ spec.inspect) }
     ensures globals { IfOk result (λ c. (fields_of c).has_globals ≡ false) }
 {
-    let command = deployed(alloc, "inspect", ABOUT, EXAMPLE);
-    let command = with_arg(command, required(alloc, "TRACE", TRACE_HELP));
-    let command = with_arg(command, repeated(alloc, "only", ONLY_HELP));
-    let steps = limited(alloc, "steps", up_to(MOST_STEPS), STEPS_HELP).default_value("10000");
-    let command = with_arg(command, steps);
-    let command = with_arg(command, flag(alloc, "cut", CUT_HELP));
-    with_arg(command, flag(alloc, "why", WHY_HELP))
+    let arguments = [
+        Argument::Required("TRACE", TRACE_HELP),
+        Argument::Repeated("only", ONLY_HELP),
+        Argument::Number("steps", MOST_STEPS, "10000", STEPS_HELP),
+        Argument::Flag("cut", CUT_HELP),
+        Argument::Flag("why", WHY_HELP),
+    ];
+    deployed(alloc, "inspect", ABOUT, EXAMPLE, &arguments)
 }
 
 /// The paths of the instances that are shown.

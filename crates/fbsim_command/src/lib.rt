@@ -6,14 +6,16 @@
 //! first bytes of a file, at most as many as are asked for, and standard input once.
 //!
 //! Read in this order: `line`, the calls and how their words are read; `bench_line`, `draw_line`, `inspect_line` and
-//! `coverage_line`, the words of `expect`, `diff`, `draw`, `inspect` and `coverage`. Then `sources`, where files come
-//! from; `files`, those of the machine; `program`, the call; `texts`, what is read, with `join`, a declaration in
-//! several files, and `own_lines`, how its refusals name a file and a line, which agree by `laws`; `lint`, with
-//! `call_names` and `warning_lines`, the lines of warnings; `located_stop`, where a run stops; `wave`, with
-//! `state_dump` and `line_notes`; `draw`; `inspect` and `coverage`, with `inside_notes`; `expect` and `known`, rules
-//! and traces; `output`; `failure`, `notes`, `input_notes`, `rules_notes` and `statuses`, how it ends.
+//! `coverage_line`, the words of `expect`, `diff`, `draw`, `inspect` and `coverage`, with `arguments`, of which their
+//! commands are made. Then `sources`, where files come from; `files`, those of the machine; `program`, the call;
+//! `texts`, what is read, with `join`, a declaration in several files, and `own_lines`, how its refusals name a file
+//! and a line, which agree by `laws`; `lint`, with `call_names` and `warning_lines`, the lines of warnings;
+//! `located_stop`, where a run stops; `wave`, with `state_dump` and `line_notes`; `draw`; `inspect` and `coverage`,
+//! with `inside_notes`; `expect` and `known`, rules and traces; `output`; `failure`, `notes`, `input_notes`,
+//! `rules_notes` and `statuses`, how it ends.
 #![tactic(auto)]
 
+mod arguments;
 mod bench_line;
 pub mod call_names;
 mod coverage;

@@ -9,17 +9,18 @@ ghost use Rattle.fbsim_command.specs.declared.line.Action.{Action};
 ghost use Rattle.fbsim_command.specs.declared.line.Call.{Call};
 ghost use Rattle.fbsim_command.specs.declared.line.Wave.{Wave};
 ghost use Rattle.fb_types.specs.declared.run.Form.{Form};
-ghost use Rattle.clap.specs.Words.{AddsArg, AddsSubcommand, app_of, first_of, rows_of, found_of, rule_of, kind_of, subcommand_rows_of};
+ghost use Rattle.clap.specs.Words.{AddsSubcommand, App, app_of, first_of, rows_of, found_of, kind_of, subcommand_rows_of};
 ghost use Rattle.clap.specs.declared.builder.command.Command.{Command as Cmd};
 ghost use Rattle.clap.specs.declared.builder.command.Command.TheViews.{out-Command as fields_of};
 
+use crate::arguments::{Argument, deployed, made};
 use crate::bench_line::{Diff, Expect, diff_command, diff_of, expect_command, expect_of};
 use crate::coverage_line::{Coverage, coverage_command, coverage_of};
 use crate::draw_line::{Draw, draw_command, draw_of};
 use crate::inspect_line::{Inspect, inspect_command, inspect_of};
 use clap::builder::ValueParser;
 use clap::error::ErrorKind;
-use clap::{Arg, ArgAction, ArgMatches, Command, Error};
+use clap::{ArgMatches, Command, Error};
 use fb_types::{Form, LATEST_TICK, MOST_STEPS, MOST_WORKERS};
 use std::alloc::{AllocError, Global};
 
@@ -162,20 +163,11 @@ const EXPLAIN_EXAMPLE: &str = "Example: fbsim explain E21";
 const NAME_HELP: &str =
     "The name of the refusal in its line, E01 to E45; \"file fault\", as one word; of a warning, L01 to L13; or the reason of a stop: steps, divide or range. Letter case makes no difference.";
 
-const DECLARATION_HELP: &str =
-    "The file with the declaration of the types and the application, at most 1 MiB; `-` is standard input, here and below.";
-
-pub(crate) const TYPES_HELP: &str =
-    "A file with block types that is read before the declaration; give the option once for each file. All these texts together have at most 1 MiB.";
-
 const TRACE_FILE_HELP: &str =
     "The file with the trace, of any length and in either form, of a run of these files.";
 
 const CUT_TRACE_HELP: &str =
     "Accepts a trace that is cut off, without a last line or within a line; the dump says so at its end.";
-
-const DEPLOY_HELP: &str =
-    "The file with the deployment, in TOML, at most 1 MiB; without it one resource MAIN has every instance.";
 
 const STIMULI_HELP: &str =
     "The file with the stimuli, in CSV, at most 16 MiB; without it there are none.";
@@ -205,133 +197,6 @@ const LINT_HELP: &str =
 /// The names of the forms of the trace.
 const FORM_WORDS: &[&str] = &["1", "2"];
 
-/// A required argument, by its position among the words.
-pub(crate) fn required<'a>(alloc: Global, id: &'a str, help: &'a str) -> Arg<'a>
-    ensures rule { rule_of result ≡ spec.required id.entry.now }
-    ensures local { result.global ≡ false }
-{
-    Arg::new(alloc, id).required(true).help(help)
-}
-
-/// An option that takes a value, such as the name of a file.
-pub(crate) fn option<'a>(alloc: Global, id: &'a str, help: &'a str) -> Arg<'a>
-    ensures rule { rule_of result ≡ spec.file id.entry.now }
-    ensures local { result.global ≡ false }
-{
-    Arg::new(alloc, id).long(id).help(help)
-}
-
-/// An option that takes the name of a file, and may be given several times.
-pub(crate) fn repeated<'a>(alloc: Global, id: &'a str, help: &'a str) -> Arg<'a>
-    ensures rule { rule_of result ≡ spec.repeated id.entry.now }
-    ensures local { result.global ≡ false }
-{
-    option(alloc, id, help).action(ArgAction::Append)
-}
-
-/// An option that takes a value of this kind.
-pub(crate) fn limited<'a>(
-    alloc: Global,
-    id: &'a str,
-    values: ValueParser<'a>,
-    help: &'a str,
-) -> Arg<'a>
-    ensures rule { rule_of result ≡ spec.limited id.entry.now values.entry }
-    ensures local { result.global ≡ false }
-{
-    option(alloc, id, help).value_parser(values)
-}
-
-/// An option without a value.
-pub(crate) fn flag<'a>(alloc: Global, id: &'a str, help: &'a str) -> Arg<'a>
-    ensures rule { rule_of result ≡ spec.flag id.entry.now }
-    ensures local { result.global ≡ false }
-{
-    option(alloc, id, help).action(ArgAction::SetTrue)
-}
-
-/// The command with one more argument, if there was memory for it.
-pub(crate) fn with_arg<'a>(
-    command: Result<Command<'a>, AllocError>,
-    arg: Arg<'a>,
-) -> Result<Command<'a>, AllocError>
-    ensures { IfOk result (λ new. (old : Cmd) × (command.entry ≡ Ok old) × AddsArg old arg.entry new) }
-{
-    match command {
-        Ok(command) => command.arg(arg),
-        Err(error) => {
-            // Dropped by one call: the end of its scope would prove the drop part by part.
-            drop(arg);
-            Err(error)
-        }
-    }
-}
-
-/// A command with a required argument, and the help texts of both.
-pub(crate) fn begun<'a>(
-    alloc: Global,
-    name: &'a str,
-    about: &'a str,
-    example: &'a str,
-    id: &'a str,
-    help: &'a str,
-) -> Result<Command<'a>, AllocError>
-    ensures app { IfOk result (λ c. app_of c ≡ spec.begun name.entry.now id.entry.now) }
-    ensures globals { IfOk result (λ c. (fields_of c).has_globals ≡ false) }
-{
-    Command::new(alloc, name)
-        .about(about)
-        .after_help(example)
-        .arg(required(alloc, id, help))
-}
-
-/// A command with the names of a declaration, of the files of block types before it, and of its deployment, and its help
-/// text.
-pub(crate) fn deployed<'a>(
-    alloc: Global,
-    name: &'a str,
-    about: &'a str,
-    example: &'a str,
-) -> Result<Command<'a>, AllocError>
-    ensures app { IfOk result (λ c. app_of c ≡ spec.deployed name.entry.now) }
-    ensures globals { IfOk result (λ c. (fields_of c).has_globals ≡ false) }
-{
-    let command = begun(alloc, name, about, example, "DECL", DECLARATION_HELP);
-    let command = with_arg(command, repeated(alloc, "types", TYPES_HELP));
-    with_arg(command, option(alloc, "deploy", DEPLOY_HELP))
-}
-
-/// A command with the names of its files, and its help text.
-fn files<'a>(
-    alloc: Global,
-    name: &'a str,
-    about: &'a str,
-    example: &'a str,
-) -> Result<Command<'a>, AllocError>
-    ensures app { IfOk result (λ c. app_of c ≡ spec.files name.entry.now) }
-    ensures globals { IfOk result (λ c. (fields_of c).has_globals ≡ false) }
-{
-    let command = deployed(alloc, name, about, example);
-    let command = with_arg(command, option(alloc, "stim", STIMULI_HELP));
-    with_arg(command, flag(alloc, "why", WHY_HELP))
-}
-
-/// The command that checks.
-fn check_command<'a>(alloc: Global) -> Result<Command<'a>, AllocError>
-    ensures app { IfOk result (λ c. app_of c ≡ spec.check) }
-    ensures globals { IfOk result (λ c. (fields_of c).has_globals ≡ false) }
-{
-    let command = files(alloc, "check", CHECK_ABOUT, CHECK_EXAMPLE);
-    with_arg(command, flag(alloc, "lint", LINT_HELP))
-}
-
-/// Whole numbers from 1 to the most.
-pub(crate) fn up_to<'a>(most: u64) -> ValueParser<'a>
-    ensures { result ≡ spec.up_to most }
-{
-    ValueParser::Unsigned(1, most)
-}
-
 /// The words of the forms of the trace, and no others.
 fn forms<'a>() -> ValueParser<'a>
     ensures { AreForms result }
@@ -339,30 +204,35 @@ fn forms<'a>() -> ValueParser<'a>
     ValueParser::Names(FORM_WORDS)
 }
 
-/// The command `run`, with the options that are numbers: horizon, steps and workers.
-fn run_numbers<'a>(alloc: Global) -> Result<Command<'a>, AllocError>
-    ensures app { IfOk result (λ c. app_of c ≡ spec.with_numbers (spec.files (codes "run"))) }
+/// The command that checks.
+fn check_command<'a>(alloc: Global) -> Result<Command<'a>, AllocError>
+    ensures app { IfOk result (λ c. app_of c ≡ spec.check) }
     ensures globals { IfOk result (λ c. (fields_of c).has_globals ≡ false) }
 {
-    let command = files(alloc, "run", RUN_ABOUT, RUN_EXAMPLE);
-    let horizon = limited(alloc, "horizon", up_to(LATEST_TICK), HORIZON_HELP).required(true);
-    let command = with_arg(command, horizon);
-    let steps = limited(alloc, "steps", up_to(MOST_STEPS), STEPS_HELP).default_value("10000");
-    let command = with_arg(command, steps);
-    let workers = limited(alloc, "workers", up_to(MOST_WORKERS), WORKERS_HELP).default_value("1");
-    with_arg(command, workers)
+    let arguments = [
+        Argument::Named("stim", STIMULI_HELP),
+        Argument::Flag("why", WHY_HELP),
+        Argument::Flag("lint", LINT_HELP),
+    ];
+    deployed(alloc, "check", CHECK_ABOUT, CHECK_EXAMPLE, &arguments)
 }
 
-/// The command `run` with all its options.
+/// The command `run`.
 fn run<'a>(alloc: Global, forms: ValueParser<'a>) -> Result<Command<'a>, AllocError>
     ensures app { IfOk result (λ c. app_of c ≡ spec.with_run_options forms.entry (spec.files (codes "run"))) }
     ensures globals { IfOk result (λ c. (fields_of c).has_globals ≡ false) }
 {
-    let command = run_numbers(alloc);
-    let command = with_arg(command, flag(alloc, "serial", SERIAL_HELP));
-    let command = with_arg(command, flag(alloc, "progress", PROGRESS_HELP));
-    let trace = limited(alloc, "trace", forms, TRACE_HELP).default_value("1");
-    with_arg(command, trace)
+    let arguments = [
+        Argument::Named("stim", STIMULI_HELP),
+        Argument::Flag("why", WHY_HELP),
+        Argument::Needed("horizon", LATEST_TICK, HORIZON_HELP),
+        Argument::Number("steps", MOST_STEPS, "10000", STEPS_HELP),
+        Argument::Number("workers", MOST_WORKERS, "1", WORKERS_HELP),
+        Argument::Flag("serial", SERIAL_HELP),
+        Argument::Flag("progress", PROGRESS_HELP),
+        Argument::Worded("trace", forms, "1", TRACE_HELP),
+    ];
+    deployed(alloc, "run", RUN_ABOUT, RUN_EXAMPLE, &arguments)
 }
 
 /// The command that shows a trace.
@@ -370,13 +240,14 @@ fn wave_command<'a>(alloc: Global) -> Result<Command<'a>, AllocError>
     ensures app { IfOk result (λ c. app_of c ≡ spec.wave) }
     ensures globals { IfOk result (λ c. (fields_of c).has_globals ≡ false) }
 {
-    let command = deployed(alloc, "wave", WAVE_ABOUT, WAVE_EXAMPLE);
-    let command = with_arg(command, required(alloc, "TRACE", TRACE_FILE_HELP));
-    let command = with_arg(command, flag(alloc, "cut", CUT_TRACE_HELP));
-    let command = with_arg(command, flag(alloc, "states", STATES_HELP));
-    let steps = limited(alloc, "steps", up_to(MOST_STEPS), WAVE_STEPS_HELP).default_value("10000");
-    let command = with_arg(command, steps);
-    with_arg(command, flag(alloc, "why", WHY_HELP))
+    let arguments = [
+        Argument::Required("TRACE", TRACE_FILE_HELP),
+        Argument::Flag("cut", CUT_TRACE_HELP),
+        Argument::Flag("states", STATES_HELP),
+        Argument::Number("steps", MOST_STEPS, "10000", WAVE_STEPS_HELP),
+        Argument::Flag("why", WHY_HELP),
+    ];
+    deployed(alloc, "wave", WAVE_ABOUT, WAVE_EXAMPLE, &arguments)
 }
 
 /// The command that explains a refusal or a reason.
@@ -384,14 +255,8 @@ fn explain<'a>(alloc: Global) -> Result<Command<'a>, AllocError>
     ensures app { IfOk result (λ c. app_of c ≡ spec.explain) }
     ensures globals { IfOk result (λ c. (fields_of c).has_globals ≡ false) }
 {
-    begun(
-        alloc,
-        "explain",
-        EXPLAIN_ABOUT,
-        EXPLAIN_EXAMPLE,
-        "NAME",
-        NAME_HELP,
-    )
+    let arguments = [Argument::Required("NAME", NAME_HELP)];
+    made(alloc, "explain", EXPLAIN_ABOUT, EXPLAIN_EXAMPLE, &arguments)
 }
 
 /// Both of two values, if there was memory for both. It takes values of any types: dropping a known type on the way is
@@ -417,23 +282,60 @@ fn with_subcommand<'a>(
     command.subcommand(subcommand)
 }
 
-fn simulator<'a>(alloc: Global, forms: ValueParser<'a>) -> Result<Command<'a>, AllocError>
-    ensures { IfOk result (λ c. app_of c ≡ spec.simulator_with forms.entry) }
+/// The command of the program, without its subcommands.
+fn program<'a>(alloc: Global) -> Command<'a>
+    ensures { app_of result ≡ spec.program }
 {
-    let command = Command::new(alloc, "fbsim")
+    Command::new(alloc, "fbsim")
         .version(VERSION)
         .about(ABOUT)
         .after_help(EXAMPLE)
-        .subcommand_required(true);
-    let command = with_subcommand(Ok(command), run(alloc, forms));
+        .subcommand_required(true)
+}
+
+/// The command with those of a run, a check and a dump.
+fn with_runs<'a>(
+    alloc: Global,
+    command: Result<Command<'a>, AllocError>,
+    forms: ValueParser<'a>,
+) -> Result<Command<'a>, AllocError>
+    ensures { (a : App) → IfOk command.entry (λ c. app_of c ≡ a) → IfOk result (λ c. app_of c ≡ spec.with_runs forms.entry a) }
+{
+    let command = with_subcommand(command, run(alloc, forms));
     let command = with_subcommand(command, check_command(alloc));
-    let command = with_subcommand(command, wave_command(alloc));
+    with_subcommand(command, wave_command(alloc))
+}
+
+/// The command with those that hold traces against rules, compare them, and draw.
+fn with_benches<'a>(
+    alloc: Global,
+    command: Result<Command<'a>, AllocError>,
+) -> Result<Command<'a>, AllocError>
+    ensures { (a : App) → IfOk command.entry (λ c. app_of c ≡ a) → IfOk result (λ c. app_of c ≡ spec.with_benches a) }
+{
     let command = with_subcommand(command, expect_command(alloc));
     let command = with_subcommand(command, diff_command(alloc));
-    let command = with_subcommand(command, draw_command(alloc));
+    with_subcommand(command, draw_command(alloc))
+}
+
+/// The command with those that show what traces leave out, and that explain.
+fn with_insides<'a>(
+    alloc: Global,
+    command: Result<Command<'a>, AllocError>,
+) -> Result<Command<'a>, AllocError>
+    ensures { (a : App) → IfOk command.entry (λ c. app_of c ≡ a) → IfOk result (λ c. app_of c ≡ spec.with_insides a) }
+{
     let command = with_subcommand(command, inspect_command(alloc));
     let command = with_subcommand(command, coverage_command(alloc));
     with_subcommand(command, explain(alloc))
+}
+
+/// The command of the program.
+fn simulator<'a>(alloc: Global, forms: ValueParser<'a>) -> Result<Command<'a>, AllocError>
+    ensures { IfOk result (λ c. app_of c ≡ spec.simulator_with forms.entry) }
+{
+    let command = with_runs(alloc, Ok(program(alloc)), forms);
+    with_insides(alloc, with_benches(alloc, command))
 }
 
 pub(crate) fn number(found: &ArgMatches<'_>, id: &str) -> Option<u64>
@@ -514,11 +416,15 @@ fn task_of<'a>(name: &str, found: &ArgMatches<'a>) -> Option<Task<'a>>
     ensures rows { IfSome result (IsTask (rows_of (found_of found.now))) }
     ensures none { IfNone result ((c : Task) → name.now ≡ command_name c.action → IsTask (rows_of (found_of found.now)) c → ⊥) }
 {
-    let declaration = found.get_str("DECL")?;
+    let Some(declaration) = found.get_str("DECL") else {
+        return None;
+    };
+    let Some(action) = action_of(name, found) else {
+        return None;
+    };
     let deploy = found.get_str("deploy");
     let stimuli = found.get_str("stim");
     let why = has_flag(found, "why");
-    let action = action_of(name, found)?;
     Some(Task {
         action,
         declaration,
