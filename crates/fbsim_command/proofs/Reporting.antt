@@ -1,20 +1,28 @@
 -- What is reported of the progress of a run, and then of how a call ends.
-use Rattle.std.proofs.Common.{◌≡◌, ◌∙◌, ◌&&◌, ◌++◌, Bool, true, false, List, [], Option, None, option_map, refl, sym, ap, subst, append-nil, string_bytes}
+use Rattle.std.proofs.Common.{◌≡◌, ◌∙◌, ◌&&◌, ◌++◌, Bool, true, false, List, [], ℕ, Option, Some, None, inl, option_map, refl, sym, ap, subst, append-nil, string_bytes}
 use Rattle.std.specs.Prelude.{IsTrue, IfErr, IfOk, OnOk, Result, Ok, Err}
 use Rattle.std.specs.Io.KnownBytes.{Appends}
 use Rattle.std.proofs.KnownBytes.{Appends-nil, Appends-trans}
 use Rattle.clap.specs.Words.{Text}
 use Rattle.fbsim_command.specs.Line.{AskHelp}
+use Rattle.fb_read.specs.declared.error.ReadError.{ReadError}
+use Rattle.fb_read.specs.declared.error.ReadError.TheVariants as read
+use Rattle.fb_check.specs.Refusals as check
+use Rattle.fb_inputs.specs.Refusals as input
 use Rattle.fb_sim.specs.Given.{Given}
+use Rattle.fb_sim.specs.Rounds.{FailsRun}
+use Rattle.fb_sim.specs.declared.outcome.Refusal as sim
+use Rattle.fb_sim.specs.declared.outcome.Refusal.TheVariants as of
+use Rattle.fb_sim.specs.declared.outcome.RunError.TheVariants as run
 use Rattle.fb_sim.specs.declared.options.Options.{Options}
 use Rattle.fb_trace.specs.declared.last.Outcome.{Outcome}
 use Rattle.fb_trace.specs.declared.last.Outcome.TheVariants as sim_end
 use Rattle.fb_sim.specs.declared.outcome.RunError.{RunError}
 use Rattle.fb_sim.specs.Reports.{AreReports, Hears}
 use Rattle.fb_trace.specs.End.{ending_of}
-use Rattle.fb_sim.specs.Serial.{Writes}
+use Rattle.fb_sim.specs.Serial.{AreWithin, IsRightly, Writes}
 use Rattle.fbsim_command.specs.Command.{Explains, IsDoneOf, IsEndOf, ReportsOn, Runs}
-use Rattle.fbsim_command.specs.Failures.{WritesPart, failure_of}
+use Rattle.fbsim_command.specs.Failures.{WritesPart, failure_of, numbered_input}
 use Rattle.fbsim_command.specs.declared.failure.Failure.{Failure}
 use Rattle.fbsim_command.specs.Outcomes.{End, Held}
 use Rattle.fbsim_command.specs.declared.program.Answer.{Answer}
@@ -34,6 +42,41 @@ pub ran :
 ran serial given options old new (sim_end.End h) d is writes = subst (λ (x : Done). Runs serial given options old new (Ok x)) (sym is) (h, writes)
 ran serial given options old new (sim_end.Stop mark) d is writes =
     subst (λ (x : Done). Runs serial given options old new (Ok x)) (sym is) (mark.tick, mark.resource, mark.reason, writes)
+
+-- a run that fails
+module _ (serial : Bool) (given : Given) (options : Options) (old new : Held) where
+  numbered :
+      (r : sim.Refusal) → AreWithin options → IsRightly given r → new ≡ old → (n : Option ℕ) → failure_of (run.Refused r) ≡ numbered_input n
+      → Runs serial given options old new (Err (numbered_input n))
+  numbered r within is same (Some n) reported = (within, record { error = run.Refused r; refused = is; reported = reported }, same)
+  numbered r within is same None reported = inl (within, same)
+
+  unread : (e : ReadError) → AreWithin options → IsRightly given (of.Declaration e) → new ≡ old → Runs serial given options old new (Err (failure_of (run.Refused (of.Declaration e))))
+  unread read.Memory within is same = inl (within, same)
+  unread read.Byte within is same = (within, record { error = run.Refused (of.Declaration read.Byte); refused = is; reported = refl }, same)
+  unread read.Token within is same = (within, record { error = run.Refused (of.Declaration read.Token); refused = is; reported = refl }, same)
+  unread (read.Syntax line) within is same = (within, record { error = run.Refused (of.Declaration (read.Syntax line)); refused = is; reported = refl }, same)
+  unread read.TooLong within is same = (within, record { error = run.Refused (of.Declaration read.TooLong); refused = is; reported = refl }, same)
+  unread read.Nesting within is same = (within, record { error = run.Refused (of.Declaration read.Nesting); refused = is; reported = refl }, same)
+
+  refused : (r : sim.Refusal) → AreWithin options → IsRightly given r → new ≡ old → Runs serial given options old new (Err (failure_of (run.Refused r)))
+  refused (of.Declaration e) within is same = unread e within is same
+  refused (of.Deployment e) within is same = numbered (of.Deployment e) within is same (input.number_of e) refl
+  refused (of.Stimuli e) within is same = numbered (of.Stimuli e) within is same (input.number_of e) refl
+  refused (of.Check e) within is same = numbered (of.Check e) within is same (check.number_of e) refl
+
+  fails : (e : RunError) → FailsRun given options old new e → Runs serial given options old new (Err (failure_of e))
+  fails (run.Refused r) is = refused r is.0 is.1 is.2
+  fails run.Memory is = is
+  fails (run.Write n) is = is
+  fails run.BadOption is = is
+  fails run.Failed is = absurd is
+
+  pub runs_so :
+      (r : Result Outcome RunError) (end : End) → IsEndOf r end → IfOk r (λ o. Writes given options old new (ending_of o)) → IfErr r (FailsRun given options old new)
+      → Runs serial given options old new end
+  runs_so (Ok o) end is writes failed = subst (λ (e : End). Runs serial given options old new e) (sym is.2) (ran serial given options old new o is.0 is.1 writes)
+  runs_so (Err e) end is writes failed = subst (λ (f : End). Runs serial given options old new f) (sym is) (fails e failed)
 
 pub has_reported :
     (given : Given) (options : Options) (out_old out_new : Held) (r : Result Outcome RunError) (end : End) (heard : Bool) (old new : Held) → IsEndOf r end

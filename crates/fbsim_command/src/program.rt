@@ -3,7 +3,8 @@
 ghost use Rattle.std.specs.Io.KnownBytes.{Appends};
 ghost use Rattle.std.specs.Prelude.{◌≡◌, ◌++◌, ℕ, List, [], Option, None, false, true, map, option_map, Result, IfOk, IfErr, IsTrue, OnOk, string_bytes};
 ghost use Rattle.fb_sim.specs.Reports.{Hears};
-ghost use Rattle.fbsim_command.specs.Command.{Checks, Does, ExplainsRefusal, IsDoneOf, Meets, Performs, Reports, ReportsOn, Runs};
+ghost use Rattle.fbsim_command.specs.Command.{Checks, Does, Explains, ExplainsRefusal, IsDoneOf, IsEndOf, Meets, Performs, Reports, ReportsOn, Runs};
+ghost use Rattle.fbsim_command.specs.Line.{AreCall, AreNoCall, AskHelp, IsFault, IsHelp, IsTaken};
 ghost use Rattle.fbsim_command.specs.Notes.{NotesOf};
 ghost use Rattle.fbsim_command.specs.WarningLines.{naming_of};
 ghost use Rattle.fbsim_command.specs.Texts.{given_of, lines_of};
@@ -30,7 +31,7 @@ use crate::wave::show;
 use crate::{Action, Call, LineFault, Task, parse};
 use fb_phase::OpenGate;
 use fb_sim::{
-    Inputs, NoClock, Options, Outcome, ReportedRun, check, run_serial, run_with_clock,
+    Inputs, NoClock, Options, Outcome, ReportedRun, RunError, check, run_serial, run_with_clock,
     run_with_progress,
 };
 use fb_why::{Explanation, explain};
@@ -59,6 +60,16 @@ fn done_of(outcome: Outcome) -> Done
     }
 }
 
+/// How a call ends as its run did.
+fn end_of_run(end: Result<Outcome, RunError>) -> Result<Done, Failure>
+    ensures { IsEndOf end result }
+{
+    match end {
+        Ok(outcome) => Ok(done_of(outcome)),
+        Err(error) => Err(Failure::from(error)),
+    }
+}
+
 /// Writes the trace of the inputs, from one agenda or with workers.
 fn run_inputs<R: Threads + Wait + Sync, C: Clock + CpuClock, W: Write>(
     rt: &R,
@@ -72,9 +83,9 @@ fn run_inputs<R: Threads + Wait + Sync, C: Clock + CpuClock, W: Write>(
     ensures { Runs serial inputs.now options (W.contents out.old) (W.contents out.new) result }
 {
     if serial {
-        return Ok(done_of(run_serial(alloc, inputs, options, out)?));
+        return end_of_run(run_serial(alloc, inputs, options, out));
     }
-    Ok(done_of(run_with_clock(rt, alloc, inputs, options, out, &OpenGate, clock)?))
+    end_of_run(run_with_clock(rt, alloc, inputs, options, out, &OpenGate, clock))
 }
 
 /// Writes the trace of the inputs with workers, and reports the progress of the run meanwhile. It says how that ends,
@@ -91,10 +102,7 @@ fn run_and_report<R: Threads + Wait + Sync, W: Write, E: Write>(
     ensures reported { (reports : List ℕ) × ReportsOn false true inputs.now options (W.contents out.old) (W.contents out.new) result.0 reports × Hears result.1 (E.contents err.old) (E.contents err.new) reports }
 {
     let ReportedRun { end, is_heard } = run_with_progress(rt, alloc, inputs, options, out, err);
-    match end {
-        Ok(outcome) => (Ok(done_of(outcome)), is_heard),
-        Err(error) => (Err(Failure::from(error)), is_heard),
-    }
+    (end_of_run(end), is_heard)
 }
 
 /// What came of a call.
@@ -274,6 +282,54 @@ fn help_to<W: Write>(help: &str, out: &mut W) -> Result<Done, Failure>
     Ok(Done::Helped)
 }
 
+/// Does what a call asks for.
+fn answer_to<
+    R: Threads + Wait + Sync,
+    C: Clock + CpuClock,
+    S: Source + Streams,
+    W: Write,
+    E: Write,
+>(
+    rt: &R,
+    clock: &C,
+    alloc: Global,
+    call: &Call<'_>,
+    source: &mut S,
+    out: &mut W,
+    err: &mut E,
+) -> Answer
+    ensures { (words : List (List ℕ)) → AreCall words call.now → IsTaken words → (reports : List ℕ) × Hears result.is_heard (E.contents err.old) (E.contents err.new) reports
+        × Does S.gives S.opens source.old source.new words (W.contents out.old) (W.contents out.new) result.end reports (option_map string_bytes result.note) }
+{
+    match call {
+        Call::Task(task, types) => {
+            perform(rt, clock, alloc, types.as_slice(), task, source, out, err)
+        }
+        Call::Explain(name) => ended(explain_to(alloc, *name, out)),
+        Call::Wave(wave, types) => ended_with(show(alloc, types.as_slice(), wave, source, out)),
+        Call::Expect(call) => ended_with(expect(alloc, call, source, out)),
+        Call::Diff(call) => ended(diff(alloc, call, source, out)),
+        Call::Draw(call, types) => ended(show_graph(alloc, types.as_slice(), call, source, out)),
+        Call::Inspect(call, types) => {
+            ended_with(show_insides(alloc, types.as_slice(), call, source, out))
+        }
+        Call::Coverage(call, types) => {
+            ended_with(show_coverage(alloc, types.as_slice(), call, source, out))
+        }
+    }
+}
+
+/// How words end that name no call: the help or the version is written, if they ask for it.
+fn end_without_call<W: Write>(fault: LineFault, out: &mut W) -> Result<Done, Failure>
+    ensures { (words : List (List ℕ)) → (IsHelp fault → AskHelp words) → (IsFault fault → AreNoCall words) → Explains words (W.contents out.old) (W.contents out.new) result }
+{
+    match fault {
+        LineFault::Help(text) => help_to(text.as_str(), out),
+        LineFault::Fault(text) => Err(Failure::Line(text)),
+        LineFault::Memory => Err(Failure::Memory),
+    }
+}
+
 /// Does what the words ask for.
 fn obey<'w, R: Threads + Wait + Sync, C: Clock + CpuClock, S: Source + Streams, W: Write, E: Write>(
     rt: &R,
@@ -288,31 +344,13 @@ fn obey<'w, R: Threads + Wait + Sync, C: Clock + CpuClock, S: Source + Streams, 
         × Does S.gives S.opens source.old source.new (map (λ w. w.now) words.entry.now) (W.contents out.old) (W.contents out.new) result.end reports (option_map string_bytes result.note) }
 {
     match parse(alloc, words) {
-        Ok(Call::Task(task, types)) => {
-            perform(rt, clock, alloc, types.as_slice(), &task, source, out, err)
+        Ok(call) => {
+            let answer = answer_to(rt, clock, alloc, &call, source, out, err);
+            // Dropped by one call: the end of its scope would prove the drop part by part.
+            drop(call);
+            answer
         }
-        Ok(Call::Explain(name)) => ended(explain_to(alloc, name, out)),
-        Ok(Call::Wave(wave, types)) => ended_with(show(
-            alloc,
-            types.as_slice(),
-            &wave,
-            source,
-            out,
-        )),
-        Ok(Call::Expect(call)) => ended_with(expect(alloc, &call, source, out)),
-        Ok(Call::Diff(call)) => ended(diff(alloc, &call, source, out)),
-        Ok(Call::Draw(call, types)) => {
-            ended(show_graph(alloc, types.as_slice(), &call, source, out))
-        }
-        Ok(Call::Inspect(call, types)) => {
-            ended_with(show_insides(alloc, types.as_slice(), &call, source, out))
-        }
-        Ok(Call::Coverage(call, types)) => {
-            ended_with(show_coverage(alloc, types.as_slice(), &call, source, out))
-        }
-        Err(LineFault::Help(text)) => ended(help_to(text.as_str(), out)),
-        Err(LineFault::Fault(text)) => ended(Err(Failure::Line(text))),
-        Err(LineFault::Memory) => ended(Err(Failure::Memory)),
+        Err(fault) => ended(end_without_call(fault, out)),
     }
 }
 

@@ -1,15 +1,14 @@
-use Rattle.std.proofs.Common.{Ok, Err}
-use Rattle.fbsim_command.proofs.Reporting.{ends_as, fails_as, has_reported}
+use Rattle.std.proofs.Common.{false}
+use Rattle.fbsim_command.proofs.Reporting.{has_reported, runs_so}
 use Rattle.fbsim_command.proofs.program.run_and_report.Goals as goal
 
-pub returns-in-Ok-clause-reported : goal.returns-in-Ok-clause-reported
-returns-in-Ok-clause-reported g c =
-    let end = c.run_with_progress-end.result.end in
-    has_reported c.args.inputs.now c.args.options (g.W.Write.contents c.args.out.now) (g.W.Write.contents c.run_with_progress-end.new.out) end (Ok c.done_of.result) c.run_with_progress-end.result.is_heard
-    (g.E.Write.contents c.args.err.now) (g.E.Write.contents c.run_with_progress-end.new.err) (ends_as end c.in-Ok.outcome c.done_of.result c.in-Ok.is c.done_of.ensures) c.run_with_progress-end.ensures.reported
+pub returns-clause-run : goal.returns-clause-run
+returns-clause-run g c =
+    let run = c.run_with_progress-end in
+    runs_so false c.args.inputs.now c.args.options (g.W.Write.contents c.args.out.now) (g.W.Write.contents run.new.out) run.result.end c.end_of_run.result c.end_of_run.ensures run.ensures.trace run.ensures.failed
 
-pub returns-in-Err-clause-reported : goal.returns-in-Err-clause-reported
-returns-in-Err-clause-reported g c =
-    let end = c.run_with_progress-end.result.end in
-    has_reported c.args.inputs.now c.args.options (g.W.Write.contents c.args.out.now) (g.W.Write.contents c.run_with_progress-end.new.out) end (Err c.from.result) c.run_with_progress-end.result.is_heard
-    (g.E.Write.contents c.args.err.now) (g.E.Write.contents c.run_with_progress-end.new.err) (fails_as end c.in-Err.error c.from.result c.in-Err.is c.from.ensures) c.run_with_progress-end.ensures.reported
+pub returns-clause-reported : goal.returns-clause-reported
+returns-clause-reported g c =
+    let run = c.run_with_progress-end in
+    has_reported c.args.inputs.now c.args.options (g.W.Write.contents c.args.out.now) (g.W.Write.contents run.new.out) run.result.end c.end_of_run.result run.result.is_heard
+    (g.E.Write.contents c.args.err.now) (g.E.Write.contents run.new.err) c.end_of_run.ensures run.ensures.reported

@@ -1,8 +1,12 @@
-use Rattle.fbsim_command.proofs.Reporting.{ran}
+use Rattle.fbsim_command.proofs.Reporting.{runs_so}
 use Rattle.fbsim_command.proofs.program.run_inputs.Goals as goal
 
 pub returns-then-serial : goal.returns-then-serial
-returns-then-serial g c = ran c.args.serial c.args.inputs.now c.args.options _ _ _ c.done_of.result c.done_of.ensures c.in_ok-run_serial.ensures.trace
+returns-then-serial g c =
+    runs_so c.args.serial c.args.inputs.now c.args.options (g.W.Write.contents c.args.out.now) (g.W.Write.contents c.run_serial.new.out) c.run_serial.result c.end_of_run.result c.end_of_run.ensures
+    c.run_serial.ensures.trace c.run_serial.ensures.failed
 
 pub returns : goal.returns
-returns g c = ran c.args.serial c.args.inputs.now c.args.options _ _ _ c.done_of-2.result c.done_of-2.ensures c.in_ok-run_with_clock.ensures.trace
+returns g c =
+    runs_so c.args.serial c.args.inputs.now c.args.options (g.W.Write.contents c.args.out.now) (g.W.Write.contents c.run_with_clock.new.out) c.run_with_clock.result c.end_of_run-2.result c.end_of_run-2.ensures
+    c.run_with_clock.ensures.trace c.run_with_clock.ensures.failed

@@ -1,0 +1,83 @@
+use Rattle.std.proofs.Common.{Bor, List, Option, map, option_map, string_bytes, inl, inr, refl, subst}
+use Rattle.clap.specs.Words.{Text}
+use Rattle.fbsim_command.specs.Line.{AreCall}
+use Rattle.fbsim_command.specs.declared.line.Call.{Call}
+use Rattle.fbsim_command.specs.Command.{Does, Performs}
+use Rattle.fbsim_command.specs.Drawing.{Draws}
+use Rattle.fbsim_command.specs.Covering.{ReportsCoverage}
+use Rattle.fbsim_command.specs.Inspecting.{ShowsInsides}
+use Rattle.fbsim_command.specs.Showing.{Shows}
+use Rattle.fbsim_command.specs.Outcomes.{End}
+use Rattle.fbsim_command.proofs.Reporting.{ended_so, noted_so}
+use Rattle.fbsim_command.proofs.program.answer_to.Goals as goal
+
+pub returns-in-Task : goal.returns-in-Task
+returns-in-Task g c = λ words asked taken.
+    let here = subst (λ (r : Call). AreCall words r) c.in-Task.is asked in
+    let done = subst (λ (ns : List (Bor Text)). Performs g.S.Source.gives c.args.source.now c.perform.new.source (map (λ (n : Bor Text). n.now) ns) c.in-Task.task (g.W.Write.contents c.args.out.now)
+    (g.W.Write.contents c.perform.new.out) c.perform.result.end c.perform.ensures.0 (option_map string_bytes c.perform.result.note)) c.as_slice.ensures.value c.perform.ensures.2 in
+    (c.perform.ensures.0, c.perform.ensures.1, inl (c.in-Task.task, c.in-Task.types, here, taken, done))
+
+pub returns-in-Explain : goal.returns-in-Explain
+returns-in-Explain g c = λ words asked taken.
+    let source = c.args.source.now in
+    let old = g.W.Write.contents c.args.out.now in
+    let new = g.W.Write.contents c.explain_to.new.out in
+    let here = subst (λ (r : Call). AreCall words r) c.in-Explain.is asked in
+    ended_so c.ended.result c.explain_to.result c.ended.ensures (g.E.Write.contents c.args.err.now)
+    (λ (end : End) (reports : Text) (note : Option Text). Does g.S.Source.gives g.S.Streams.opens source source words old new end reports note)
+    (inr (inr (inl (c.in-Explain.name, here, taken, c.explain_to.ensures, (refl, refl, refl)))))
+
+pub returns-in-Wave : goal.returns-in-Wave
+returns-in-Wave g c = λ words asked taken.
+    let here = subst (λ (r : Call). AreCall words r) c.in-Wave.is asked in
+    let shown = subst (λ (ns : List (Bor Text)). Shows g.S.Source.gives g.S.Streams.opens c.args.source.now c.show.new.source (map (λ (n : Bor Text). n.now) ns) c.in-Wave.wave
+    (g.W.Write.contents c.args.out.now) (g.W.Write.contents c.show.new.out) c.show.result.0 (option_map string_bytes c.show.result.1)) c.as_slice-in-Wave.ensures.value c.show.ensures in
+    noted_so c.ended_with.result _ c.ended_with.ensures refl (g.E.Write.contents c.args.err.now)
+    (λ (end : End) (reports : Text) (note : Option Text). Does g.S.Source.gives g.S.Streams.opens c.args.source.now c.show.new.source words (g.W.Write.contents c.args.out.now) (g.W.Write.contents c.show.new.out) end reports note)
+    (inr (inl (c.in-Wave.wave, c.in-Wave.types, here, taken, shown, refl)))
+
+pub returns-in-Expect : goal.returns-in-Expect
+returns-in-Expect g c = λ words asked taken.
+    let here = subst (λ (r : Call). AreCall words r) c.in-Expect.is asked in
+    noted_so c.ended_with-in-Expect.result _ c.ended_with-in-Expect.ensures refl (g.E.Write.contents c.args.err.now)
+    (λ (end : End) (reports : Text) (note : Option Text). Does g.S.Source.gives g.S.Streams.opens c.args.source.now c.expect.new.source words (g.W.Write.contents c.args.out.now) (g.W.Write.contents c.expect.new.out) end reports note)
+    (inr (inr (inr (inl (c.in-Expect.call, here, taken, c.expect.ensures, refl)))))
+
+pub returns-in-Diff : goal.returns-in-Diff
+returns-in-Diff g c = λ words asked taken.
+    let old = g.W.Write.contents c.args.out.now in
+    let new = g.W.Write.contents c.diff.new.out in
+    let here = subst (λ (r : Call). AreCall words r) c.in-Diff.is asked in
+    ended_so c.ended-in-Diff.result c.diff.result c.ended-in-Diff.ensures (g.E.Write.contents c.args.err.now)
+    (λ (end : End) (reports : Text) (note : Option Text). Does g.S.Source.gives g.S.Streams.opens c.args.source.now c.diff.new.source words old new end reports note)
+    (inr (inr (inr (inr (inl (c.in-Diff.call, here, taken, c.diff.ensures, refl, refl))))))
+
+pub returns-in-Draw : goal.returns-in-Draw
+returns-in-Draw g c = λ words asked taken.
+    let old = g.W.Write.contents c.args.out.now in
+    let new = g.W.Write.contents c.show_graph.new.out in
+    let here = subst (λ (r : Call). AreCall words r) c.in-Draw.is asked in
+    let drawn = subst (λ (ns : List (Bor Text)). Draws g.S.Source.gives c.args.source.now c.show_graph.new.source (map (λ (n : Bor Text). n.now) ns) c.in-Draw.call old new c.show_graph.result)
+    c.as_slice-in-Draw.ensures.value c.show_graph.ensures in
+    ended_so c.ended-in-Draw.result c.show_graph.result c.ended-in-Draw.ensures (g.E.Write.contents c.args.err.now)
+    (λ (end : End) (reports : Text) (note : Option Text). Does g.S.Source.gives g.S.Streams.opens c.args.source.now c.show_graph.new.source words old new end reports note)
+    (inr (inr (inr (inr (inr (inl (c.in-Draw.call, c.in-Draw.types, here, taken, drawn, refl, refl)))))))
+
+pub returns-in-Inspect : goal.returns-in-Inspect
+returns-in-Inspect g c = λ words asked taken.
+    let here = subst (λ (r : Call). AreCall words r) c.in-Inspect.is asked in
+    let shown = subst (λ (ns : List (Bor Text)). ShowsInsides g.S.Source.gives g.S.Streams.opens c.args.source.now c.show_insides.new.source (map (λ (n : Bor Text). n.now) ns) c.in-Inspect.call
+    (g.W.Write.contents c.args.out.now) (g.W.Write.contents c.show_insides.new.out) c.show_insides.result.0 (option_map string_bytes c.show_insides.result.1)) c.as_slice-in-Inspect.ensures.value c.show_insides.ensures in
+    noted_so c.ended_with-in-Inspect.result _ c.ended_with-in-Inspect.ensures refl (g.E.Write.contents c.args.err.now)
+    (λ (end : End) (reports : Text) (note : Option Text). Does g.S.Source.gives g.S.Streams.opens c.args.source.now c.show_insides.new.source words (g.W.Write.contents c.args.out.now) (g.W.Write.contents c.show_insides.new.out) end reports note)
+    (inr (inr (inr (inr (inr (inr (inl (c.in-Inspect.call, c.in-Inspect.types, here, taken, shown, refl))))))))
+
+pub returns-in-Coverage : goal.returns-in-Coverage
+returns-in-Coverage g c = λ words asked taken.
+    let here = subst (λ (r : Call). AreCall words r) c.in-Coverage.is asked in
+    let shown = subst (λ (ns : List (Bor Text)). ReportsCoverage g.S.Source.gives g.S.Streams.opens c.args.source.now c.show_coverage.new.source (map (λ (n : Bor Text). n.now) ns) c.in-Coverage.call
+    (g.W.Write.contents c.args.out.now) (g.W.Write.contents c.show_coverage.new.out) c.show_coverage.result.0 (option_map string_bytes c.show_coverage.result.1)) c.as_slice-in-Coverage.ensures.value c.show_coverage.ensures in
+    noted_so c.ended_with-in-Coverage.result _ c.ended_with-in-Coverage.ensures refl (g.E.Write.contents c.args.err.now)
+    (λ (end : End) (reports : Text) (note : Option Text). Does g.S.Source.gives g.S.Streams.opens c.args.source.now c.show_coverage.new.source words (g.W.Write.contents c.args.out.now) (g.W.Write.contents c.show_coverage.new.out) end reports note)
+    (inr (inr (inr (inr (inr (inr (inr (inl (c.in-Coverage.call, c.in-Coverage.types, here, taken, shown, refl)))))))))

@@ -1,0 +1,8 @@
+use Rattle.fbsim_command.proofs.Reporting.{ends_as, fails_as}
+use Rattle.fbsim_command.proofs.program.end_of_run.Goals as goal
+
+pub returns-in-Ok : goal.returns-in-Ok
+returns-in-Ok c = ends_as c.args.end c.in-Ok.outcome c.done_of.result c.in-Ok.is c.done_of.ensures
+
+pub returns-in-Err : goal.returns-in-Err
+returns-in-Err c = fails_as c.args.end c.in-Err.error c.from.result c.in-Err.is c.from.ensures
