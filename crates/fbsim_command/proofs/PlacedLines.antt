@@ -42,14 +42,12 @@ module _ (n : Naming) (given : Given) (library : Library) where
 
   -- the location of a warning is at the same index
   pub place_at_index :
-      (ws : List Warning) (os : List (Option TextLocation)) (k : ℕ) (w : Warning) (o : Option TextLocation) → AreAt ws os → k < length ws
-      → w ≡ get_or ws k w → o ≡ get_or os k o → IsPlaceFor given.declaration library (position_of w) o
-  place_at_index [] os k w o all within is at = absurd (omega arith)
-  place_at_index (x ∷ ws) [] k w o all within is at = absurd all
-  place_at_index (x ∷ ws) (y ∷ os) zero w o all within is at =
-      subst (λ (v : Warning). IsPlaceFor given.declaration library (position_of v) o) (sym is)
-      (subst (λ (q : Option TextLocation). IsPlaceFor given.declaration library (position_of x) q) (sym at) all.0)
-  place_at_index (x ∷ ws) (y ∷ os) (suc k) w o all within is at = place_at_index ws os k w o all.1 (omega arith) is at
+      (ws : List Warning) (os : List (Option TextLocation)) (k : ℕ) (d : Warning) (e : Option TextLocation) → AreAt ws os → k < length ws
+      → IsPlaceFor given.declaration library (position_of (get_or ws k d)) (get_or os k e)
+  place_at_index [] os k d e all within = absurd (omega arith)
+  place_at_index (x ∷ ws) [] k d e all within = absurd all
+  place_at_index (x ∷ ws) (y ∷ os) zero d e all within = all.0
+  place_at_index (x ∷ ws) (y ∷ os) (suc k) d e all within = place_at_index ws os k d e all.1 (omega arith)
 
   pub as_many_places : (ws : List Warning) (os : List (Option TextLocation)) → AreAt ws os → length os ≡ length ws
   as_many_places ws os all = AllZip-long (IsPlaceFor given.declaration library) (map position_of ws) os all ∙ length-map ws position_of

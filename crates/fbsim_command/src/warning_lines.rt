@@ -114,9 +114,16 @@ fn lines_at(
     ensures { IfOk result (λ text. AreLines (naming_of naming.now) inputs.now library.now warnings.now text.items) }
 {
     let mut text = Vec::new(alloc);
-    for (warning, at) in warnings.iter().zip(places) {
+    for index in 0..warnings.len() {
         push_line(
-            alloc, &mut text, naming, inputs, library, plan, warning, *at,
+            alloc,
+            &mut text,
+            naming,
+            inputs,
+            library,
+            plan,
+            &warnings[index],
+            places[index],
         )?;
     }
     Ok(text)
