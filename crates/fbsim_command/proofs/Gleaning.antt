@@ -4,7 +4,7 @@ use Rattle.std.specs.Global.{Vec}
 use Rattle.std.specs.Prelude.{IfErr, IfOk, IfSome, IsErrAnd, IsTrue}
 use Rattle.std.proofs.lemmas.List.{drop_more, map-append, take-append-drop, take_all, take_more}
 use Rattle.clap.specs.Words.{Text}
-use Rattle.fb_types.specs.Headline.{Inputs}
+use Rattle.fb_types.specs.Headline.{Inputs, system_of}
 use Rattle.fb_read.specs.declared.error.ReadError.{ReadError}
 use Rattle.fb_read.specs.declared.error.ReadError.TheVariants as read
 use Rattle.fb_check.specs.Refusals as check
@@ -15,11 +15,12 @@ use Rattle.fb_sim.specs.declared.outcome.Refusal as sim
 use Rattle.fb_sim.specs.declared.outcome.Refusal.TheVariants as of
 use Rattle.fb_sim.specs.declared.outcome.RunError.{RunError}
 use Rattle.fb_sim.specs.declared.outcome.RunError.TheVariants as run
+use Rattle.fb_coverage.specs.Reports.{report_text}
 use Rattle.fb_coverage.specs.declared.marks.Marks.{Marks}
 use Rattle.fb_inspect.specs.Covering.{Covers}
 use Rattle.fb_inspect.specs.declared.walk.Extent.{Extent}
 use Rattle.fb_wave.specs.declared.truncation.Cut.{Cut}
-use Rattle.fbsim_command.specs.Covering.{AreGoneThrough, AreStopped, GoThrough, GoesThrough, IsFirst, IsReport, IsStopped, IsUnreported, MayStop, NotesTrace, RefusesAt, StopsAt, WritesReport, are_several, cut_count, coverage_text, cut_of, files_of, names_of, note_front}
+use Rattle.fbsim_command.specs.Covering.{AreGoneThrough, AreStopped, GoThrough, GoesThrough, IsFirst, IsReport, IsStopped, IsUnreported, MayStop, NotesTrace, RefusesAt, StopsAt, WritesReport, are_several, cut_count, coverage_text, cut_line, cut_of, files_of, names_of, note_front}
 use Rattle.fbsim_command.specs.Failures.{WritesPart, failure_of, failure_of_source, numbered_input}
 use Rattle.fbsim_command.specs.InsideNotes.{SaysLine}
 use Rattle.fbsim_command.specs.Notes.{NotesOf}
@@ -185,6 +186,14 @@ module _ {S : Type 0} (opens : Opening S) (i : Inputs) (x : Coverage) (first : G
     subst (λ (vs : List (Bor Text)). GoThrough opens i x (map now vs) from to first m)
         (take_all k own (subst (λ (vs : List (Bor Text)). length vs ≤ k) same past)) gone,
   )
+
+-- ---- The report
+
+pub report_is :
+    (i : Inputs) (x : Coverage) (g : Gleaned) (front text : Text) (n : ℕ) → front ≡ report_text i.library.blocks (system_of i) g.marks → text ≡ front ++ cut_line g.cut n
+    → n ≡ length x.traces.items → text ≡ coverage_text i x g
+report_is i x g front text n reported put many =
+    put ∙ ap (λ (t : Text). t ++ cut_line g.cut n) reported ∙ ap (λ (k : ℕ). report_text i.library.blocks (system_of i) g.marks ++ cut_line g.cut k) many
 
 -- ---- Ends
 
