@@ -20,7 +20,6 @@ const TEXT_BYTES: usize = 1_048_577;
 const STIMULI_BYTES: usize = 16_777_217;
 
 /// The files of a call, as they were read.
-#[derive(Drop)]
 pub struct Texts {
     /// The declaration, in one text.
     pub declaration: Vec<u8>,
@@ -28,6 +27,18 @@ pub struct Texts {
     pub lines: Vec<usize>,
     pub deploy: Option<Vec<u8>>,
     pub stimuli: Option<Vec<u8>>,
+}
+
+// Drop is written by hand, so that it is one call wherever texts are dropped (docs/DECISIONS.md, "Drop").
+impl Drop for Texts {
+    fn drop(self) {
+        let Texts {
+            declaration: _,
+            lines: _,
+            deploy: _,
+            stimuli: _,
+        } = self;
+    }
 }
 
 impl Texts {
