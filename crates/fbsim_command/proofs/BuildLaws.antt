@@ -1,8 +1,10 @@
 -- Commands that are made argument by argument, none of them global.
-use Rattle.std.proofs.Common.{◌≡◌, ◌||◌, ◌<◌, ◌≤◌, ◌+◌, ℕ, Bool, List, Result, Ok, Err, false, ap, ap₂, drop, get_or, length, refl, sym, subst, ◌∙◌}
+use Rattle.std.proofs.Common.{◌≡◌, ◌||◌, ◌<◌, ◌≤◌, ◌+◌, ℕ, Bool, List, Result, Ok, Err, Some, false, true, ap, ap₂, drop, get_or, length, refl, sym, subst, ◌∙◌}
+use Rattle.std.specs.Borrow.{Bor}
 use Rattle.std.specs.Prelude.{IfOk}
 use Rattle.std.proofs.lemmas.List.{drop_all, drop_more}
-use Rattle.clap.specs.Words.{App, Rule, AddsArg, AddsSubcommand, app_of, rule_of, with_rule, with_subcommand}
+use Rattle.clap.specs.Words.{App, Rule, Text, AddsArg, AddsSubcommand, app_of, rule_of, with_rule, with_subcommand}
+use Rattle.clap.specs.declared.builder.action.ArgAction.{ArgAction}
 use Rattle.clap.specs.declared.builder.arg.Arg.{Arg}
 use Rattle.clap.specs.declared.builder.command.Command.{Command}
 use Rattle.fbsim_command.specs.Line.{rule_for, with_arguments}
@@ -35,6 +37,24 @@ pub stands_well :
     {E : Type 0} (made : Result Command E) (a : App) → IfOk made (λ c. app_of c ≡ a) → IfOk made (λ c. (fields_of c).has_globals ≡ false) → IfOk made (λ c. Builds c a)
 stands_well (Err e) a app local = tt
 stands_well (Ok c) a app local = record { app = app; local = local }
+
+-- ---- An argument
+
+-- one that has an action
+pub acted : (old new : Arg) (action : ArgAction) → new ≡ record old { action = Some action } → rule_of new ≡ record (rule_of old) { action = Some action }
+acted old new action is = ap rule_of is
+
+-- one that has to be there
+pub demanded : (old new : Arg) → new ≡ record old { required = true } → rule_of new ≡ record (rule_of old) { required = true }
+demanded old new is = ap rule_of is
+
+-- one that has a help text
+pub helped : (old new : Arg) (help : Bor Text) → new ≡ record old { help = Some help } → rule_of new ≡ rule_of old
+helped old new help is = ap rule_of is
+
+-- one that is an option
+pub called : (old new : Arg) (name : Bor Text) → new ≡ record old { long = Some name } → rule_of new ≡ record (rule_of old) { long = Some name.now }
+called old new name is = ap rule_of is
 
 -- ---- A list of arguments
 
