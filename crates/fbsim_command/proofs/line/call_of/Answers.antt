@@ -1,4 +1,4 @@
-use Rattle.std.proofs.Common.{rules, ◌≡◌, ◌∙◌, sym, subst, codes}
+use Rattle.std.proofs.Common.{◌≡◌, ◌∙◌, sym, subst, codes}
 use Rattle.std.specs.Prelude.{IfSome}
 use Rattle.clap.specs.Words.{Text, found_of, rows_of}
 use Rattle.fbsim_command.specs.Line.{call_name}
@@ -7,73 +7,100 @@ use Rattle.fbsim_command.proofs.line.call_of.Goals as goal
 
 pub returns-in-explain-clause-name : goal.returns-in-explain-clause-name
 returns-in-explain-clause-name c =
-    let named : c.args.name.now ≡ codes "explain" = search rules in
+    let named : c.args.name.now ≡ codes "explain" = c.in-explain.is in
     subst (λ (t : Text). IfSome c.explain_of.result (λ r. t ≡ call_name r)) (sym named) c.explain_of.ensures.name
+
+pub returns-in-explain-clause-rows : goal.returns-in-explain-clause-rows
+returns-in-explain-clause-rows c = c.explain_of.ensures.rows
 
 pub returns-in-explain-clause-none : goal.returns-in-explain-clause-none
 returns-in-explain-clause-none c =
-    let named : c.args.name.now ≡ codes "explain" = search rules in
+    let named : c.args.name.now ≡ codes "explain" = c.in-explain.is in
     when_none c.explain_of.result _ _ (no_name (rows_of (found_of c.args.found.now)) c.args.name.now named) c.explain_of.ensures.none
 
 pub returns-in-wave-clause-name : goal.returns-in-wave-clause-name
 returns-in-wave-clause-name c =
-    let named : c.args.name.now ≡ codes "wave" = search rules in
+    let named : c.args.name.now ≡ codes "wave" = c.in-wave.is in
     ok_some c.wave_of.result _ _ (λ r is. named ∙ is) c.wave_of.ensures.name
+
+pub returns-in-wave-clause-rows : goal.returns-in-wave-clause-rows
+returns-in-wave-clause-rows c = c.wave_of.ensures.rows
 
 pub returns-in-wave-clause-none : goal.returns-in-wave-clause-none
 returns-in-wave-clause-none c =
-    let named : c.args.name.now ≡ codes "wave" = search rules in
+    let named : c.args.name.now ≡ codes "wave" = c.in-wave.is in
     ok_none c.wave_of.result _ _ (no_wave (rows_of (found_of c.args.found.now)) c.args.name.now named) c.wave_of.ensures.none
 
 pub returns-in-diff-clause-name : goal.returns-in-diff-clause-name
 returns-in-diff-clause-name c =
-    let named : c.args.name.now ≡ codes "diff" = search rules in
+    let named : c.args.name.now ≡ codes "diff" = c.in-diff.is in
     subst (λ (t : Text). IfSome c.diff_of.result (λ r. t ≡ call_name r)) (sym named) c.diff_of.ensures.name
+
+pub returns-in-diff-clause-rows : goal.returns-in-diff-clause-rows
+returns-in-diff-clause-rows c = c.diff_of.ensures.rows
 
 pub returns-in-diff-clause-none : goal.returns-in-diff-clause-none
 returns-in-diff-clause-none c =
-    let named : c.args.name.now ≡ codes "diff" = search rules in
+    let named : c.args.name.now ≡ codes "diff" = c.in-diff.is in
     when_none c.diff_of.result _ _ (no_diff (rows_of (found_of c.args.found.now)) c.args.name.now named) c.diff_of.ensures.none
 
 pub returns-in-draw-clause-name : goal.returns-in-draw-clause-name
 returns-in-draw-clause-name c =
-    let named : c.args.name.now ≡ codes "draw" = search rules in
+    let named : c.args.name.now ≡ codes "draw" = c.in-draw.is in
     ok_some c.draw_of.result _ _ (λ r is. named ∙ is) c.draw_of.ensures.name
+
+pub returns-in-draw-clause-rows : goal.returns-in-draw-clause-rows
+returns-in-draw-clause-rows c = c.draw_of.ensures.rows
 
 pub returns-in-draw-clause-none : goal.returns-in-draw-clause-none
 returns-in-draw-clause-none c =
-    let named : c.args.name.now ≡ codes "draw" = search rules in
+    let named : c.args.name.now ≡ codes "draw" = c.in-draw.is in
     ok_none c.draw_of.result _ _ (no_draw (rows_of (found_of c.args.found.now)) c.args.name.now named) c.draw_of.ensures.none
 
 pub returns-in-coverage-clause-name : goal.returns-in-coverage-clause-name
 returns-in-coverage-clause-name c =
-    let named : c.args.name.now ≡ codes "coverage" = search rules in
+    let named : c.args.name.now ≡ codes "coverage" = c.in-coverage.is in
     ok_some c.coverage_of.result _ _ (λ r is. named ∙ is) c.coverage_of.ensures.name
+
+pub returns-in-coverage-clause-rows : goal.returns-in-coverage-clause-rows
+returns-in-coverage-clause-rows c = c.coverage_of.ensures.rows
 
 pub returns-in-coverage-clause-none : goal.returns-in-coverage-clause-none
 returns-in-coverage-clause-none c =
-    let named : c.args.name.now ≡ codes "coverage" = search rules in
+    let named : c.args.name.now ≡ codes "coverage" = c.in-coverage.is in
     ok_none c.coverage_of.result _ _ (no_coverage (rows_of (found_of c.args.found.now)) c.args.name.now named) c.coverage_of.ensures.none
 
 pub returns-in-inspect-clause-name : goal.returns-in-inspect-clause-name
 returns-in-inspect-clause-name c =
-    let named : c.args.name.now ≡ codes "inspect" = search rules in
+    let named : c.args.name.now ≡ codes "inspect" = c.in-inspect.is in
     ok_some c.inspect_of.result _ _ (λ r is. named ∙ is) c.inspect_of.ensures.name
+
+pub returns-in-inspect-clause-rows : goal.returns-in-inspect-clause-rows
+returns-in-inspect-clause-rows c = c.inspect_of.ensures.rows
 
 pub returns-in-inspect-clause-none : goal.returns-in-inspect-clause-none
 returns-in-inspect-clause-none c =
-    let named : c.args.name.now ≡ codes "inspect" = search rules in
+    let named : c.args.name.now ≡ codes "inspect" = c.in-inspect.is in
     ok_none c.inspect_of.result _ _ (no_inspect (rows_of (found_of c.args.found.now)) c.args.name.now named) c.inspect_of.ensures.none
 
 pub returns-in-expect-clause-name : goal.returns-in-expect-clause-name
 returns-in-expect-clause-name c =
-    let named : c.args.name.now ≡ codes "expect" = search rules in
+    let named : c.args.name.now ≡ codes "expect" = c.in-expect.is in
     ok_some c.expect_of.result _ _ (λ r is. named ∙ is) c.expect_of.ensures.name
+
+pub returns-in-expect-clause-rows : goal.returns-in-expect-clause-rows
+returns-in-expect-clause-rows c = c.expect_of.ensures.rows
 
 pub returns-in-expect-clause-none : goal.returns-in-expect-clause-none
 returns-in-expect-clause-none c =
-    let named : c.args.name.now ≡ codes "expect" = search rules in
+    let named : c.args.name.now ≡ codes "expect" = c.in-expect.is in
     ok_none c.expect_of.result _ _ (no_expect (rows_of (found_of c.args.found.now)) c.args.name.now named) c.expect_of.ensures.none
+
+pub returns-in_default-clause-name : goal.returns-in_default-clause-name
+returns-in_default-clause-name c = c.task_call.ensures.name
+
+pub returns-in_default-clause-rows : goal.returns-in_default-clause-rows
+returns-in_default-clause-rows c = c.task_call.ensures.rows
 
 pub returns-in_default-clause-none : goal.returns-in_default-clause-none
 returns-in_default-clause-none c =
