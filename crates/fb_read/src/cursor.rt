@@ -7,7 +7,7 @@ ghost use Rattle.fb_read.specs.Tokens.{tokens_of};
 ghost use Rattle.fb_read.specs.Operators.{next_operator, begins_expression};
 ghost use Rattle.fb_read.specs.Statements.{begins_statement, begins_label, sees_whole};
 
-use crate::expected::{Expected, Sought};
+use crate::expected::{Expected, Sought, begins_expression, begins_statement};
 use crate::fault::ParseFault;
 use crate::operator::operator_of;
 use crate::rule::Rule;
@@ -139,27 +139,18 @@ impl<'a> Cursor<'a> {
     }
 
     /// Whether this mark is next.
+    #[tactic(auto, unfolding(crate::specs::Parser::same_mark))]
     pub fn sees(&self, mark: Mark) -> bool
         ensures { result ≡ spec.sees mark self.now }
     {
-        let found = self.is_next(mark);
-        if !found {
-            self.miss(Sought::Mark(mark));
+        if let [first, ..] = self.rest
+            && let Token::Mark(other) = &first.token
+            && *other == mark
+        {
+            return true;
         }
-        found
-    }
-
-    #[tactic(auto, unfolding(crate::specs::Parser::same_mark))]
-    fn is_next(&self, mark: Mark) -> bool
-        ensures { result ≡ spec.sees mark self.now }
-    {
-        match self.rest {
-            [first, ..] => match &first.token {
-                Token::Mark(other) => *other == mark,
-                _ => false,
-            },
-            [] => false,
-        }
+        self.miss(Sought::Mark(mark));
+        false
     }
 
     /// Skips the next token, if there is one.
@@ -262,150 +253,97 @@ impl<'a> Cursor<'a> {
     pub fn literal(&mut self) -> Result<i128, ParseFault>
         ensures { Reads (spec.literal self.old) result self.new }
     {
-        match self.rest {
-            [first, rest @ ..] => match &first.token {
+        if let [first, rest @ ..] = self.rest {
+            match &first.token {
                 Token::Whole(value) => {
                     self.rest = rest;
-                    Ok(value.positive())
+                    return Ok(value.positive());
                 }
                 Token::Time(ticks) => {
                     self.rest = rest;
-                    Ok(*ticks)
+                    return Ok(*ticks);
                 }
-                _ => Err(self.refusal(Sought::Literal)),
-            },
-            [] => Err(self.refusal(Sought::Literal)),
+                _ => {}
+            }
         }
+        Err(self.refusal(Sought::Literal))
     }
 
     /// Whether a name is next.
     pub fn sees_name(&self) -> bool
         ensures { result ≡ spec.sees_name self.now }
     {
-        let found = self.is_name_next();
-        if !found {
-            self.miss(Sought::Name);
+        if let [first, ..] = self.rest
+            && let Token::Name(_) = &first.token
+        {
+            return true;
         }
-        found
-    }
-
-    fn is_name_next(&self) -> bool
-        ensures { result ≡ spec.sees_name self.now }
-    {
-        match self.rest {
-            [first, ..] => match &first.token {
-                Token::Name(_) => true,
-                _ => false,
-            },
-            [] => false,
-        }
+        self.miss(Sought::Name);
+        false
     }
 
     /// Whether the next token may begin an expression.
     pub fn begins_expression(&self) -> bool
         ensures { result ≡ begins_expression self.now }
     {
-        let found = self.is_expression_next();
-        if !found {
-            self.miss(Sought::Expression);
+        if let [first, ..] = self.rest {
+            match &first.token {
+                Token::Mark(mark) => {
+                    if begins_expression(*mark) {
+                        return true;
+                    }
+                }
+                _ => return true,
+            }
         }
-        found
-    }
-
-    fn is_expression_next(&self) -> bool
-        ensures { result ≡ begins_expression self.now }
-    {
-        match self.rest {
-            [first, ..] => match &first.token {
-                Token::Mark(mark) => match *mark {
-                    Mark::Minus | Mark::Not | Mark::Open | Mark::True | Mark::False => true,
-                    _ => false,
-                },
-                _ => true,
-            },
-            [] => false,
-        }
+        self.miss(Sought::Expression);
+        false
     }
 
     /// The operator of this level, if it is next.
     pub fn operator(&self, level: u8) -> Option<BinaryOperator>
         ensures { result ≡ next_operator level self.now }
     {
-        let found = self.next_operator(level);
-        if found.is_none() {
-            self.miss(Sought::Operator(level));
+        if let [first, ..] = self.rest
+            && let Token::Mark(mark) = &first.token
+            && let Some((found, operator)) = operator_of(*mark)
+            && found == level
+        {
+            return Some(operator);
         }
-        found
-    }
-
-    fn next_operator(&self, level: u8) -> Option<BinaryOperator>
-        ensures { result ≡ next_operator level self.now }
-    {
-        let [first, ..] = self.rest else {
-            return None;
-        };
-        let Token::Mark(mark) = &first.token else {
-            return None;
-        };
-        match operator_of(*mark) {
-            Some((found, operator)) => { if found == level { Some(operator) } else { None } }
-            None => None,
-        }
+        self.miss(Sought::Operator(level));
+        None
     }
 
     /// Whether the next token may begin a statement.
     pub fn begins_statement(&self) -> bool
         ensures { result ≡ begins_statement self.now }
     {
-        let found = self.is_statement_next();
-        if !found {
-            self.miss(Sought::Statement);
+        if let [first, ..] = self.rest {
+            match &first.token {
+                Token::Mark(mark) => {
+                    if begins_statement(*mark) {
+                        return true;
+                    }
+                }
+                Token::Name(_) => return true,
+                _ => {}
+            }
         }
-        found
-    }
-
-    fn is_statement_next(&self) -> bool
-        ensures { result ≡ begins_statement self.now }
-    {
-        match self.rest {
-            [first, ..] => match &first.token {
-                Token::Mark(mark) => match *mark {
-                    Mark::Semicolon
-                    | Mark::Exit
-                    | Mark::Return
-                    | Mark::If
-                    | Mark::Case
-                    | Mark::For
-                    | Mark::While
-                    | Mark::Repeat => true,
-                    _ => false,
-                },
-                _ => self.is_name_next(),
-            },
-            [] => false,
-        }
+        self.miss(Sought::Statement);
+        false
     }
 
     fn sees_whole(&self) -> bool
         ensures { result ≡ sees_whole self.now }
     {
-        let found = self.is_whole_next();
-        if !found {
-            self.miss(Sought::Whole);
+        if let [first, ..] = self.rest
+            && let Token::Whole(_) = &first.token
+        {
+            return true;
         }
-        found
-    }
-
-    fn is_whole_next(&self) -> bool
-        ensures { result ≡ sees_whole self.now }
-    {
-        match self.rest {
-            [first, ..] => match &first.token {
-                Token::Whole(_) => true,
-                _ => false,
-            },
-            [] => false,
-        }
+        self.miss(Sought::Whole);
+        false
     }
 
     /// Whether the next token may begin a label.
@@ -438,18 +376,13 @@ impl Rule for Ty {
 
     #[tactic(auto, unfolding(crate::specs::Parser::ty_name))]
     fn read(cursor: &mut Cursor<'_>) -> Result<Ty, ParseFault> {
-        match cursor.rest {
-            [first, rest @ ..] => match &first.token {
-                Token::Mark(mark) => match ty_of(*mark) {
-                    Some(ty) => {
-                        cursor.rest = rest;
-                        Ok(ty)
-                    }
-                    None => Err(cursor.refusal(Sought::Type)),
-                },
-                _ => Err(cursor.refusal(Sought::Type)),
-            },
-            [] => Err(cursor.refusal(Sought::Type)),
+        if let [first, rest @ ..] = cursor.rest
+            && let Token::Mark(mark) = &first.token
+            && let Some(ty) = ty_of(*mark)
+        {
+            cursor.rest = rest;
+            return Ok(ty);
         }
+        Err(cursor.refusal(Sought::Type))
     }
 }

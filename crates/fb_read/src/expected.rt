@@ -3,6 +3,8 @@
 ghost use Rattle.std.specs.Prelude.{◌≡◌, ◌≤◌, ◌<◌, ◌^◌, length};
 ghost use Rattle.fb_read.specs.Refusals.{nothing};
 ghost use Rattle.fb_read.specs.Whole.{most_bytes};
+ghost use Rattle.fb_read.specs.Operators as operators;
+ghost use Rattle.fb_read.specs.Statements as statements;
 
 use crate::cursor::{Cursor, ty_of};
 use crate::discarding::discard;
@@ -140,14 +142,20 @@ pub enum Sought {
     Operator(u8),
 }
 
-fn begins_expression(mark: Mark) -> bool {
+/// Whether an expression may begin with this mark.
+pub(crate) fn begins_expression(mark: Mark) -> bool
+    ensures { result ≡ operators.begins_by mark }
+{
     matches!(
         mark,
         Mark::Minus | Mark::Not | Mark::Open | Mark::True | Mark::False
     )
 }
 
-fn begins_statement(mark: Mark) -> bool {
+/// Whether a statement may begin with this mark.
+pub(crate) fn begins_statement(mark: Mark) -> bool
+    ensures { result ≡ statements.begins_by mark }
+{
     matches!(
         mark,
         Mark::Semicolon
