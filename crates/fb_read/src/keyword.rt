@@ -9,82 +9,82 @@ use crate::blank::at;
 use crate::token::Mark;
 
 /// The keywords by their first letters, from A to Z.
-static KEYWORDS: [&[(&[u8], Mark)]; 26] = [
+static KEYWORDS: [&[(&str, Mark)]; 26] = [
     &[
-        (b"APPLICATION", Mark::Application),
-        (b"ALGORITHM", Mark::Algorithm),
-        (b"AND", Mark::And),
+        ("APPLICATION", Mark::Application),
+        ("ALGORITHM", Mark::Algorithm),
+        ("AND", Mark::And),
     ],
-    &[(b"BOOL", Mark::Bool), (b"BY", Mark::By)],
-    &[(b"CASE", Mark::Case)],
+    &[("BOOL", Mark::Bool), ("BY", Mark::By)],
+    &[("CASE", Mark::Case)],
     &[
-        (b"DATA_CONNECTIONS", Mark::DataConnections),
-        (b"DINT", Mark::Dint),
-        (b"DO", Mark::Do),
-    ],
-    &[
-        (b"END_FUNCTION_BLOCK", Mark::EndFunctionBlock),
-        (b"END_APPLICATION", Mark::EndApplication),
-        (b"EVENT_INPUT", Mark::EventInput),
-        (b"EVENT_OUTPUT", Mark::EventOutput),
-        (b"END_EVENT", Mark::EndEvent),
-        (b"END_VAR", Mark::EndVar),
-        (b"END_FBS", Mark::EndFbs),
-        (b"EVENT_CONNECTIONS", Mark::EventConnections),
-        (b"END_CONNECTIONS", Mark::EndConnections),
-        (b"EC_STATES", Mark::EcStates),
-        (b"END_STATES", Mark::EndStates),
-        (b"EC_TRANSITIONS", Mark::EcTransitions),
-        (b"END_TRANSITIONS", Mark::EndTransitions),
-        (b"END_ALGORITHM", Mark::EndAlgorithm),
-        (b"ELSIF", Mark::Elsif),
-        (b"ELSE", Mark::Else),
-        (b"END_IF", Mark::EndIf),
-        (b"END_CASE", Mark::EndCase),
-        (b"END_FOR", Mark::EndFor),
-        (b"END_WHILE", Mark::EndWhile),
-        (b"END_REPEAT", Mark::EndRepeat),
-        (b"EXIT", Mark::Exit),
+        ("DATA_CONNECTIONS", Mark::DataConnections),
+        ("DINT", Mark::Dint),
+        ("DO", Mark::Do),
     ],
     &[
-        (b"FUNCTION_BLOCK", Mark::FunctionBlock),
-        (b"FBS", Mark::Fbs),
-        (b"FALSE", Mark::False),
-        (b"FOR", Mark::For),
+        ("END_FUNCTION_BLOCK", Mark::EndFunctionBlock),
+        ("END_APPLICATION", Mark::EndApplication),
+        ("EVENT_INPUT", Mark::EventInput),
+        ("EVENT_OUTPUT", Mark::EventOutput),
+        ("END_EVENT", Mark::EndEvent),
+        ("END_VAR", Mark::EndVar),
+        ("END_FBS", Mark::EndFbs),
+        ("EVENT_CONNECTIONS", Mark::EventConnections),
+        ("END_CONNECTIONS", Mark::EndConnections),
+        ("EC_STATES", Mark::EcStates),
+        ("END_STATES", Mark::EndStates),
+        ("EC_TRANSITIONS", Mark::EcTransitions),
+        ("END_TRANSITIONS", Mark::EndTransitions),
+        ("END_ALGORITHM", Mark::EndAlgorithm),
+        ("ELSIF", Mark::Elsif),
+        ("ELSE", Mark::Else),
+        ("END_IF", Mark::EndIf),
+        ("END_CASE", Mark::EndCase),
+        ("END_FOR", Mark::EndFor),
+        ("END_WHILE", Mark::EndWhile),
+        ("END_REPEAT", Mark::EndRepeat),
+        ("EXIT", Mark::Exit),
+    ],
+    &[
+        ("FUNCTION_BLOCK", Mark::FunctionBlock),
+        ("FBS", Mark::Fbs),
+        ("FALSE", Mark::False),
+        ("FOR", Mark::For),
     ],
     &[],
     &[],
-    &[(b"INT", Mark::Int), (b"IF", Mark::If)],
+    &[("INT", Mark::Int), ("IF", Mark::If)],
     &[],
     &[],
-    &[(b"LINT", Mark::Lint)],
-    &[(b"MOD", Mark::Mod)],
-    &[(b"NOT", Mark::Not)],
-    &[(b"OF", Mark::Of), (b"OR", Mark::Or)],
+    &[("LINT", Mark::Lint)],
+    &[("MOD", Mark::Mod)],
+    &[("NOT", Mark::Not)],
+    &[("OF", Mark::Of), ("OR", Mark::Or)],
     &[],
     &[],
-    &[(b"REPEAT", Mark::Repeat), (b"RETURN", Mark::Return)],
-    &[(b"SINT", Mark::Sint)],
+    &[("REPEAT", Mark::Repeat), ("RETURN", Mark::Return)],
+    &[("SINT", Mark::Sint)],
     &[
-        (b"TO", Mark::To),
-        (b"TIME", Mark::Time),
-        (b"TRUE", Mark::True),
-        (b"THEN", Mark::Then),
+        ("TO", Mark::To),
+        ("TIME", Mark::Time),
+        ("TRUE", Mark::True),
+        ("THEN", Mark::Then),
     ],
     &[
-        (b"USINT", Mark::Usint),
-        (b"UINT", Mark::Uint),
-        (b"UDINT", Mark::Udint),
-        (b"ULINT", Mark::Ulint),
-        (b"UNTIL", Mark::Until),
+        ("USINT", Mark::Usint),
+        ("UINT", Mark::Uint),
+        ("UDINT", Mark::Udint),
+        ("ULINT", Mark::Ulint),
+        ("UNTIL", Mark::Until),
     ],
     &[
-        (b"VAR_INPUT", Mark::VarInput),
-        (b"VAR_OUTPUT", Mark::VarOutput),
-        (b"VAR", Mark::Var),
+        ("VAR_INPUT", Mark::VarInput),
+        ("VAR_OUTPUT", Mark::VarOutput),
+        ("VAR", Mark::Var),
     ],
-    &[(b"WITH", Mark::With), (b"WHILE", Mark::While)],
-    &[(b"XOR", Mark::Xor)],
+    &[("WITH", Mark::With), ("WHILE", Mark::While)],
+    &[("XOR", Mark::Xor)],
     &[],
     &[],
 ];
@@ -101,11 +101,11 @@ fn is_same(a: &[u8], b: &[u8]) -> bool
 }
 
 /// The mark of the first entry with this word.
-fn look_up(mut table: &[(&[u8], Mark)], word: &[u8]) -> Option<Mark>
+fn look_up(mut table: &[(&str, Mark)], word: &[u8]) -> Option<Mark>
     ensures { result ≡ spec.look_up (map (λ k. (k.0.now, k.1)) table.entry.now) word.now }
 {
     while let [entry, rest @ ..] = table {
-        if is_same(word, entry.0) {
+        if is_same(word, entry.0.as_bytes()) {
             return Some(entry.1);
         }
         table = rest;
@@ -114,7 +114,7 @@ fn look_up(mut table: &[(&[u8], Mark)], word: &[u8]) -> Option<Mark>
 }
 
 /// The keyword that a word in upper case is, from the tables of the letters.
-fn keyword_in(tables: &[&[(&[u8], Mark)]], word: &[u8]) -> Option<Mark>
+fn keyword_in(tables: &[&[(&str, Mark)]], word: &[u8]) -> Option<Mark>
     requires { map (λ t. map (λ k. (k.0.now, k.1)) t.now) tables.now ≡ groups 65 26 }
     ensures { result ≡ spec.keyword word.now }
 {
