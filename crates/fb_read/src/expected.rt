@@ -229,10 +229,6 @@ impl Expected {
         Expected { kinds }
     }
 
-    fn has(self, kind: u128) -> bool {
-        self.kinds & kind != 0
-    }
-
     /// Their names and spellings, separated by blanks. Where any name may be, the words `IN` and `ST` are not listed.
     ///
     /// # Errors
@@ -254,7 +250,7 @@ impl Expected {
         self.add_if(all, NAME, "name")?;
         self.add_if(all, WHOLE, "whole")?;
         self.add_if(all, TIME, "time")?;
-        if self.has(NAME) {
+        if self.kinds & NAME != 0 {
             return Ok(());
         }
         self.add_if(all, IN, "IN")?;
@@ -263,7 +259,7 @@ impl Expected {
 
     /// Adds a word, if the kind is among these.
     fn add_if(self, all: &mut String, kind: u128, word: &str) -> Result<(), AllocError> {
-        if !self.has(kind) {
+        if self.kinds & kind == 0 {
             return Ok(());
         }
         if !all.is_empty() {

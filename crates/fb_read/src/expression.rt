@@ -24,12 +24,6 @@ pub struct Nested {
     pub nesting: u32,
 }
 
-fn leaf(expr: Expr) -> Nested
-    ensures { result ≡ spec.leaf expr }
-{
-    Nested { expr, nesting: 1 }
-}
-
 /// The expression whose deepest part nests `depth` deep.
 #[tactic(auto, unfolding(crate::specs::Expressions::around))]
 fn around(below: u32, depth: u32, expr: Expr, cursor: &Cursor<'_>) -> Result<Nested, ParseFault>
@@ -138,7 +132,10 @@ impl<F: Fn(&mut Cursor<'_>, u32, u8) -> Result<Nested, ParseFault>> ExpressionRu
         ensures { Reads (spec.call self.now.below (spec.nested_expression self.now.below) function cursor.old) result cursor.new }
     {
         if cursor.eat(Mark::Close) {
-            return Ok(leaf(Expr::Call(function, cursor.no_items())));
+            return Ok(Nested {
+                expr: Expr::Call(function, cursor.no_items()),
+                nesting: 1,
+            });
         }
         let found = self.arguments(cursor)?;
         let (found, depth) = ended(cursor, Mark::Close, found)?;
@@ -155,7 +152,10 @@ impl<F: Fn(&mut Cursor<'_>, u32, u8) -> Result<Nested, ParseFault>> ExpressionRu
         if cursor.eat(Mark::Open) {
             self.call(cursor, first)
         } else {
-            Ok(leaf(Expr::Variable(Reference::new(first))))
+            Ok(Nested {
+                expr: Expr::Variable(Reference::new(first)),
+                nesting: 1,
+            })
         }
     }
 
@@ -167,13 +167,22 @@ impl<F: Fn(&mut Cursor<'_>, u32, u8) -> Result<Nested, ParseFault>> ExpressionRu
         if cursor.eat(Mark::Open) {
             self.group(cursor)
         } else if cursor.eat(Mark::True) {
-            Ok(leaf(Expr::Truth(true)))
+            Ok(Nested {
+                expr: Expr::Truth(true),
+                nesting: 1,
+            })
         } else if cursor.eat(Mark::False) {
-            Ok(leaf(Expr::Truth(false)))
+            Ok(Nested {
+                expr: Expr::Truth(false),
+                nesting: 1,
+            })
         } else if cursor.sees_name() {
             self.named(cursor)
         } else {
-            Ok(leaf(Expr::Whole(cursor.literal()?)))
+            Ok(Nested {
+                expr: Expr::Whole(cursor.literal()?),
+                nesting: 1,
+            })
         }
     }
 
