@@ -1,5 +1,5 @@
 -- An operator and its right operand, after a left one.
-use Rattle.std.proofs.Common.{◌≡◌, ◌<◌, ℕ, suc, ◌+◌, ◌-◌, max, leb, Bool, true, false, if◌then◌else◌, Some, Ok, Err, refl, ap, ◌∙◌}
+use Rattle.std.proofs.Common.{◌≡◌, ◌<◌, ℕ, suc, ◌+◌, ◌-◌, max, leb, Bool, true, false, if◌then◌else◌, Some, None, Ok, Err, refl, ap, ◌∙◌}
 use Rattle.fb_types.specs.declared.text.BinaryOperator.{BinaryOperator}
 use Rattle.fb_types.specs.declared.text.Expr.TheVariants as e
 use Rattle.fb_read.specs.Tokens.{Tokens}
@@ -28,6 +28,13 @@ climb_operated : (below : ℕ) (inner : ℕ → Parser Nested) (level : ℕ) (op
     → climb below inner level operand (suc n) left ts ≡ operated below inner (climb below inner level operand n) operand left (next_operator level ts) ts
 unfolding climb
 climb_operated below inner level operand n left ts = refl
+
+-- the end of the loop, where no operator is next
+pub climb_over : (below : ℕ) (inner : ℕ → Parser Nested) (level : ℕ) (operand : Parser Nested) (n : ℕ) (left : Nested) (ts : Tokens)
+    → next_operator level ts ≡ None → climb below inner level operand (suc n) left ts ≡ Ok (left, ts)
+climb_over below inner level operand n left ts none =
+    climb_operated below inner level operand n left ts
+    ∙ ap (λ o. operated below inner (climb below inner level operand n) operand left o ts) none
 
 -- an iteration of the loop at an operator
 pub joined_more : {x : Outcome Nested} (below : ℕ) (inner : ℕ → Parser Nested) (level : ℕ) (operand : Parser Nested) (left : Nested) (op : BinaryOperator) (ts : Tokens) (n at : ℕ)

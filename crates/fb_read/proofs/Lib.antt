@@ -9,6 +9,7 @@ pub mod NextLaws
 pub mod Turns
 pub mod Joins
 pub mod Adding
+pub mod Reading
 pub mod Turning
 pub mod Pairs
 pub mod Options

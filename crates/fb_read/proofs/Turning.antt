@@ -1,21 +1,29 @@
 -- One iteration of a loop that reads items, and adds what was read to what was found.
-use Rattle.std.proofs.Common.{◌≡◌, ℕ, suc, Bool, true, false, List, Result, Ok, refl, subst}
+use Rattle.std.proofs.Common.{◌≡◌, ℕ, suc, Bool, true, false, List, [], ◌∷◌, ◌++◌, Result, Ok, Err, refl, subst}
 use Rattle.fb_read.specs.declared.token.Mark.{Mark}
 use Rattle.fb_read.specs.declared.fault.ParseFault.{ParseFault}
 use Rattle.fb_read.specs.Tokens.{Tokens}
 use Rattle.fb_read.specs.declared.token.Mark.TheVariants as mark
 use Rattle.fb_types.specs.declared.text.Stmt.{Stmt}
 use Rattle.fb_types.specs.declared.text.Choice.{Choice}
-use Rattle.fb_read.specs.Parser.{Parser, Reads, sees, after, expect, rest_of, run_from, many_from}
+use Rattle.fb_read.specs.Parser.{Parser, Reads, and_then, sees, after, expect, rest_of, run_from, many_from, separated_from}
 use Rattle.fb_read.specs.Added.{Adds}
 use Rattle.fb_read.specs.Statements.{several_from, choice, elsif}
-use Rattle.fb_read.proofs.Adding.{added_on}
+use Rattle.fb_read.proofs.Adding.{added_on, fault_of}
+use Rattle.fb_read.proofs.Reading.{stops, stops_as}
 
 pub several_more :
     {A : Type 0} (begins : Tokens → Bool) (item : Parser A) (n : ℕ) (found all : List A) (ts new : Tokens) (read : Result A ParseFault)
     → begins ts ≡ true → Reads (item ts) read new → Adds found read (Ok all) → several_from begins item (suc n) found ts ≡ several_from begins item n all new
 unfolding several_from
 several_more begins item n found all ts new read b r more = rw b (added_on (item ts) read new found all (λ xs. several_from begins item n xs) r more)
+
+pub several_fault :
+    {A : Type 0} (begins : Tokens → Bool) (item : Parser A) (n : ℕ) (found : List A) (ts new : Tokens) (read : Result A ParseFault) (e : ParseFault)
+    → begins ts ≡ true → Reads (item ts) read new → Adds found read (Err e) → Reads (several_from begins item (suc n) found ts) (Err e) new
+unfolding several_from
+several_fault begins item n found ts new read e b r shown =
+    stops_as _ (and_then (item ts) (λ x. several_from begins item n (found ++ x ∷ []))) e new (rw b refl) (stops _ _ e new (fault_of (item ts) read new found e r shown))
 
 pub several_over :
     {A : Type 0} (begins : Tokens → Bool) (item : Parser A) (n : ℕ) (found : List A) (ts : Tokens) → begins ts ≡ false → several_from begins item (suc n) found ts ≡ Ok (found, ts)
@@ -28,12 +36,34 @@ pub run_more :
 unfolding run_from
 run_more item begin n found all ts new read b r more = rw b (added_on (item ts) read new found all (λ xs. run_from item begin n xs) r more)
 
+pub run_fault :
+    {A : Type 0} (item : Parser A) (begin : Mark) (n : ℕ) (found : List A) (ts new : Tokens) (read : Result A ParseFault) (e : ParseFault)
+    → sees begin ts ≡ true → Reads (item ts) read new → Adds found read (Err e) → Reads (run_from item begin (suc n) found ts) (Err e) new
+unfolding run_from
+run_fault item begin n found ts new read e b r shown =
+    stops_as _ (and_then (item ts) (λ x. run_from item begin n (found ++ x ∷ []))) e new (rw b refl) (stops _ _ e new (fault_of (item ts) read new found e r shown))
+
 pub many_more :
     {A : Type 0} (item : Parser A) (end : Mark) (n : ℕ) (found all : List A) (ts mid new : Tokens) (read : Result A ParseFault)
     → sees end ts ≡ false → mid ≡ after end ts → Reads (item mid) read new → Adds found read (Ok all) → many_from item end (suc n) found ts ≡ many_from item end n all new
 unfolding many_from
 many_more item end n found all ts mid new read b m r more =
     rw b (added_on (item (after end ts)) read new found all (λ xs. many_from item end n xs) (subst (λ (t : Tokens). Reads (item t) read new) m r) more)
+
+pub many_fault :
+    {A : Type 0} (item : Parser A) (end : Mark) (n : ℕ) (found : List A) (ts mid new : Tokens) (read : Result A ParseFault) (e : ParseFault)
+    → sees end ts ≡ false → mid ≡ after end ts → Reads (item mid) read new → Adds found read (Err e) → Reads (many_from item end (suc n) found ts) (Err e) new
+unfolding many_from
+many_fault item end n found ts mid new read e b m r shown =
+    let here : Reads (item (after end ts)) read new = subst (λ (t : Tokens). Reads (item t) read new) m r in
+    stops_as _ (and_then (item (after end ts)) (λ x. many_from item end n (found ++ x ∷ []))) e new (rw b refl)
+    (stops _ _ e new (fault_of (item (after end ts)) read new found e here shown))
+
+pub separated_fault :
+    {A : Type 0} (item : Parser A) (n : ℕ) (found : List A) (ts new : Tokens) (read : Result A ParseFault) (e : ParseFault)
+    → Reads (item ts) read new → Adds found read (Err e) → Reads (separated_from item (suc n) found ts) (Err e) new
+unfolding separated_from
+separated_fault item n found ts new read e r shown = stops (item ts) _ e new (fault_of (item ts) read new found e r shown)
 
 pub after_none : (k : Mark) (ts : Tokens) → sees k ts ≡ false → after k ts ≡ ts
 unfolding after

@@ -1,9 +1,10 @@
 use Rattle.std.proofs.Common.{◌≡◌, false, ◌∙◌, rules, arith}
 use Rattle.std.proofs.lemmas.Grind.{common_steps}
+use Rattle.std.proofs.lemmas.Result.{err_from_is_err_and}
 use Rattle.fb_read.specs.Parser.{sees, after, many_after, many_from}
 use Rattle.fb_read.proofs.Turns.{one_more, no_more}
-use Rattle.fb_read.proofs.Adding.{fault_of}
-use Rattle.fb_read.proofs.Turning.{many_more}
+use Rattle.fb_read.proofs.Reading.{stops_as}
+use Rattle.fb_read.proofs.Turning.{many_fault, many_more}
 use Rattle.fb_read.proofs.rule.many_after.Goals as goal
 
 pub loop-turn-init : goal.loop-turn-init
@@ -17,11 +18,13 @@ returns-then-eat g c =
     grind (arith, common_steps)
 
 pub returns-in_err-found : goal.returns-in_err-found
-unfolding many_from
 returns-in_err-found g c =
-    let e = one_more (λ n. many_from g.T.Rule.parser c.args.end n c.loop-turn.found c.loop-turn.cursor) _ c.loop-turn._turn c.loop-turn-test.true c.loop-turn.invariant in
-    let r = fault_of _ _ _ c.loop-turn.found _ c.read.ensures c.in_err-found.ensures in
-    grind (arith, common_steps)
+    let more : sees c.args.end c.loop-turn.cursor ≡ false = search rules in
+    let mid : c.eat.new.self ≡ after c.args.end c.loop-turn.cursor = search rules in
+    let p = err_from_is_err_and c.from_residual.result c.from_residual.ensures.1 in
+    rw (p.1, p.2) (stops_as _ _ _ _
+    (one_more (λ n. many_from g.T.Rule.parser c.args.end n c.loop-turn.found c.loop-turn.cursor) _ c.loop-turn._turn c.loop-turn-test.true c.loop-turn.invariant)
+    (many_fault g.T.Rule.parser c.args.end _ c.loop-turn.found c.loop-turn.cursor _ _ _ _ more mid c.read.ensures c.in_err-found.ensures))
 
 pub loop-turn-preserved : goal.loop-turn-preserved
 loop-turn-preserved g c =

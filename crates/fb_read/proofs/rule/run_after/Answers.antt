@@ -1,9 +1,10 @@
 use Rattle.std.proofs.Common.{◌≡◌, true, ◌∙◌, rules, arith}
 use Rattle.std.proofs.lemmas.Grind.{common_steps}
+use Rattle.std.proofs.lemmas.Result.{err_from_is_err_and}
 use Rattle.fb_read.specs.Parser.{sees, run_after, run_from}
 use Rattle.fb_read.proofs.Turns.{one_more, no_more}
-use Rattle.fb_read.proofs.Adding.{fault_of}
-use Rattle.fb_read.proofs.Turning.{run_more}
+use Rattle.fb_read.proofs.Reading.{stops_as}
+use Rattle.fb_read.proofs.Turning.{run_fault, run_more}
 use Rattle.fb_read.proofs.rule.run_after.Goals as goal
 
 pub loop-turn-init : goal.loop-turn-init
@@ -17,11 +18,12 @@ returns-then-not-sees g c =
     grind (arith, common_steps)
 
 pub returns-in_err-found : goal.returns-in_err-found
-unfolding run_from
 returns-in_err-found g c =
-    let e = one_more (λ n. run_from g.T.Rule.parser c.args.begin n c.loop-turn.found c.loop-turn.cursor) _ c.loop-turn._turn c.loop-turn-test.true c.loop-turn.invariant in
-    let r = fault_of _ _ _ c.loop-turn.found _ c.read.ensures c.in_err-found.ensures in
-    grind (arith, common_steps)
+    let begun : sees c.args.begin c.loop-turn.cursor ≡ true = search rules in
+    let p = err_from_is_err_and c.from_residual.result c.from_residual.ensures.1 in
+    rw (p.1, p.2) (stops_as _ _ _ _
+    (one_more (λ n. run_from g.T.Rule.parser c.args.begin n c.loop-turn.found c.loop-turn.cursor) _ c.loop-turn._turn c.loop-turn-test.true c.loop-turn.invariant)
+    (run_fault g.T.Rule.parser c.args.begin _ c.loop-turn.found c.loop-turn.cursor _ _ _ begun c.read.ensures c.in_err-found.ensures))
 
 pub loop-turn-preserved : goal.loop-turn-preserved
 loop-turn-preserved g c =

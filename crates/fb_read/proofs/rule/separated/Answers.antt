@@ -1,8 +1,11 @@
 use Rattle.std.proofs.Common.{arith}
 use Rattle.std.proofs.lemmas.Grind.{common_steps}
+use Rattle.std.proofs.lemmas.Result.{err_from_is_err_and}
 use Rattle.fb_read.specs.Parser.{separated, separated_from}
 use Rattle.fb_read.proofs.Turns.{one_more, no_more}
-use Rattle.fb_read.proofs.Adding.{item_of, fault_of}
+use Rattle.fb_read.proofs.Adding.{item_of}
+use Rattle.fb_read.proofs.Reading.{stops_as}
+use Rattle.fb_read.proofs.Turning.{separated_fault}
 use Rattle.fb_read.proofs.rule.separated.Goals as goal
 
 pub loop-turn-init : goal.loop-turn-init
@@ -19,11 +22,11 @@ returns-then-not-eat g c =
     grind (arith, common_steps)
 
 pub returns-in_err-found : goal.returns-in_err-found
-unfolding separated_from
 returns-in_err-found g c =
-    let e = one_more (λ n. separated_from g.T.Rule.parser n c.loop-turn.found c.loop-turn.cursor) _ c.loop-turn._turn c.loop-turn-test.true c.loop-turn.invariant in
-    let r = fault_of _ _ _ c.loop-turn.found _ c.read.ensures c.in_err-found.ensures in
-    grind (arith, common_steps)
+    let p = err_from_is_err_and c.from_residual.result c.from_residual.ensures.1 in
+    rw (p.1, p.2) (stops_as _ _ _ _
+    (one_more (λ n. separated_from g.T.Rule.parser n c.loop-turn.found c.loop-turn.cursor) _ c.loop-turn._turn c.loop-turn-test.true c.loop-turn.invariant)
+    (separated_fault g.T.Rule.parser _ c.loop-turn.found c.loop-turn.cursor _ _ _ c.read.ensures c.in_err-found.ensures))
 
 pub loop-turn-preserved : goal.loop-turn-preserved
 unfolding separated_from

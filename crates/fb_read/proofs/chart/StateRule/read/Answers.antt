@@ -1,12 +1,21 @@
-use Rattle.std.proofs.Common.{arith}
-use Rattle.fb_read.specs.Charts.{state}
-use Rattle.fb_read.proofs.Options.{actions_is}
+use Rattle.std.proofs.lemmas.Result.{err_from_is_err_and}
+use Rattle.fb_read.specs.Charts.{actions, state}
+use Rattle.fb_read.specs.Parser.{listed}
+use Rattle.fb_read.proofs.Reading.{goes_on, stops, stops_later}
 use Rattle.fb_read.proofs.chart.StateRule.read.Goals as goal
 
+pub returns-in_err-name : goal.returns-in_err-name
+unfolding state actions listed
+returns-in_err-name c =
+    let p = err_from_is_err_and c.from_residual.result c.from_residual.ensures.1 in
+    rw (p.1, p.2) (stops _ _ _ _ c.in_err-name.ensures)
+
 pub returns-in_err-actions : goal.returns-in_err-actions
-unfolding state
-returns-in_err-actions c = grind (arith, actions_is)
+unfolding state actions listed
+returns-in_err-actions c =
+    let p = err_from_is_err_and c.from_residual-in_err-actions.result c.from_residual-in_err-actions.ensures.1 in
+    rw (p.1, p.2) (stops_later _ _ _ _ _ _ c.in_ok-name.ensures (stops _ _ _ _ c.in_err-actions.ensures))
 
 pub returns : goal.returns
-unfolding state
-returns c = grind (arith, actions_is)
+unfolding state actions listed
+returns c = goes_on _ _ _ _ _ _ c.in_ok-name.ensures (goes_on _ _ _ _ _ _ c.in_ok-actions.ensures c.ended.ensures)

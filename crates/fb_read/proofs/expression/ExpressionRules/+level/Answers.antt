@@ -1,12 +1,14 @@
-use Rattle.std.proofs.Common.{◌≡◌, ◌<◌, ◌-◌, ℕ, suc, length, ap, ◌∙◌, Some, rules, arith}
+use Rattle.std.proofs.Common.{◌≡◌, ◌<◌, ◌-◌, ℕ, suc, length, ap, ◌∙◌, Some, None, refl, rules, arith}
 use Rattle.std.proofs.lemmas.Grind.{common_steps}
+use Rattle.std.proofs.lemmas.Result.{err_from_is_err_and}
 use Rattle.fb_read.specs.Tokens.{Tokens}
 use Rattle.fb_read.specs.Parser.{Parser, and_then}
 use Rattle.fb_read.specs.declared.expression.Nested.{Nested}
 use Rattle.fb_read.specs.Operators.{next_operator}
 use Rattle.fb_read.specs.Expressions.{nested_expression, level_at, climb}
 use Rattle.fb_read.proofs.Turns.{one_more, no_more, deeper}
-use Rattle.fb_read.proofs.Joins.{joined_more}
+use Rattle.fb_read.proofs.Joins.{climb_over, joined_more}
+use Rattle.fb_read.proofs.Reading.{stops, stops_as, went_on}
 use Rattle.fb_read.proofs.expression.ExpressionRules.+level.Goals as goal
 
 level_above : (below : ℕ) (inner : ℕ → Parser Nested) (n : ℕ) (ts : Tokens) → 0 < n
@@ -23,7 +25,8 @@ returns-then-level-eq0 g t c = let none : c.args.level ≡ 0 = omega arith in rw
 pub returns-in_err-left : goal.returns-in_err-left
 returns-in_err-left g t c =
     let e = level_above c.args.self.now.below (nested_expression c.args.self.now.below) c.args.level c.args.cursor.now (omega arith) in
-    grind (arith, common_steps)
+    let p = err_from_is_err_and c.from_residual.result c.from_residual.ensures.1 in
+    rw (p.1, p.2) (stops_as _ _ _ _ e (stops _ _ _ _ c.in_err-left.ensures))
 
 pub loop-turn-init : goal.loop-turn-init
 loop-turn-init g t c =
@@ -31,25 +34,25 @@ loop-turn-init g t c =
     grind (arith, common_steps)
 
 pub returns-in_default : goal.returns-in_default
-unfolding climb
 returns-in_default g t c =
-    let e = one_more (λ n. climb c.args.self.now.below (nested_expression c.args.self.now.below) c.args.level (nested_expression c.args.self.now.below (c.args.level - 1)) n c.loop-turn.left c.loop-turn.cursor) _ c.loop-turn._turn c.loop-turn-test.true c.loop-turn.invariant in
-    grind (arith, common_steps)
+    let o : next_operator c.args.level c.loop-turn.cursor ≡ None = search rules in
+    one_more (λ n. climb c.args.self.now.below (nested_expression c.args.self.now.below) c.args.level (nested_expression c.args.self.now.below (c.args.level - 1)) n c.loop-turn.left c.loop-turn.cursor) _ c.loop-turn._turn c.loop-turn-test.true c.loop-turn.invariant
+    ∙ climb_over _ _ _ _ _ c.loop-turn.left c.loop-turn.cursor o
 
 pub returns-in_err-left-2 : goal.returns-in_err-left-2
 returns-in_err-left-2 g t c =
     let o : next_operator c.args.level c.loop-turn.cursor ≡ Some c.in-Some.operator = search rules in
     let e = joined_more c.args.self.now.below (nested_expression c.args.self.now.below) c.args.level (nested_expression c.args.self.now.below (c.args.level - 1)) c.loop-turn.left c.in-Some.operator c.loop-turn.cursor _ c.loop-turn._turn c.loop-turn-test.true c.loop-turn.invariant o in
-    grind (arith, common_steps)
+    let p = err_from_is_err_and c.from_residual-in_err-left-2.result c.from_residual-in_err-left-2.ensures.1 in
+    rw (p.1, p.2) (stops_as _ _ _ _ e (stops _ _ _ _ c.in_err-left-2.ensures))
 
 pub loop-turn-preserved : goal.loop-turn-preserved
 loop-turn-preserved g t c =
     let o : next_operator c.args.level c.loop-turn.cursor ≡ Some c.in-Some.operator = search rules in
     let e = joined_more c.args.self.now.below (nested_expression c.args.self.now.below) c.args.level (nested_expression c.args.self.now.below (c.args.level - 1)) c.loop-turn.left c.in-Some.operator c.loop-turn.cursor _ c.loop-turn._turn c.loop-turn-test.true c.loop-turn.invariant o in
-    grind (arith, common_steps)
+    e ∙ went_on _ _ _ _ _ c.in_ok-left-2.ensures refl
 
 pub returns : goal.returns
 unfolding climb
 returns g t c =
-    let e = no_more (λ n. climb c.args.self.now.below (nested_expression c.args.self.now.below) c.args.level (nested_expression c.args.self.now.below (c.args.level - 1)) n c.loop-turn.left c.loop-turn.cursor) _ c.loop-turn._turn c.loop-turn-test.false c.loop-turn.invariant in
-    grind (arith, common_steps)
+    no_more (λ n. climb c.args.self.now.below (nested_expression c.args.self.now.below) c.args.level (nested_expression c.args.self.now.below (c.args.level - 1)) n c.loop-turn.left c.loop-turn.cursor) _ c.loop-turn._turn c.loop-turn-test.false c.loop-turn.invariant

@@ -1,14 +1,13 @@
-use Rattle.std.proofs.Common.{rules, arith}
-use Rattle.std.proofs.lemmas.Grind.{common_steps}
+use Rattle.std.proofs.Common.{◌∙◌, refl}
+use Rattle.std.proofs.lemmas.Result.{err_from_is_err_and}
 use Rattle.fb_read.proofs.Pairs.{parameter_is}
+use Rattle.fb_read.proofs.Reading.{stops, stops_as, went_on}
 use Rattle.fb_read.proofs.network.ParameterRule.read.Goals as goal
 
 pub returns-in_err-name : goal.returns-in_err-name
 returns-in_err-name c =
-    let is = parameter_is c.args.cursor.now in
-    first_of (search rules, grind (arith, common_steps))
+    let p = err_from_is_err_and c.from_residual.result c.from_residual.ensures.1 in
+    rw (p.1, p.2) (stops_as _ _ _ _ (parameter_is c.args.cursor.now) (stops _ _ _ _ c.in_err-name.ensures))
 
 pub returns : goal.returns
-returns c =
-    let is = parameter_is c.args.cursor.now in
-    first_of (search rules, grind (arith, common_steps))
+returns c = parameter_is c.args.cursor.now ∙ went_on _ _ _ _ _ c.in_ok-name.ensures refl

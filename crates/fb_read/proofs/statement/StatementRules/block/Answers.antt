@@ -1,9 +1,10 @@
 use Rattle.std.proofs.Common.{◌≡◌, true, false, ◌∙◌, rules, arith}
 use Rattle.std.proofs.lemmas.Grind.{common_steps}
+use Rattle.std.proofs.lemmas.Result.{err_from_is_err_and}
 use Rattle.fb_read.specs.Statements.{nested_statement, block, begins_statement, several, several_from}
 use Rattle.fb_read.proofs.Turns.{one_more, no_more}
-use Rattle.fb_read.proofs.Adding.{fault_of}
-use Rattle.fb_read.proofs.Turning.{several_more, several_over}
+use Rattle.fb_read.proofs.Reading.{stops_as}
+use Rattle.fb_read.proofs.Turning.{several_fault, several_more, several_over}
 use Rattle.fb_read.proofs.statement.StatementRules.block.Goals as goal
 
 pub loop-turn-init : goal.loop-turn-init
@@ -17,11 +18,12 @@ returns-then-not-begins_statement g c =
     ∙ several_over begins_statement (nested_statement c.args.self.now.below) _ c.loop-turn.found c.loop-turn.cursor over
 
 pub returns-in_err-found : goal.returns-in_err-found
-unfolding several_from
 returns-in_err-found g c =
-    let e = one_more (λ n. several_from begins_statement (nested_statement c.args.self.now.below) n c.loop-turn.found c.loop-turn.cursor) _ c.loop-turn._turn c.loop-turn-test.true c.loop-turn.invariant in
-    let r = fault_of _ _ _ c.loop-turn.found _ c.part.ensures c.in_err-found.ensures in
-    grind (arith, common_steps)
+    let begun : begins_statement c.loop-turn.cursor ≡ true = search rules in
+    let p = err_from_is_err_and c.from_residual.result c.from_residual.ensures.1 in
+    rw (p.1, p.2) (stops_as _ _ _ _
+    (one_more (λ n. several_from begins_statement (nested_statement c.args.self.now.below) n c.loop-turn.found c.loop-turn.cursor) _ c.loop-turn._turn c.loop-turn-test.true c.loop-turn.invariant)
+    (several_fault begins_statement (nested_statement c.args.self.now.below) _ c.loop-turn.found c.loop-turn.cursor _ _ _ begun c.part.ensures c.in_err-found.ensures))
 
 pub loop-turn-preserved : goal.loop-turn-preserved
 loop-turn-preserved g c =

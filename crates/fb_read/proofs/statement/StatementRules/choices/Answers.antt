@@ -1,19 +1,21 @@
 use Rattle.std.proofs.Common.{◌≡◌, true, false, [], Ok, ap, sym, ◌∙◌, rules, arith}
 use Rattle.std.proofs.lemmas.Grind.{common_steps}
+use Rattle.std.proofs.lemmas.Result.{err_from_is_err_and}
 use Rattle.fb_read.specs.declared.token.Mark.TheVariants as mark
 use Rattle.fb_read.specs.Parser.{sees}
 use Rattle.fb_read.specs.Statements.{nested_statement, choices, elsif, several, several_from}
 use Rattle.fb_read.proofs.Turns.{one_more, no_more}
 use Rattle.fb_read.proofs.Adding.{item_of, fault_of}
+use Rattle.fb_read.proofs.Reading.{stops, stops_as}
 use Rattle.fb_read.specs.Tokens.{Tokens}
-use Rattle.fb_read.proofs.Turning.{several_more, several_over, after_none, elsif_reads}
+use Rattle.fb_read.proofs.Turning.{several_fault, several_more, several_over, after_none, elsif_reads}
 use Rattle.fb_read.proofs.statement.StatementRules.choices.Goals as goal
 
 pub returns-in_err-found : goal.returns-in_err-found
 unfolding choices
 returns-in_err-found g c =
-    let r = fault_of _ _ _ [] _ c.choice.ensures c.in_err-found.ensures in
-    grind (arith, common_steps)
+    let p = err_from_is_err_and c.from_residual.result c.from_residual.ensures.1 in
+    rw (p.1, p.2) (stops _ _ _ _ (fault_of _ _ _ [] _ c.choice.ensures c.in_err-found.ensures))
 
 pub loop-turn-init : goal.loop-turn-init
 unfolding choices several
@@ -31,12 +33,13 @@ returns-then-not-eat g c =
     ∙ ap (λ (t : Tokens). Ok (c.loop-turn.found, t)) (sym (c.eat.ensures.after ∙ after_none mark.Elsif c.loop-turn.cursor over))
 
 pub returns-in_err-found-2 : goal.returns-in_err-found-2
-unfolding several_from
 returns-in_err-found-2 g c =
     let begun : sees mark.Elsif c.loop-turn.cursor ≡ true = search rules in
-    let e = one_more (λ n. several_from (sees mark.Elsif) (elsif (nested_statement c.args.self.now.below)) n c.loop-turn.found c.loop-turn.cursor) _ c.loop-turn._turn c.loop-turn-test.true c.loop-turn.invariant in
-    let r = fault_of _ _ _ c.loop-turn.found _ (elsif_reads _ c.loop-turn.cursor _ _ _ begun c.eat.ensures.after c.choice-in-loop-turn.ensures) c.in_err-found-2.ensures in
-    grind (arith, common_steps)
+    let p = err_from_is_err_and c.from_residual-in_err-found-2.result c.from_residual-in_err-found-2.ensures.1 in
+    rw (p.1, p.2) (stops_as _ _ _ _
+    (one_more (λ n. several_from (sees mark.Elsif) (elsif (nested_statement c.args.self.now.below)) n c.loop-turn.found c.loop-turn.cursor) _ c.loop-turn._turn c.loop-turn-test.true c.loop-turn.invariant)
+    (several_fault (sees mark.Elsif) (elsif (nested_statement c.args.self.now.below)) _ c.loop-turn.found c.loop-turn.cursor _ _ _ begun
+    (elsif_reads _ c.loop-turn.cursor _ _ _ begun c.eat.ensures.after c.choice-in-loop-turn.ensures) c.in_err-found-2.ensures))
 
 pub loop-turn-preserved : goal.loop-turn-preserved
 loop-turn-preserved g c =

@@ -1,0 +1,33 @@
+-- What a rule reads, by what its parts read.
+use Rattle.std.proofs.Common.{◌≡◌, Result, Ok, Err, ap, sym, subst, ◌∙◌}
+use Rattle.fb_read.specs.declared.fault.ParseFault.{ParseFault}
+use Rattle.fb_read.specs.declared.fault.ParseFault.TheVariants as fault
+use Rattle.fb_read.specs.Tokens.{Tokens}
+use Rattle.fb_read.specs.Parser.{Parser, Outcome, Reads, and_then}
+
+-- what its first part refuses, a rule refuses
+pub stops : {A B : Type 0} (o : Outcome A) (f : A → Parser B) (e : ParseFault) (new : Tokens) → Reads o (Err e) new → Reads (and_then o f) (Err e) new
+stops o f fault.Memory new r = tt
+stops {A = A} o f fault.Syntax new r = ap (λ (x : Outcome A). and_then x f) r
+stops {A = A} o f fault.Nesting new r = ap (λ (x : Outcome A). and_then x f) r
+
+-- after its first part, a rule reads what the rest of it reads
+pub goes_on : {A B : Type 0} (o : Outcome A) (f : A → Parser B) (x : A) (mid : Tokens) (r : Result B ParseFault) (new : Tokens)
+    → o ≡ Ok (x, mid) → Reads (f x mid) r new → Reads (and_then o f) r new
+goes_on {A = A} o f x mid r new is reads = subst (λ (y : Outcome A). Reads (and_then y f) r new) (sym is) reads
+
+-- the same, where the rest refuses
+pub stops_later : {A B : Type 0} (o : Outcome A) (f : A → Parser B) (x : A) (mid : Tokens) (e : ParseFault) (new : Tokens)
+    → o ≡ Ok (x, mid) → Reads (f x mid) (Err e) new → Reads (and_then o f) (Err e) new
+stops_later o f x mid e new is reads = goes_on o f x mid (Err e) new is reads
+
+-- the same, where nothing is refused
+pub went_on : {A B : Type 0} (o : Outcome A) (f : A → Parser B) (x : A) (mid : Tokens) (p : Outcome B) → o ≡ Ok (x, mid) → f x mid ≡ p → and_then o f ≡ p
+went_on {A = A} o f x mid p is rest = ap (λ (y : Outcome A). and_then y f) is ∙ rest
+
+-- the same rule, written in another way
+pub read_as : {A : Type 0} (o p : Outcome A) (r : Result A ParseFault) (new : Tokens) → o ≡ p → Reads p r new → Reads o r new
+read_as {A = A} o p r new same reads = subst (λ (x : Outcome A). Reads x r new) (sym same) reads
+
+pub stops_as : {A : Type 0} (o p : Outcome A) (e : ParseFault) (new : Tokens) → o ≡ p → Reads p (Err e) new → Reads o (Err e) new
+stops_as o p e new same reads = read_as o p (Err e) new same reads

@@ -1,0 +1,33 @@
+use Rattle.std.proofs.Common.{refl}
+use Rattle.std.proofs.lemmas.Result.{err_from_is_err_and}
+use Rattle.fb_read.specs.Blocks.{basic}
+use Rattle.fb_read.proofs.Reading.{stops, stops_later, went_on}
+use Rattle.fb_read.proofs.block.basic.Goals as goal
+
+pub returns-in_err-internals : goal.returns-in_err-internals
+unfolding basic
+returns-in_err-internals c =
+    let p = err_from_is_err_and c.from_residual.result c.from_residual.ensures.1 in
+    rw (p.1, p.2) (stops _ _ _ _ c.in_err-internals.ensures)
+
+pub returns-in_err-states : goal.returns-in_err-states
+unfolding basic
+returns-in_err-states c =
+    let p = err_from_is_err_and c.from_residual-in_err-states.result c.from_residual-in_err-states.ensures.1 in
+    rw (p.1, p.2) (stops_later _ _ _ _ _ _ c.in_ok-internals.ensures (stops _ _ _ _ c.in_err-states.ensures))
+
+pub returns-in_err-transitions : goal.returns-in_err-transitions
+unfolding basic
+returns-in_err-transitions c =
+    let p = err_from_is_err_and c.from_residual-in_err-transitions.result c.from_residual-in_err-transitions.ensures.1 in
+    rw (p.1, p.2) (stops_later _ _ _ _ _ _ c.in_ok-internals.ensures (stops_later _ _ _ _ _ _ c.in_ok-states.ensures (stops _ _ _ _ c.in_err-transitions.ensures)))
+
+pub returns-in_err-algorithms : goal.returns-in_err-algorithms
+unfolding basic
+returns-in_err-algorithms c =
+    let p = err_from_is_err_and c.from_residual-in_err-algorithms.result c.from_residual-in_err-algorithms.ensures.1 in
+    rw (p.1, p.2) (stops_later _ _ _ _ _ _ c.in_ok-internals.ensures (stops_later _ _ _ _ _ _ c.in_ok-states.ensures (stops_later _ _ _ _ _ _ c.in_ok-transitions.ensures (stops _ _ _ _ c.in_err-algorithms.ensures))))
+
+pub returns : goal.returns
+unfolding basic
+returns c = went_on _ _ _ _ _ c.in_ok-internals.ensures (went_on _ _ _ _ _ c.in_ok-states.ensures (went_on _ _ _ _ _ c.in_ok-transitions.ensures (went_on _ _ _ _ _ c.in_ok-algorithms.ensures refl)))

@@ -1,0 +1,33 @@
+use Rattle.std.proofs.Common.{refl}
+use Rattle.std.proofs.lemmas.Result.{err_from_is_err_and}
+use Rattle.fb_read.specs.Network.{network}
+use Rattle.fb_read.proofs.Reading.{stops, stops_later, went_on}
+use Rattle.fb_read.proofs.network.NetworkRule.read.Goals as goal
+
+pub returns-in_err-expect : goal.returns-in_err-expect
+unfolding network
+returns-in_err-expect c =
+    let p = err_from_is_err_and c.from_residual.result c.from_residual.ensures.1 in
+    rw (p.1, p.2) (stops _ _ _ _ c.in_err-expect.ensures)
+
+pub returns-in_err-instances : goal.returns-in_err-instances
+unfolding network
+returns-in_err-instances c =
+    let p = err_from_is_err_and c.from_residual-in_err-instances.result c.from_residual-in_err-instances.ensures.1 in
+    rw (p.1, p.2) (stops_later _ _ _ _ _ _ c.in_ok-expect.ensures (stops _ _ _ _ c.in_err-instances.ensures))
+
+pub returns-in_err-event_connections : goal.returns-in_err-event_connections
+unfolding network
+returns-in_err-event_connections c =
+    let p = err_from_is_err_and c.from_residual-in_err-event_connections.result c.from_residual-in_err-event_connections.ensures.1 in
+    rw (p.1, p.2) (stops_later _ _ _ _ _ _ c.in_ok-expect.ensures (stops_later _ _ _ _ _ _ c.in_ok-instances.ensures (stops _ _ _ _ c.in_err-event_connections.ensures)))
+
+pub returns-in_err-data_connections : goal.returns-in_err-data_connections
+unfolding network
+returns-in_err-data_connections c =
+    let p = err_from_is_err_and c.from_residual-in_err-data_connections.result c.from_residual-in_err-data_connections.ensures.1 in
+    rw (p.1, p.2) (stops_later _ _ _ _ _ _ c.in_ok-expect.ensures (stops_later _ _ _ _ _ _ c.in_ok-instances.ensures (stops_later _ _ _ _ _ _ c.in_ok-event_connections.ensures (stops _ _ _ _ c.in_err-data_connections.ensures))))
+
+pub returns : goal.returns
+unfolding network
+returns c = went_on _ _ _ _ _ c.in_ok-expect.ensures (went_on _ _ _ _ _ c.in_ok-instances.ensures (went_on _ _ _ _ _ c.in_ok-event_connections.ensures (went_on _ _ _ _ _ c.in_ok-data_connections.ensures refl)))

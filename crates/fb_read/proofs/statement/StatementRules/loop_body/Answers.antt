@@ -1,0 +1,20 @@
+use Rattle.std.proofs.lemmas.Result.{err_from_is_err_and}
+use Rattle.fb_read.specs.Statements.{loop_body}
+use Rattle.fb_read.proofs.Reading.{goes_on, stops, stops_later}
+use Rattle.fb_read.proofs.statement.StatementRules.loop_body.Goals as goal
+
+pub returns-in_err-expect : goal.returns-in_err-expect
+unfolding loop_body
+returns-in_err-expect g c =
+    let p = err_from_is_err_and c.from_residual.result c.from_residual.ensures.1 in
+    rw (p.1, p.2) (stops _ _ _ _ c.in_err-expect.ensures)
+
+pub returns-in_err-body : goal.returns-in_err-body
+unfolding loop_body
+returns-in_err-body g c =
+    let p = err_from_is_err_and c.from_residual-in_err-body.result c.from_residual-in_err-body.ensures.1 in
+    rw (p.1, p.2) (stops_later _ _ _ _ _ _ c.in_ok-expect.ensures (stops _ _ _ _ c.in_err-body.ensures))
+
+pub returns : goal.returns
+unfolding loop_body
+returns g c = goes_on _ _ _ _ _ _ c.in_ok-expect.ensures (goes_on _ _ _ _ _ _ c.in_ok-body.ensures c.finished.ensures)
