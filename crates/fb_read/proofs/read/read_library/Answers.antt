@@ -12,6 +12,13 @@ returns-in-Ok-clause-token c = read-token c.args.text.now c.in-Ok.library error.
 pub returns-in-Ok-clause-too_long : goal.returns-in-Ok-clause-too_long
 returns-in-Ok-clause-too_long c = (λ e. absurd cc, λ long. absurd (read-short c.args.text.now c.in-Ok.library c.in-Ok.ensures.declared long))
 
+-- What the contract says of a refusal it says of no library. A wrong body that refuses each text is refused here at once, with no search.
+pub returns-in-Ok-clause-none : goal.returns-in-Ok-clause-none
+returns-in-Ok-clause-none c = tt
+
+pub returns-in-Ok-clause-nesting : goal.returns-in-Ok-clause-nesting
+returns-in-Ok-clause-nesting c = tt
+
 pub returns-in-Err-clause-none : goal.returns-in-Err-clause-none
 returns-in-Err-clause-none c = is-none c.args.text.now c.in-Err.unread c.error_for.result c.in-Err.ensures.refused c.error_for.ensures
 
