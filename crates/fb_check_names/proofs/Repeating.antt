@@ -139,6 +139,18 @@ pairs_from same f all (x ∷ rest) k =
 pub pairs_are : {A Y : Type 0} (same : Y → Y → Bool) (f : A → Y) (xs : List A) → each_at (pair_in same f xs) xs ≡ repeats same (map f xs)
 pairs_are same f xs = pairs_from same f xs xs 0
 
+last_same :
+    {A Y Z : Type 0} (f : A → Y) (g : A → Z) (same : Y → Y → Bool) (other : Z → Z → Bool) → ((x y : A) → same (f x) (f y) ≡ other (g x) (g y)) → (x : A) (xs : List A)
+    → last_index (same (f x)) (map f xs) ≡ last_index (other (g x)) (map g xs)
+last_same f g same other agree x [] = refl
+last_same f g same other agree x (y ∷ ys) = λ i. later (further (last_same f g same other agree x ys i)) (cond (agree x y i) (Some zero) None)
+
+-- two ways to see items that agree on which are the same
+pub pairs_same :
+    {A Y Z : Type 0} (f : A → Y) (g : A → Z) (same : Y → Y → Bool) (other : Z → Z → Bool) → ((x y : A) → same (f x) (f y) ≡ other (g x) (g y)) → (xs : List A)
+    → each_at (pair_in same f xs) xs ≡ each_at (pair_in other g xs) xs
+pairs_same {A} f g same other agree xs = λ i. each_at (λ (k : ℕ) (x : A). pair_at k (last_same f g same other agree x (take k xs) i)) xs
+
 -- the index that a table has for an item
 pub index_in_table :
     {A K Y : Type 0} (cmp : K → K → Ordering) (view : K → Y) (same : Y → Y → Bool) (f : A → Y) (xs : List A) (i : ℕ) (x : A) (m : tree.BTreeMap K ℕ) (k : K) (o : Option ℕ)

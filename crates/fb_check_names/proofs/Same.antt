@@ -1,10 +1,10 @@
 -- When names, connections and links are the same.
-use Rattle.std.proofs.Common.{◌≡◌, ◌&&◌, Bool, Ordering, ap}
+use Rattle.std.proofs.Common.{◌≡◌, ◌&&◌, Bool, ap}
 use Rattle.std.specs.Bool.{Decides}
 use Rattle.std.proofs.lemmas.Bool.{and_parts}
 use Rattle.fb_types.specs.Names.{Name, Port, same_name, same_port}
 use Rattle.fb_types.proofs.NameLaws.{same_name-Decides}
-use Rattle.fb_check_names.proofs.Seen.{IsExact, link_cmp, link_cmp-exact}
+use Rattle.fb_check_names.proofs.Seen.{link_cmp, link_cmp-exact}
 use Rattle.fb_check_names.proofs.Repeating.{IsSame, agrees, port_Decides}
 use Rattle.fb_check_names.specs.Pairs.{link_names, same_ends, same_sides}
 
@@ -22,9 +22,6 @@ ends_Decides c d = both_Decides same_port port_Decides c d
 
 pub sides_Decides : (c d : Name × Name) → Decides (same_sides c d) (c ≡ d)
 sides_Decides c d = both_Decides same_name same_name-Decides c d
-
-pub key_agrees : {K : Type 0} (cmp : K → K → Ordering) (view : K → Port × Port) → IsExact cmp view → IsSame cmp view same_ends
-key_agrees cmp view exact = agrees cmp view same_ends exact ends_Decides
 
 pub sides_agree : IsSame link_cmp link_names same_sides
 sides_agree = agrees link_cmp link_names same_sides link_cmp-exact sides_Decides

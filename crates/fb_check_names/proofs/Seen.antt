@@ -35,7 +35,7 @@ abbrev pub pair_ports : End × End → Port × Port
 pair_ports p = (end_port p.0, end_port p.1)
 
 -- both parts are equal
-then-Decides :
+pub then-Decides :
     {A B C : Type 0} (r s : Ordering) → Decides (is_eq r) A → Decides (is_eq s) B → (A → B → C) → (C → A) → (C → B) → Decides (is_eq (ordering_then r s)) C
 then-Decides order.Less s a b both first second = (λ h. absurd (true≢false (sym h)), λ c. a.1 (first c))
 then-Decides order.Equal s a b both first second = (λ h. both (a.0 refl) (b.0 h), λ c. b.1 (second c))

@@ -1,10 +1,10 @@
 -- What connections and links are compared by.
-use Rattle.std.specs.Prelude.{◌&&◌, Bool, [], Option}
+use Rattle.std.specs.Prelude.{◌&&◌, Bool, List, [], ◌∷◌, map, Option, Some}
+use Rattle.std.specs.Option.{option_copied}
 use Rattle.std.specs.Borrow.{Bor}
 use Rattle.fb_types.specs.Names.{Name, Port, same_name, same_port}
 use Rattle.fb_types.specs.Flat.{port_in}
 use Rattle.fb_types.specs.declared.library.Connection.{Connection}
-use Rattle.fb_check_names.specs.Ends.{end_port}
 
 abbrev pub same_ends : Port × Port → Port × Port → Bool
 same_ends c d = same_port c.0 d.0 && same_port c.1 d.1
@@ -16,11 +16,14 @@ same_sides c d = same_name c.0 d.0 && same_name c.1 d.1
 -- the names at both ends of a connection: of its beginning the component, if there is one, and the port, and the same of
 -- its end
 abbrev pub Key : Type 0
-Key = Option (Bor Name) × Bor Name × Option (Bor Name) × Bor Name
+Key = List (Option (Bor Name))
 
--- the two ports that they represent
-abbrev pub key_ports : Key → Port × Port
-key_ports k = (end_port (k.0, k.1), end_port (k.2, k.3))
+-- the names themselves
+abbrev pub key_names : Key → List (Option Name)
+key_names k = map option_copied k
+
+abbrev pub names_at : Connection → List (Option Name)
+names_at c = c.from.component ∷ Some c.from.port ∷ c.to.component ∷ Some c.to.port ∷ []
 
 -- the two ports that a connection joins
 abbrev pub ends_of : Connection → Port × Port

@@ -5,7 +5,7 @@ ghost use Rattle.fb_types.specs.Flat.{port_in};
 ghost use Rattle.fb_types.specs.Repeated.{event_pairs};
 ghost use Rattle.fb_check_names.specs.Repeats.{repeats};
 ghost use Rattle.fb_check_names.specs.Ends.{end_port, link_ends};
-ghost use Rattle.fb_check_names.specs.Pairs.{ends_of, key_ports, link_names, same_ends, same_sides};
+ghost use Rattle.fb_check_names.specs.Pairs.{ends_of, key_names, link_names, names_at, same_ends, same_sides};
 ghost use Rattle.fb_check_names.specs.TwiceLists.{given_in, given_in_network, given_with, twice_by};
 ghost use Rattle.fb_check_names.specs.declared.repeats.NameSpace.TheVariants as space;
 
@@ -107,16 +107,20 @@ pub fn end_names(port: &PortName) -> EndNames<'_>
 }
 
 /// The names at both ends of a connection: the component, if there is one, and the port of its beginning, and the same
-/// of its end.
-type ConnectionNames<'a> = (Option<&'a Name>, &'a Name, Option<&'a Name>, &'a Name);
+/// of its end. As an array, since the laws of its order are written out where it is the key of a map: those of a tuple
+/// are for each of its parts.
+type ConnectionNames<'a> = [Option<&'a Name>; 4];
 
 /// The names at both ends of a connection.
 fn names_of(connection: &Connection) -> ConnectionNames<'_>
-    ensures { key_ports result ≡ ends_of connection.now }
+    ensures { key_names result ≡ names_at connection.now }
 {
-    let (first_component, first_port) = end_names(&connection.from);
-    let (component, port) = end_names(&connection.to);
-    (first_component, first_port, component, port)
+    [
+        connection.from.component.as_ref(),
+        Some(&connection.from.port),
+        connection.to.component.as_ref(),
+        Some(&connection.to.port),
+    ]
 }
 
 /// Each connection that joins the same ports as one before, with the index of the nearest such connection.
