@@ -1,9 +1,9 @@
 -- Tables of latencies that pass the tests.
-use Rattle.std.proofs.Common.{◌≡◌, ◌==◌, ℕ, zero, suc, ◌+◌, ◌^◌, ◌<◌, ◌≤◌, nat_le, nat_lt, ℤ, pos, negsuc, unsigned_abs, Bool, true, false, cond, ltb, List, [], ◌∷◌, ◌++◌, map, length, get_or, Option, Some, None, refl, sym, ap, ◌∙◌, append_assoc, append-nil, subst, Contains, arith}
+use Rattle.std.proofs.Common.{◌≡◌, ◌==◌, ℕ, zero, suc, ◌+◌, ◌^◌, ◌<◌, ◌≤◌, nat_le, nat_lt, ℤ, pos, negsuc, unsigned_abs, Bool, true, false, cond, ltb, List, [], ◌∷◌, ◌++◌, map, length, get_or, Option, Some, None, Ok, refl, sym, ap, ◌∙◌, append_assoc, append-nil, subst, Contains, arith}
 use Rattle.std.specs.List.{All, slice_get}
 use Rattle.std.specs.List.Sorted.{IsStrictlyIncreasing}
 use Rattle.std.proofs.lemmas.Bool.{and_parts, false≢true, true≢false, leb-true, ltb-true, ltb-false, eqb-true}
-use Rattle.std.specs.Prelude.{option_map}
+use Rattle.std.specs.Prelude.{Result, option_map}
 use Rattle.std.proofs.lemmas.List.{length-map}
 use Rattle.std.proofs.lemmas.List.Elements.{All-nil, All-cons, All-contains}
 use Rattle.fb_types.specs.declared.deploy.Link.{Link}
@@ -15,7 +15,8 @@ use Rattle.fb_inputs.specs.declared.document.LinkDraft.{LinkDraft}
 use Rattle.fb_inputs.specs.declared.document.LatencyDraft.{LatencyDraft}
 use Rattle.fb_inputs.specs.declared.deploy_location.DeployLocation.{DeployLocation}
 use Rattle.fb_inputs.specs.declared.deploy_location.DeployLocation.TheVariants as location
-use Rattle.fb_inputs.specs.Deployments.{among_links, either, entries_of_link, entry, excess, first_failing, follows, has_latency, is_after, is_latency, is_short, is_zero, latency_of_link, link_of, out_of_order, start_of_link}
+use Rattle.fb_inputs.specs.declared.document.PlanDraft.{PlanDraft}
+use Rattle.fb_inputs.specs.Deployments.{among_links, either, entries_of_link, entry, excess, fault_in, first_failing, follows, has_latency, is_after, is_latency, is_short, is_zero, judged, latency_of_link, link_of, out_of_order, plan_of, start_of_link, unless}
 
 latency_within : (z : ℤ) → is_latency z ≡ true → (1 ≤ unsigned_abs z) × (unsigned_abs z ≤ 10 ^ 6)
 latency_within (pos n) h =
@@ -185,3 +186,22 @@ within_limits resources links ds some few_resources few_links latencies rise sho
           All-contains (λ (l : Link). IsLatencyTable l.latency) (map link_of ds) l (tables_are 0 ds latencies rise short)
           (subst (λ (ls : List Link). Contains ls l) made c);
     }
+
+-- ---- The first fault
+
+first_of : {A N : Type 0} (a b c : Option N) (r : Result A N) → unless a (unless b (unless c r)) ≡ unless (either a (either b c)) r
+first_of (Some x) b c r = refl
+first_of None (Some y) c r = refl
+first_of None None c r = refl
+
+pub judged_by : (d : PlanDraft) → judged d ≡ unless (fault_in (length d.resources) d.links) (Ok (plan_of d))
+unfolding judged
+judged_by d = first_of (among_links latency_of_link 0 d.links) (among_links start_of_link 0 d.links) (excess (length d.resources) d.links) (Ok (plan_of d))
+
+none_of_three : {N : Type 0} (a b c : Option N) → either a (either b c) ≡ None → (a ≡ None) × (b ≡ None) × (c ≡ None)
+none_of_three (Some x) b c h = absurd cc
+none_of_three None (Some y) c h = absurd cc
+none_of_three None None c h = (refl, refl, h)
+
+pub no_fault : (n : ℕ) (ds : List LinkDraft) → fault_in n ds ≡ None → (among_links latency_of_link 0 ds ≡ None) × (among_links start_of_link 0 ds ≡ None) × (excess n ds ≡ None)
+no_fault n ds h = none_of_three (among_links latency_of_link 0 ds) (among_links start_of_link 0 ds) (excess n ds) h

@@ -93,6 +93,10 @@ abbrev pub excess : ℕ → List LinkDraft → Option DeployLocation
 excess resources links =
     if nat_lt 256 resources then Some location.Resources else (if nat_lt 1024 (length links) then Some location.Links else among_links entries_of_link 0 links)
 
+-- where the numbers of a deployment are refused: those of latencies come first, then those of tables, then the counts
+abbrev pub fault_in : ℕ → List LinkDraft → Option DeployLocation
+fault_in resources links = either (among_links latency_of_link 0 links) (either (among_links start_of_link 0 links) (excess resources links))
+
 -- a refusal, or what follows
 abbrev pub unless : {A N : Type 0} → Option N → Result A N → Result A N
 unless (Some n) o = Err n

@@ -1,6 +1,6 @@
 //! Scans for the elements of an array of a deployment.
 
-ghost use Rattle.std.specs.Prelude.{◌≡◌, ◌+◌, ◌<◌, ◌&&◌, ◌||◌, ◌==◌, IfSome, length, slice_index};
+ghost use Rattle.std.specs.Prelude.{◌≡◌, ◌+◌, ◌<◌, ◌&&◌, ◌||◌, ◌==◌, IfSome, length, not, slice_index};
 ghost use Rattle.fb_inputs.specs.Arrays as spec;
 ghost use Rattle.fb_inputs.specs.Arrays.{IsArrayAfter, IsElement};
 ghost use Rattle.fb_inputs.specs.Lines.{is_blank};
@@ -132,13 +132,20 @@ fn is_in_array(z: &[u8], at: usize, passed: Passed) -> bool
     passed.opened == passed.closed + 1
 }
 
+/// Whether an element may begin with a byte.
+fn may_begin(byte: u8) -> bool
+    ensures { result ≡ not (spec.is_space byte || byte == 93) }
+{
+    !is_space(byte) && byte != b']'
+}
+
 /// Whether an element of the array begins at an offset.
 fn begins_element(z: &[u8], at: usize, passed: Passed) -> bool
     requires within { at < length z.now }
     requires passed { IsPassed z.now at passed }
     ensures { result ≡ spec.begins_element z.now at }
 {
-    is_in_array(z, at, passed) && passed.is_free && !is_space(z[at]) && z[at] != b']'
+    is_in_array(z, at, passed) && passed.is_free && may_begin(z[at])
 }
 
 /// Whether a comment begins at an offset, which is in these quotes, or a byte is escaped.

@@ -29,20 +29,26 @@ fn excess(resources: usize, links: &[LinkDraft]) -> Option<DeployLocation>
     entries_location(links)
 }
 
+/// Where the numbers of a deployment are refused.
+fn fault_in(resources: usize, links: &[LinkDraft]) -> Option<DeployLocation>
+    ensures { result ≡ spec.fault_in resources links.now }
+{
+    if let Some(location) = latency_location(links) {
+        return Some(location);
+    }
+    if let Some(location) = start_location(links) {
+        return Some(location);
+    }
+    excess(resources, links)
+}
+
 /// The deployment, if its numbers are within their limits.
-#[tactic(auto, unfolding(crate::specs::Deployments::judged))]
 fn judge(alloc: Global, draft: PlanDraft) -> Result<Deploy, DeployFault>
     requires { 1 ≤ length draft.resources }
     ensures { AnswersInDocument (λ d. d) (spec.judged draft) result }
 {
     let PlanDraft { resources, links } = draft;
-    if let Some(location) = latency_location(links.as_slice()) {
-        return Err(DeployFault::At(location));
-    }
-    if let Some(location) = start_location(links.as_slice()) {
-        return Err(DeployFault::At(location));
-    }
-    if let Some(location) = excess(resources.len(), links.as_slice()) {
+    if let Some(location) = fault_in(resources.len(), links.as_slice()) {
         return Err(DeployFault::At(location));
     }
     let links = links_of(alloc, links)?;
@@ -79,7 +85,10 @@ pub fn locate_deploy(alloc: Global, bytes: &[u8]) -> Result<Deploy, DeployFault>
         return Err(DeployFault::At(DeployLocation::Bytes));
     }
     let keys = document(alloc, bytes)?;
-    let draft = draft_of(alloc, &keys)?;
+    let draft = draft_of(alloc, &keys);
+    // Drops with one call. Each exit would drop each part of the document.
+    drop(keys);
+    let draft = draft?;
     judge(alloc, draft)
 }
 

@@ -1,16 +1,44 @@
-use Rattle.std.proofs.Common.{◌≡◌, ap, ◌∙◌, sym, length, List, None}
-use Rattle.fb_inputs.specs.declared.document.LinkDraft.{LinkDraft}
-use Rattle.fb_inputs.specs.Deployments.{among_links, excess, latency_of_link, start_of_link}
-use Rattle.fb_inputs.proofs.Tables.{right_counts, within_limits}
+use Rattle.std.proofs.Common.{◌≡◌, false, Option, Ok, length, sym, ap, ◌∙◌}
+use Rattle.fb_inputs.specs.declared.deploy_location.DeployLocation.{DeployLocation}
+use Rattle.fb_inputs.specs.Deployments.{fault_in, plan_of, unless}
+use Rattle.fb_inputs.proofs.Tables.{judged_by, no_fault, right_counts, within_limits}
 use Rattle.fb_inputs.proofs.deployment.judge.Goals as goal
 
--- The conditions, as the definitions have them. `links` and `resources` are those of the draft.
+pub returns-in-Some : goal.returns-in-Some
+returns-in-Some c =
+    let d = c.args.draft in
+    let found : c.fault_in.result ≡ fault_in (length d.resources) d.links = c.fault_in.ensures ∙ (λ i. fault_in (c.len.ensures i) (c.as_slice.ensures i)) in
+    judged_by d ∙ ap (λ (o : Option DeployLocation). unless o (Ok (plan_of d))) (sym found ∙ c.in-Some.is)
+
+pub links_of-requires-clause-latencies : goal.links_of-requires-clause-latencies
+links_of-requires-clause-latencies c =
+    let d = c.args.draft in
+    let found : c.fault_in.result ≡ fault_in (length d.resources) d.links = c.fault_in.ensures ∙ (λ i. fault_in (c.len.ensures i) (c.as_slice.ensures i)) in
+    (no_fault (length d.resources) d.links (sym found ∙ c.in_default.is)).0
+
+pub links_of-requires-clause-rising : goal.links_of-requires-clause-rising
+links_of-requires-clause-rising c =
+    let d = c.args.draft in
+    let found : c.fault_in.result ≡ fault_in (length d.resources) d.links = c.fault_in.ensures ∙ (λ i. fault_in (c.len.ensures i) (c.as_slice.ensures i)) in
+    (no_fault (length d.resources) d.links (sym found ∙ c.in_default.is)).1
+
+pub links_of-requires-clause-short : goal.links_of-requires-clause-short
+links_of-requires-clause-short c =
+    let d = c.args.draft in
+    let found : c.fault_in.result ≡ fault_in (length d.resources) d.links = c.fault_in.ensures ∙ (λ i. fault_in (c.len.ensures i) (c.as_slice.ensures i)) in
+    (right_counts (length d.resources) d.links (no_fault (length d.resources) d.links (sym found ∙ c.in_default.is)).2).2
+
 pub new-requires : goal.new-requires
 new-requires c =
-    let ls = c.args.draft.links in
-    let latencies : among_links latency_of_link 0 ls ≡ None = ap (λ (l : List LinkDraft). among_links latency_of_link 0 l) (sym c.as_slice.ensures) ∙ sym c.latency_location.ensures ∙ c.in_default.is in
-    let rising : among_links start_of_link 0 ls ≡ None = ap (λ (l : List LinkDraft). among_links start_of_link 0 l) (sym c.as_slice-2.ensures) ∙ sym c.start_location.ensures ∙ c.in_default-start_location.is in
-    let counts : excess (length c.args.draft.resources) ls ≡ None =
-    ap (λ (l : List LinkDraft). excess (length c.args.draft.resources) l) (sym c.as_slice-3.ensures) ∙ ap (λ n. excess n c.as_slice-3.result.now) (sym c.len.ensures) ∙ sym c.excess.ensures ∙ c.in_default-excess.is in
-    let w = right_counts (length c.args.draft.resources) ls counts in
-    within_limits c.args.draft.resources c.in_ok-links.links ls c.requires w.0 w.1 latencies rising w.2 c.in_ok-links.ensures
+    let d = c.args.draft in
+    let found : c.fault_in.result ≡ fault_in (length d.resources) d.links = c.fault_in.ensures ∙ (λ i. fault_in (c.len.ensures i) (c.as_slice.ensures i)) in
+    let (latencies, rising, counts) = no_fault (length d.resources) d.links (sym found ∙ c.in_default.is) in
+    let w = right_counts (length d.resources) d.links counts in
+    within_limits d.resources c.in_ok-links.links d.links c.requires w.0 w.1 latencies rising w.2 c.in_ok-links.ensures
+
+pub returns : goal.returns
+returns c =
+    let d = c.args.draft in
+    let found : c.fault_in.result ≡ fault_in (length d.resources) d.links = c.fault_in.ensures ∙ (λ i. fault_in (c.len.ensures i) (c.as_slice.ensures i)) in
+    let none = judged_by d ∙ ap (λ (o : Option DeployLocation). unless o (Ok (plan_of d))) (sym found ∙ c.in_default.is) in
+    none ∙ (λ i. Ok (sym (c.new.ensures ∙ (λ j. record { resources = d.resources; links = c.in_ok-links.ensures j; holds_all = false })) i))

@@ -19,12 +19,12 @@ pub returns-in_err-draft : goal.returns-in_err-draft
 returns-in_err-draft c =
     let short : length c.args.bytes.now ≤ most_bytes = omega arith in
     let p = err_from_is_err_and c.from_residual-in_err-draft.result c.from_residual-in_err-draft.ensures.1 in
-    rw (p.1, p.2) (refused_draft {X = Plan} (λ d. d) c.args.bytes.now (table_view c.in_ok-keys.keys) c.in_err-draft.field-0.0 short c.in_ok-keys.ensures.found c.in_err-draft.ensures.value)
+    rw (p.1, p.2) (refused_draft {X = Plan} (λ d. d) c.args.bytes.now (table_view c.in_ok-keys.keys) c.in_err-draft.field-0.0 short c.in_ok-keys.ensures.found (rw c.in_err-draft.was at c.draft_of-draft.ensures.value))
 
 pub judge-requires : goal.judge-requires
-judge-requires c = c.in_ok-draft.ensures.some
+judge-requires c = rw c.in_ok-draft.was at c.draft_of-draft.ensures.some
 
 pub returns : goal.returns
 returns c =
     let short : length c.args.bytes.now ≤ most_bytes = omega arith in
-    judged_there c.args.bytes.now (table_view c.in_ok-keys.keys) c.in_ok-draft.draft c.judge.result short c.in_ok-keys.ensures.found c.in_ok-draft.ensures.value c.judge.ensures
+    judged_there c.args.bytes.now (table_view c.in_ok-keys.keys) c.in_ok-draft.draft c.judge.result short c.in_ok-keys.ensures.found (rw c.in_ok-draft.was at c.draft_of-draft.ensures.value) c.judge.ensures
