@@ -11,6 +11,7 @@ ghost use Rattle.fb_inputs.specs.Records.{IsReadAt};
 use crate::records_of;
 use csv::{ByteRecord, ByteRecordsIntoIter};
 use std::alloc::{AllocError, Global};
+use std::mem;
 
 /// The next record, if there is one. A reader of bytes fails for memory alone.
 fn next_row(rows: &mut ByteRecordsIntoIter<&[u8]>) -> Result<Option<ByteRecord>, AllocError>
@@ -85,7 +86,7 @@ pub(crate) fn reader_of(alloc: Global, text: &[u8]) -> RecordReader<'_>
 fn begin_again<'a>(alloc: Global, text: &'a [u8], reader: &mut RecordReader<'a>)
     ensures { IsReaderOf text.now reader.new }
 {
-    *reader = reader_of(alloc, text);
+    drop(mem::replace(reader, reader_of(alloc, text)));
 }
 
 /// Keeps a record that was read, and counts it.
