@@ -9,7 +9,6 @@ pub mod Refusals
 pub mod Places
 pub mod DeployPlaces
 pub mod Lists
-pub mod Paired
 pub mod Words
 pub mod Numbers
 pub mod Rows

@@ -3,13 +3,12 @@
 ghost use Rattle.std.specs.Prelude.{◌≡◌, ◌≤◌, map, length, IfOk, option_map};
 ghost use Rattle.toml.specs.View.{table_view, view};
 ghost use Rattle.fb_inputs.specs.Lists as lists;
-ghost use Rattle.fb_inputs.specs.DeployPlaces.{AnswersInDocument, AnswersInTable, element_at, shape_in};
+ghost use Rattle.fb_inputs.specs.DeployPlaces.{AnswersInDocument, AnswersInTable, IsLocated, element_at, shape_in};
 ghost use Rattle.fb_inputs.specs.DeployPlaces as places;
 ghost use Rattle.fb_inputs.specs.Documents as spec;
 ghost use Rattle.fb_inputs.specs.Refusals.{or_refuse};
 
-use crate::deploy_location::{DeployFault, DeployKey, TableError, TableFault, at_top};
-use crate::paired::{placed, then_pair};
+use crate::deploy_location::{DeployFault, DeployKey, TableError, TableFault, at_top, in_table};
 use crate::text::name;
 use fb_types::{Items, Name, ResourceEntry};
 use std::alloc::{AllocError, Global};
@@ -155,12 +154,11 @@ fn resource_of(alloc: Global, keys: &Table) -> Result<ResourceEntry, TableError>
     ensures { AnswersInTable (λ r. r) (spec.read_resource (table_view keys.now)) result }
 {
     let device = name_at(alloc, keys, DeployKey::Device)?;
-    let names = then_pair(device, name_at(alloc, keys, DeployKey::Name))?;
-    let (names, instances) = then_pair(names, names_at(alloc, keys, DeployKey::Instances))?;
+    let name = name_at(alloc, keys, DeployKey::Name)?;
+    let instances = names_at(alloc, keys, DeployKey::Instances)?;
     if count_of(keys) != 3 {
         return Err(TableError::At(TableFault::Further));
     }
-    let (device, name) = names;
     Ok(ResourceEntry {
         device,
         name,
@@ -230,9 +228,8 @@ fn link_of(alloc: Global, keys: &Table) -> Result<LinkDraft, TableError>
     ensures { AnswersInTable (λ l. l) (spec.read_link (table_view keys.now)) result }
 {
     let start = name_at(alloc, keys, DeployKey::From)?;
-    let ends = then_pair(start, name_at(alloc, keys, DeployKey::To))?;
-    let (ends, table) = then_pair(ends, table_of(alloc, keys))?;
-    let (start, end) = ends;
+    let end = name_at(alloc, keys, DeployKey::To)?;
+    let table = table_of(alloc, keys)?;
     if count_of(keys) != 3 {
         return Err(TableError::At(TableFault::Further));
     }
@@ -250,6 +247,20 @@ impl Entry for LinkDraft {
             Some(keys) => link_of(alloc, keys),
             None => Err(TableError::At(TableFault::NoTable)),
         }
+    }
+}
+
+/// Returns what was read of the table at an index of the array at a key.
+fn placed<T: Drop>(
+    key: DeployKey,
+    index: usize,
+    read: Result<T, TableError>,
+) -> Result<T, DeployFault>
+    ensures { IsLocated key index read result }
+{
+    match read {
+        Ok(read) => Ok(read),
+        Err(error) => Err(in_table(key, index, error)),
     }
 }
 
@@ -316,7 +327,7 @@ pub fn draft_of(alloc: Global, keys: &Table) -> Result<PlanDraft, DeployFault>
     ensures some { IfOk result (λ d. 1 ≤ length d.resources) }
 {
     let resources = resources_at(alloc, keys)?;
-    let (resources, links) = then_pair(resources, links_at(alloc, keys))?;
+    let links = links_at(alloc, keys)?;
     if count_of(keys) != known_keys(keys) {
         return Err(at_top(TableFault::Further));
     }

@@ -13,7 +13,7 @@
 //! or with keys in quotes, has no bytes.
 //!
 //! Read in this order: `deployment`, `deploy_location`, `document` and `table`; `stimuli`, `location` and `row`;
-//! `paired`; `text`, `number` and `error`. Then what runs only after a refusal, and for warnings:
+//! `text`, `number` and `error`. Then what runs only after a refusal, and for warnings:
 //! `position`; `scan`; `csv_records`, `row_positions` and `near_stimuli`; `lines`, `arrays` and `near_deployment`.
 #![tactic(auto)]
 
@@ -28,7 +28,6 @@ pub mod location;
 pub mod near_deployment;
 pub mod near_stimuli;
 mod number;
-mod paired;
 pub mod position;
 mod row;
 mod row_positions;

@@ -8,7 +8,6 @@ ghost use Rattle.fb_inputs.specs.Rows as spec;
 
 use crate::location::{RowError, RowFault};
 use crate::number::value_of;
-use crate::paired::{paired, then_pair};
 use crate::text::{name, parted};
 use fb_types::{Items, Name, Setting, Value};
 use std::alloc::{AllocError, Global};
@@ -44,7 +43,10 @@ fn event(alloc: Global, text: &[u8]) -> Result<Option<(Name, Name)>, AllocError>
     let Some(instance) = name(alloc, before)? else {
         return Ok(None);
     };
-    paired(instance, name(alloc, following))
+    let Some(event) = name(alloc, following)? else {
+        return Ok(None);
+    };
+    Ok(Some((instance, event)))
 }
 
 /// The word `NAME=VALUE`.
@@ -92,11 +94,10 @@ fn words(alloc: Global, text: &[u8]) -> Result<Items<Word>, RowError>
 pub fn draft_of(alloc: Global, at: &[u8], values: &[u8]) -> Result<Draft, RowError>
     ensures { AnswersInRow (λ d. d) (spec.draft at.now values.now) result }
 {
-    let Some(ends) = event(alloc, at)? else {
+    let Some((instance, event)) = event(alloc, at)? else {
         return Err(RowError::At(RowFault::Event));
     };
-    let (ends, words) = then_pair(ends, words(alloc, values))?;
-    let (instance, event) = ends;
+    let words = words(alloc, values)?;
     Ok(Draft {
         instance,
         event,

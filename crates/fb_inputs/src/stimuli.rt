@@ -14,7 +14,6 @@ ghost use Rattle.fb_inputs.specs.Words.{Text};
 use crate::error::InputError;
 use crate::location::{RowError, RowFault, StimuliFault, StimuliLocation, at_row, error_at};
 use crate::number::natural;
-use crate::paired::then_pair;
 use crate::row::{Draft, draft_of, settings};
 use csv::{ByteRecord, ByteRecordsIntoIter, Error, ErrorKind, ReaderBuilder};
 use fb_types::{Items, LATEST_TICK, MOST_STIMULI, MOST_STIMULI_BYTES, Stimulus};
@@ -79,14 +78,13 @@ fn stimulus_of(
         event,
         words,
     } = draft;
-    let (ends, settings) = then_pair((instance, event), settings(alloc, words))?;
+    let settings = settings(alloc, words)?;
     if is_late(tick) {
         return Err(RowError::At(RowFault::Late));
     }
     if before >= MOST_STIMULI {
         return Err(RowError::At(RowFault::Crowded));
     }
-    let (instance, event) = ends;
     Ok(Stimulus {
         tick: tick as u64,
         instance,
