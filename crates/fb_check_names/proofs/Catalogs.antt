@@ -1,6 +1,5 @@
 -- The catalog of all names, from its parts.
-use Rattle.std.proofs.Common.{◌≡◌, List, ◌++◌, map, Result, ◌∙◌, ap, append_assoc, inl, subst, sym}
-use Rattle.std.specs.Prelude.{Ok, Err, IfOk}
+use Rattle.std.proofs.Common.{◌≡◌, List, ◌++◌, map, ◌∙◌, ap, append_assoc, inl, subst}
 use Rattle.fb_types.specs.Blocks.{event_blocks}
 use Rattle.fb_types.specs.Flat.{type_name, resource_names_of}
 use Rattle.fb_types.specs.Repeated.{NameTwice, Twice, instance_names}
@@ -13,30 +12,7 @@ use Rattle.fb_check_names.specs.declared.catalog.Catalog.{Catalog}
 use Rattle.fb_check_names.specs.Catalog.{IsCatalog}
 use Rattle.fb_check_names.specs.GivenTwice.{AreBlocks, NetworkTwice}
 use Rattle.fb_check_names.specs.Indexes.{IsIndex}
-use Rattle.fb_check_names.specs.Together.{together}
 use Rattle.fb_check_names.proofs.NameTwice.{types_twice, block_twice, network_twice, plan_twice}
-
--- ---- Both values
-
-pub of_both :
-    {A B E : Type 0} (r : Result (A × B) E) (a : Result A E) (b : Result B E) (P : A → Type 0) (Q : B → Type 0) → r ≡ together a b → IfOk a P → IfOk b Q
-    → IfOk r (λ z. P z.0 × Q z.1)
-of_both {A} {B} {E} r a b P Q is p q = subst (λ (s : Result (A × B) E). IfOk s (λ z. P z.0 × Q z.1)) (sym is) (both a b P Q p q)
-  where
-    both : {A B E : Type 0} (a : Result A E) (b : Result B E) (P : A → Type 0) (Q : B → Type 0) → IfOk a P → IfOk b Q → IfOk (together a b) (λ z. P z.0 × Q z.1)
-    both (Err e) b P Q p q = tt
-    both (Ok x) (Err e) P Q p q = tt
-    both (Ok x) (Ok y) P Q p q = (p, q)
-
--- all four values
-pub of_all :
-    {A B C D E : Type 0} (types : Result A E) (blocks : Result B E) (instances : Result C E) (resources : Result D E) (declared : Result (A × B) E) (located : Result (C × D) E)
-    (z : (A × B) × (C × D)) (P : A → Type 0) (Q : B → Type 0) (R : C → Type 0) (S : D → Type 0)
-    → declared ≡ together types blocks → located ≡ together instances resources → Ok z ≡ together declared located
-    → IfOk types P → IfOk blocks Q → IfOk instances R → IfOk resources S → (P z.0.0 × Q z.0.1) × (R z.1.0 × S z.1.1)
-of_all types blocks instances resources declared located z P Q R S is_declared is_located is p q r s =
-    of_both (Ok z) declared located (λ x. P x.0 × Q x.1) (λ y. R y.0 × S y.1) is
-    (of_both declared types blocks P Q is_declared p q) (of_both located instances resources R S is_located r s)
 
 -- ---- The catalog
 

@@ -14,4 +14,3 @@ pub mod Numbers
 pub mod PortKinds
 pub mod Types
 pub mod Unknown
-pub mod Together

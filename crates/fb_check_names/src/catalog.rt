@@ -11,7 +11,6 @@ use crate::repeats::NameSpace;
 use crate::spaces::{
     blocks_indexes, called_indexes, network_indexes, push_event_blocks, resource_indexes,
 };
-use crate::together::together;
 use crate::twice::GivenTwice;
 use fb_types::{Library, Plan};
 use std::alloc::{AllocError, Global};
@@ -80,14 +79,11 @@ pub fn catalog_of<'a>(
 {
     let blocks = library.blocks.as_slice();
     push_event_blocks(found, blocks)?;
-    let types = called_indexes(alloc, found, NameSpace::Types, blocks);
-    let declared = together(types, blocks_indexes(alloc, found, blocks));
+    let types = called_indexes(alloc, found, NameSpace::Types, blocks)?;
+    let blocks = blocks_indexes(alloc, found, blocks)?;
     let network = &library.application.network;
-    let instances = network_indexes(alloc, found, Site::Application, network);
-    let located = together(instances, resource_indexes(alloc, found, plan));
-    let (named, mapped) = together(declared, located)?;
-    let (types, blocks) = named;
-    let (instances, resources) = mapped;
+    let instances = network_indexes(alloc, found, Site::Application, network)?;
+    let resources = resource_indexes(alloc, found, plan)?;
     Ok(Catalog {
         types,
         blocks,

@@ -10,7 +10,6 @@
 //!
 //! - `location` and `twice`: locations;
 //! - `listed` and `pairs`: lists of them;
-//! - `together`;
 //! - `placing` and `named`: the names of one list;
 //! - `repeats`: what a list gives twice;
 //! - `spaces`: the names of a type, a network or a deployment;
@@ -30,7 +29,6 @@ pub mod placing;
 pub mod ports;
 pub mod repeats;
 mod spaces;
-mod together;
 pub mod twice;
 pub mod types;
 
