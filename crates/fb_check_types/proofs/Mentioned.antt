@@ -42,9 +42,8 @@ binary_names e o a b c d is left right =
     ap names_of is ∙ ap mentions (binary_says o b d) ∙ (λ i. names_of (sym left i) ++ names_of (sym right i))
 
 pub call_names :
-    (e : Expr) (f : Name) (es fs : List Expr) → e ≡ expr.Call f fs → es ≡ fs → names_of e ≡ (OfFunction f ∷ []) ++ mentions_all (arguments_of es)
-call_names e f es fs is arguments =
-    ap names_of is ∙ ap mentions (call_says f fs) ∙ ap (λ (es : List Expr). (OfFunction f ∷ []) ++ mentions_all (arguments_of es)) (sym arguments)
+    (e : Expr) (f : Name) (es : List Expr) → e ≡ expr.Call f es → names_of e ≡ (OfFunction f ∷ []) ++ mentions_all (arguments_of es)
+call_names e f es is = ap names_of is ∙ ap mentions (call_says f es)
 
 -- ---- Statements
 
@@ -57,38 +56,31 @@ named_in ss = mentions_body (all_of ss)
 pub assign_names : (s : Stmt) (n v : Name) (e : Expr) → s ≡ read.Assign v e → n ≡ v → named s ≡ OfVariable n ∷ mentions (expr_of e)
 assign_names s n v e is same = ap named is ∙ ap mentions_in (assign_says v e) ∙ ap (λ (n : Name). OfVariable n ∷ mentions (expr_of e)) (sym same)
 
--- the lists are those that the code uses
-pub if_names :
-    (s : Stmt) (cs ds : List Choice) (os ps : List Stmt) → s ≡ read.If ds ps → cs ≡ ds → os ≡ ps → named s ≡ mentions_choices (choices_of cs) ++ named_in os
-if_names s cs ds os ps is choices others =
-    ap named is ∙ ap mentions_in (if_says ds ps) ∙ (λ i. mentions_choices (choices_of (sym choices i)) ++ named_in (sym others i))
+pub if_names : (s : Stmt) (cs : List Choice) (os : List Stmt) → s ≡ read.If cs os → named s ≡ mentions_choices (choices_of cs) ++ named_in os
+if_names s cs os is = ap named is ∙ ap mentions_in (if_says cs os)
 
 pub case_names :
-    (s : Stmt) (e : Expr) (bs ds : List Branch) (os ps : List Stmt) → s ≡ read.Case e ds ps → bs ≡ ds → os ≡ ps
+    (s : Stmt) (e : Expr) (bs : List Branch) (os : List Stmt) → s ≡ read.Case e bs os
     → named s ≡ (mentions (expr_of e) ++ mentions_branches (branches_of bs)) ++ named_in os
-case_names s e bs ds os ps is branches others =
-    ap named is ∙ ap mentions_in (case_says e ds ps)
-    ∙ (λ i. (mentions (expr_of e) ++ mentions_branches (branches_of (sym branches i))) ++ named_in (sym others i))
+case_names s e bs os is = ap named is ∙ ap mentions_in (case_says e bs os)
 
 pub for_names :
-    (s : Stmt) (n : Name) (a b : Expr) (c : Option Expr) (os ps : List Stmt) → s ≡ read.For n a b c ps → os ≡ ps → named s ≡ mentions_of_control n a b c ++ named_in os
-for_names s n a b c os ps is body = ap named is ∙ ap mentions_in (for_says n a b c ps) ∙ ap (λ (ss : List Stmt). mentions_of_control n a b c ++ named_in ss) (sym body)
+    (s : Stmt) (n : Name) (a b : Expr) (c : Option Expr) (os : List Stmt) → s ≡ read.For n a b c os → named s ≡ mentions_of_control n a b c ++ named_in os
+for_names s n a b c os is = ap named is ∙ ap mentions_in (for_says n a b c os)
 
-pub while_names : (s : Stmt) (c : Expr) (os ps : List Stmt) → s ≡ read.While c ps → os ≡ ps → named s ≡ mentions (expr_of c) ++ named_in os
-while_names s c os ps is body = ap named is ∙ ap mentions_in (while_says c ps) ∙ ap (λ (ss : List Stmt). mentions (expr_of c) ++ named_in ss) (sym body)
+pub while_names : (s : Stmt) (c : Expr) (os : List Stmt) → s ≡ read.While c os → named s ≡ mentions (expr_of c) ++ named_in os
+while_names s c os is = ap named is ∙ ap mentions_in (while_says c os)
 
-pub repeat_names : (s : Stmt) (os ps : List Stmt) (c : Expr) → s ≡ read.Repeat ps c → os ≡ ps → named s ≡ named_in os ++ mentions (expr_of c)
-repeat_names s os ps c is body = ap named is ∙ ap mentions_in (repeat_says ps c) ∙ ap (λ (ss : List Stmt). named_in ss ++ mentions (expr_of c)) (sym body)
+pub repeat_names : (s : Stmt) (os : List Stmt) (c : Expr) → s ≡ read.Repeat os c → named s ≡ named_in os ++ mentions (expr_of c)
+repeat_names s os c is = ap named is ∙ ap mentions_in (repeat_says os c)
 
 -- a condition and the statements after it, and those after labels
 pub choice_names :
-    (c : Choice) (os : List Stmt) → os ≡ (out-Choice c).body
-    → mentions (choice_of c).0 ++ mentions_body (choice_of c).1 ≡ mentions (expr_of (out-Choice c).condition) ++ named_in os
-choice_names c os body =
-    ap (λ r. mentions r.0 ++ mentions_body r.1) (choice_says c) ∙ ap (λ (ss : List Stmt). mentions (expr_of (out-Choice c).condition) ++ named_in ss) (sym body)
+    (c : Choice) → mentions (choice_of c).0 ++ mentions_body (choice_of c).1 ≡ mentions (expr_of (out-Choice c).condition) ++ named_in (out-Choice c).body
+choice_names c = ap (λ r. mentions r.0 ++ mentions_body r.1) (choice_says c)
 
-pub branch_names : (b : Branch) (os : List Stmt) → os ≡ (out-Branch b).body → mentions_body (branch_of b).1 ≡ named_in os
-branch_names b os body = ap (λ r. mentions_body r.1) (branch_says b) ∙ ap named_in (sym body)
+pub branch_names : (b : Branch) → mentions_body (branch_of b).1 ≡ named_in (out-Branch b).body
+branch_names b = ap (λ r. mentions_body r.1) (branch_says b)
 
 -- ---- Those that are unknown
 

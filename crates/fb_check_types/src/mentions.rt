@@ -8,7 +8,7 @@ ghost use Rattle.fb_check_types.specs.Mentions.{meant, meant_all, mentions_of_co
 
 use crate::scope::Scope;
 use crate::there::push_one;
-use fb_types::{Body, Branch, Choice, Expr, Function, Name, Reference, Stmt};
+use fb_types::{Body, Branch, Choice, Expr, Function, Items, Name, Reference, Stmt};
 use std::alloc::{AllocError, Global};
 
 /// A variable or a function that a text names.
@@ -39,19 +39,19 @@ pub fn push_expression<'a>(all: &mut Vec<Mention<'a>>, expr: &'a Expr) -> Result
             push_expression(all, left.get()).and(push_expression(all, right.get()))
         }
         Expr::Call(name, arguments) => {
-            push_mention(all, Mention::Function(name)).and(push_arguments(
-                all,
-                arguments.as_slice(),
-            ))
+            push_mention(all, Mention::Function(name)).and(push_arguments(all, arguments))
         }
     }
 }
 
 #[cycle(expression)]
-fn push_arguments<'a>(all: &mut Vec<Mention<'a>>, arguments: &'a [Expr]) -> Result<(), AllocError>
+fn push_arguments<'a>(
+    all: &mut Vec<Mention<'a>>,
+    arguments: &'a Items<Expr>,
+) -> Result<(), AllocError>
     ensures { IfOk result (λ _. meant_all all.new.items ≡ meant_all all.old.items ++ mentions_all (arguments_of arguments.now)) }
 {
-    for argument in arguments {
+    for argument in arguments.as_slice() {
         push_expression(all, argument)?;
     }
     Ok(())
@@ -98,7 +98,7 @@ fn push_assignment<'a>(
 pub fn push_body<'a>(all: &mut Vec<Mention<'a>>, body: &'a Body) -> Result<(), AllocError>
     ensures { IfOk result (λ _. meant_all all.new.items ≡ meant_all all.old.items ++ mentions_body (body_of body.now)) }
 {
-    push_statements(all, body.statements.as_slice())
+    push_statements(all, &body.statements)
 }
 
 #[cycle(statement)]
@@ -109,52 +109,61 @@ fn push_statement<'a>(all: &mut Vec<Mention<'a>>, statement: &'a Stmt) -> Result
         Stmt::Empty | Stmt::Exit | Stmt::Return => Ok(()),
         Stmt::Assign(variable, expr) => push_assignment(all, variable, expr),
         Stmt::If(choices, others) => {
-            push_choices(all, choices.as_slice()).and(push_statements(all, others.as_slice()))
+            push_choices(all, choices).and(push_statements(all, others))
         }
         Stmt::Case(selector, branches, others) => {
             push_expression(all, selector)
-                .and(push_branches(all, branches.as_slice()))
-                .and(push_statements(all, others.as_slice()))
+                .and(push_branches(all, branches))
+                .and(push_statements(all, others))
         }
         Stmt::For(variable, start, end, step, body) => {
-            push_control(all, variable, start, end, step).and(push_statements(all, body.as_slice()))
+            push_control(all, variable, start, end, step).and(push_statements(all, body))
         }
         Stmt::While(condition, body) => {
-            push_expression(all, condition).and(push_statements(all, body.as_slice()))
+            push_expression(all, condition).and(push_statements(all, body))
         }
         Stmt::Repeat(body, condition) => {
-            push_statements(all, body.as_slice()).and(push_expression(all, condition))
+            push_statements(all, body).and(push_expression(all, condition))
         }
     }
 }
 
 #[cycle(statement)]
-fn push_statements<'a>(all: &mut Vec<Mention<'a>>, statements: &'a [Stmt]) -> Result<(), AllocError>
+fn push_statements<'a>(
+    all: &mut Vec<Mention<'a>>,
+    statements: &'a Items<Stmt>,
+) -> Result<(), AllocError>
     ensures { IfOk result (λ _. meant_all all.new.items ≡ meant_all all.old.items ++ mentions_body (all_of statements.now)) }
 {
-    for statement in statements {
+    for statement in statements.as_slice() {
         push_statement(all, statement)?;
     }
     Ok(())
 }
 
 #[cycle(statement)]
-fn push_choices<'a>(all: &mut Vec<Mention<'a>>, choices: &'a [Choice]) -> Result<(), AllocError>
+fn push_choices<'a>(
+    all: &mut Vec<Mention<'a>>,
+    choices: &'a Items<Choice>,
+) -> Result<(), AllocError>
     ensures { IfOk result (λ _. meant_all all.new.items ≡ meant_all all.old.items ++ mentions_choices (choices_of choices.now)) }
 {
-    for choice in choices {
+    for choice in choices.as_slice() {
         push_expression(all, &choice.condition)?;
-        push_statements(all, choice.body.as_slice())?;
+        push_statements(all, &choice.body)?;
     }
     Ok(())
 }
 
 #[cycle(statement)]
-fn push_branches<'a>(all: &mut Vec<Mention<'a>>, branches: &'a [Branch]) -> Result<(), AllocError>
+fn push_branches<'a>(
+    all: &mut Vec<Mention<'a>>,
+    branches: &'a Items<Branch>,
+) -> Result<(), AllocError>
     ensures { IfOk result (λ _. meant_all all.new.items ≡ meant_all all.old.items ++ mentions_branches (branches_of branches.now)) }
 {
-    for branch in branches {
-        push_statements(all, branch.body.as_slice())?;
+    for branch in branches.as_slice() {
+        push_statements(all, &branch.body)?;
     }
     Ok(())
 }

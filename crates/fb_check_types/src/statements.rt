@@ -12,7 +12,7 @@ ghost use Rattle.fb_check_types.specs.Statements.{all_standing, each_in_body, ea
 use crate::there::push_one;
 use crate::{Scope, Typing, are_same, is_step_whole, value_kind_of_type};
 use fb_check_names::{Misfit, StatementPart, push_unless};
-use fb_types::{Algorithm, Body, Branch, Choice, Expr, Reference, Stmt, ValueKind};
+use fb_types::{Algorithm, Body, Branch, Choice, Expr, Items, Reference, Stmt, ValueKind};
 use std::alloc::{AllocError, Global};
 
 /// A statement, and whether it is in a loop.
@@ -28,12 +28,12 @@ pub struct Standing<'a> {
 #[cycle(statement)]
 fn push_statements<'a>(
     all: &mut Vec<Standing<'a>>,
-    statements: &'a [Stmt],
+    statements: &'a Items<Stmt>,
     in_loop: bool,
 ) -> Result<(), AllocError>
     ensures { IfOk result (λ _. all_standing all.new.items ≡ all_standing all.old.items ++ each_in_body in_loop (all_of statements.now)) }
 {
-    for statement in statements {
+    for statement in statements.as_slice() {
         push_one(all, Standing { statement, in_loop })?;
         push_inside(all, statement, in_loop)?;
     }
@@ -52,21 +52,13 @@ fn push_inside<'a>(
     match statement {
         Stmt::Empty | Stmt::Exit | Stmt::Return | Stmt::Assign(_, _) => Ok(()),
         Stmt::If(choices, others) => {
-            push_choices(all, choices.as_slice(), in_loop).and(push_statements(
-                all,
-                others.as_slice(),
-                in_loop,
-            ))
+            push_choices(all, choices, in_loop).and(push_statements(all, others, in_loop))
         }
         Stmt::Case(_, branches, others) => {
-            push_branches(all, branches.as_slice(), in_loop).and(push_statements(
-                all,
-                others.as_slice(),
-                in_loop,
-            ))
+            push_branches(all, branches, in_loop).and(push_statements(all, others, in_loop))
         }
         Stmt::For(_, _, _, _, body) | Stmt::While(_, body) | Stmt::Repeat(body, _) => {
-            push_statements(all, body.as_slice(), true)
+            push_statements(all, body, true)
         }
     }
 }
@@ -74,13 +66,13 @@ fn push_inside<'a>(
 #[cycle(statement)]
 fn push_choices<'a>(
     all: &mut Vec<Standing<'a>>,
-    choices: &'a [Choice],
+    choices: &'a Items<Choice>,
     in_loop: bool,
 ) -> Result<(), AllocError>
     ensures { IfOk result (λ _. all_standing all.new.items ≡ all_standing all.old.items ++ each_in_choices in_loop (choices_of choices.now)) }
 {
-    for choice in choices {
-        push_statements(all, choice.body.as_slice(), in_loop)?;
+    for choice in choices.as_slice() {
+        push_statements(all, &choice.body, in_loop)?;
     }
     Ok(())
 }
@@ -88,13 +80,13 @@ fn push_choices<'a>(
 #[cycle(statement)]
 fn push_branches<'a>(
     all: &mut Vec<Standing<'a>>,
-    branches: &'a [Branch],
+    branches: &'a Items<Branch>,
     in_loop: bool,
 ) -> Result<(), AllocError>
     ensures { IfOk result (λ _. all_standing all.new.items ≡ all_standing all.old.items ++ each_in_branches in_loop (branches_of branches.now)) }
 {
-    for branch in branches {
-        push_statements(all, branch.body.as_slice(), in_loop)?;
+    for branch in branches.as_slice() {
+        push_statements(all, &branch.body, in_loop)?;
     }
     Ok(())
 }
@@ -104,7 +96,7 @@ pub fn all_statements(alloc: Global, body: &Body) -> Result<Vec<Standing>, Alloc
     ensures { IfOk result (λ r. all_standing r.items ≡ each_in_body false (body_of body.now)) }
 {
     let mut all = Vec::new(alloc);
-    push_statements(&mut all, body.statements.as_slice(), false)?;
+    push_statements(&mut all, &body.statements, false)?;
     Ok(all)
 }
 

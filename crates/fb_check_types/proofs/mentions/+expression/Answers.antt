@@ -1,4 +1,4 @@
-use Rattle.std.proofs.Common.{List, refl}
+use Rattle.std.proofs.Common.{◌++◌, List, refl, ◌∙◌, ap}
 use Rattle.fb_types.specs.Syntax.{expr_of}
 use Rattle.fb_types.specs.Unknown.{mentions, mentions_all}
 use Rattle.fb_types.specs.declared.text.Expr.{Expr}
@@ -10,14 +10,15 @@ use Rattle.fb_check_types.proofs.mentions.+expression.Goals as goal
 
 pub push_arguments-loop-argument-preserved : goal.push_arguments-loop-argument-preserved
 push_arguments-loop-argument-preserved t c =
-    one_added (λ (es : List Expr). mentions_all (arguments_of es)) (λ (e : Expr). mentions (expr_of e)) c.args.arguments.now c.loop-argument.argument-index
+    one_added (λ (es : List Expr). mentions_all (arguments_of es)) (λ (e : Expr). mentions (expr_of e)) c.as_slice-argument-items.result.now c.loop-argument.argument-index
     c.argument-item.result (meant_all c.loop-argument.all.items) (meant_all c.push_expression.new.all.items) _ (λ _ _. refl) c.loop-argument-test.true
     c.argument-item.is c.in_ok-push_expression.ensures c.loop-argument.invariant
 
 pub push_arguments-returns : goal.push_arguments-returns
 push_arguments-returns t c =
-    list_added (λ (es : List Expr). mentions_all (arguments_of es)) c.args.arguments.now c.loop-argument.argument-index (meant_all c.loop-argument.all.items) _ refl
+    list_added (λ (es : List Expr). mentions_all (arguments_of es)) c.as_slice-argument-items.result.now c.loop-argument.argument-index (meant_all c.loop-argument.all.items) _ refl
     c.loop-argument-test.false c.loop-argument.invariant
+    ∙ ap (λ (es : List Expr). meant_all c.args.all.now.items ++ mentions_all (arguments_of es)) c.as_slice-argument-items.ensures
 
 pub push_expression-returns-in-Variable : goal.push_expression-returns-in-Variable
 push_expression-returns-in-Variable t c =
@@ -46,5 +47,5 @@ push_expression-returns-in-Binary t c =
 pub push_expression-returns-in-Call : goal.push_expression-returns-in-Call
 push_expression-returns-in-Call t c =
     and_added c.and-in-Call.result c.push_mention-in-Call.result c.push_arguments.result (meant_all c.args.all.now.items) (meant_all c.push_mention-in-Call.new.all.items) (meant_all c.push_arguments.new.all.items) _ _ _
-    (call_names c.args.expr.now c.in-Call.name c.as_slice.result.now c.in-Call.arguments c.in-Call.is c.as_slice.ensures)
+    (call_names c.args.expr.now c.in-Call.name c.in-Call.arguments c.in-Call.is)
     c.and-in-Call.ensures c.push_mention-in-Call.ensures c.push_arguments.ensures

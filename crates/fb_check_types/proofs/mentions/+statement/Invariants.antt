@@ -7,12 +7,12 @@ use Rattle.fb_check_types.proofs.mentions.+statement.Given as goal
 -- with what the rest names, all is there
 abbrev pub invariant-push_statements-loop-statement : goal.invariant-push_statements-loop-statement
 invariant-push_statements-loop-statement l =
-    meant_all l.all.items ++ mentions_body (all_of (drop l.statement-index l.statements)) ≡ meant_all l.fn.all.items ++ mentions_body (all_of l.statements)
+    meant_all l.all.items ++ mentions_body (all_of (drop l.statement-index l.statement-items)) ≡ meant_all l.fn.all.items ++ mentions_body (all_of l.statement-items)
 
 abbrev pub invariant-push_choices-loop-choice : goal.invariant-push_choices-loop-choice
 invariant-push_choices-loop-choice l =
-    meant_all l.all.items ++ mentions_choices (choices_of (drop l.choice-index l.choices)) ≡ meant_all l.fn.all.items ++ mentions_choices (choices_of l.choices)
+    meant_all l.all.items ++ mentions_choices (choices_of (drop l.choice-index l.choice-items)) ≡ meant_all l.fn.all.items ++ mentions_choices (choices_of l.choice-items)
 
 abbrev pub invariant-push_branches-loop-branch : goal.invariant-push_branches-loop-branch
 invariant-push_branches-loop-branch l =
-    meant_all l.all.items ++ mentions_branches (branches_of (drop l.branch-index l.branches)) ≡ meant_all l.fn.all.items ++ mentions_branches (branches_of l.branches)
+    meant_all l.all.items ++ mentions_branches (branches_of (drop l.branch-index l.branch-items)) ≡ meant_all l.fn.all.items ++ mentions_branches (branches_of l.branch-items)
