@@ -37,6 +37,13 @@ pub and_last : {T E : Type 0} (P : Type 0) (q r s : Result T E) → q ≡ result
 and_last {T} {E} P q (Ok x) s is last = subst (λ (d : Result T E). IfOk d (λ _. P)) (sym is) last
 and_last {T} {E} P q (Err e) s is last = subst (λ (d : Result T E). IfOk d (λ _. P)) (sym is) tt
 
+-- what follows from what both calls do
+pub and_both :
+    {T E P Q R : Type 0} (q r s : Result T E) → q ≡ result_and r s → (P → Q → R) → IfOk r (λ _. P) → IfOk s (λ _. Q) → IfOk q (λ _. R)
+and_both {T} {E} {P} {Q} {R} q (Ok x) (Ok y) is f first last = subst (λ (d : Result T E). IfOk d (λ _. R)) (sym is) (f first last)
+and_both {T} {E} {P} {Q} {R} q (Ok x) (Err e) is f first last = subst (λ (d : Result T E). IfOk d (λ _. R)) (sym is) tt
+and_both {T} {E} {P} {Q} {R} q (Err e) s is f first last = subst (λ (d : Result T E). IfOk d (λ _. R)) (sym is) tt
+
 -- what each item means is added with the item
 pub meaning_added :
     {A X T E : Type 0} (r : Result T E) (f : A → X) (old new : List A) (x : A) → IfOk r (λ _. new ≡ old ++ (x ∷ [])) → IfOk r (λ _. map f new ≡ map f old ++ (f x ∷ []))

@@ -72,10 +72,14 @@ fn push_in_body(
 ) -> Result<(), AllocError>
     ensures { IfOk result (λ _. found.new.items ≡ found.old.items ++ unknown_in_body scope.now block algorithm declared.now) }
 {
-    let mut mentions = Vec::new(alloc);
-    push_body(&mut mentions, &declared.body)?;
     let naming = Naming::Body { block, algorithm };
-    push_mentions(found, scope, naming, mentions.as_slice())
+    let mut mentions = Vec::new(alloc);
+    push_body(&mut mentions, &declared.body).and(push_mentions(
+        found,
+        scope,
+        naming,
+        mentions.as_slice(),
+    ))
 }
 
 /// The same for all algorithms of a basic type.
@@ -108,28 +112,17 @@ fn push_in_guard(
     let Some(guard) = &declared.condition.guard else {
         return Ok(());
     };
-    let mut mentions = Vec::new(alloc);
-    push_expression(&mut mentions, guard)?;
     let naming = Naming::Guard { block, transition };
-    push_mentions(found, scope, naming, mentions.as_slice())
+    let mut mentions = Vec::new(alloc);
+    push_expression(&mut mentions, guard).and(push_mentions(
+        found,
+        scope,
+        naming,
+        mentions.as_slice(),
+    ))
 }
 
-/// Adds the names of a transition that are unknown, and those in its guard.
-fn push_in_transition(
-    alloc: Global,
-    found: &mut Vec<UnknownName>,
-    scope: &Scope,
-    block: usize,
-    transition: usize,
-    declared: &Transition,
-) -> Result<(), AllocError>
-    ensures { IfOk result (λ _. found.new.items ≡ found.old.items ++ unknown_in_transition scope.now block transition declared.now) }
-{
-    push_names(found, scope, block, transition, declared)?;
-    push_in_guard(alloc, found, scope, block, transition, declared)
-}
-
-/// The same for all transitions of a basic type.
+/// Adds the names of transitions that are unknown, and those in their guards.
 fn push_in_transitions(
     alloc: Global,
     found: &mut Vec<UnknownName>,
@@ -140,7 +133,8 @@ fn push_in_transitions(
     ensures { IfOk result (λ _. found.new.items ≡ found.old.items ++ each_at (unknown_in_transition scope.now block) transitions.now) }
 {
     for (transition, declared) in transitions.iter().enumerate() {
-        push_in_transition(alloc, found, scope, block, transition, declared)?;
+        push_names(found, scope, block, transition, declared)?;
+        push_in_guard(alloc, found, scope, block, transition, declared)?;
     }
     Ok(())
 }
@@ -176,6 +170,6 @@ pub fn push_in_basic(
 {
     let indexes = &types.catalog.blocks[block];
     let scope = Scope::new(basic, indexes);
-    push_in_withs(found, block, &scope.interface())?;
-    push_in_chart(alloc, found, &scope, block)
+    let withs = push_in_withs(found, block, &scope.interface());
+    withs.and(push_in_chart(alloc, found, &scope, block))
 }

@@ -9,7 +9,6 @@ ghost use Rattle.fb_check_types.specs.There.{each_there, some_of};
 ghost use Rattle.fb_check_types.specs.Unknown.{inputs_of, outputs_of};
 ghost use Rattle.fb_check_types.specs.Unknowns.{unknown_ends};
 ghost use Rattle.fb_check_names.specs.Listed.{each_at};
-ghost use Rattle.fb_check_names.specs.declared.location.UnknownName.TheVariants as location;
 
 use crate::there::push_some;
 use fb_check_names::ports::index_in;
@@ -142,17 +141,6 @@ fn connection_between(
     }
 }
 
-fn end(site: Site, flow: FlowKind, connection: usize, side: Side) -> UnknownName
-    ensures { result ≡ location.End site flow connection side }
-{
-    UnknownName::End {
-        site,
-        flow,
-        connection,
-        side,
-    }
-}
-
 /// Adds a connection by number, or those of its ends that are unknown.
 fn push_wire(
     found: &mut Vec<UnknownName>,
@@ -172,9 +160,19 @@ fn push_wire(
     ensures number { IfOk result (λ _. wires.new ≡ wires.old ++ some_of (connection_number types.now.library.now (placed scope.now) flow declared.now)) }
 {
     let from = side_of(types, scope, kinds, flow, Side::From, declared);
-    let from_end = end(site, flow, connection, Side::From);
+    let from_end = UnknownName::End {
+        site,
+        flow,
+        connection,
+        side: Side::From,
+    };
     let to = side_of(types, scope, kinds, flow, Side::To, declared);
-    let to_end = end(site, flow, connection, Side::To);
+    let to_end = UnknownName::End {
+        site,
+        flow,
+        connection,
+        side: Side::To,
+    };
     push_unless(found, from.is_some(), from_end)
         .and(push_unless(found, to.is_some(), to_end))
         .and(push_some(wires, connection_between(from, to)))

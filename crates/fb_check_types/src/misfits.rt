@@ -125,8 +125,13 @@ fn push_in_basic(
     ensures { IfOk result (λ _. found.new.items ≡ found.old.items ++ (each_at (misfit_guard basic.now block) basic.now.transitions ++ each_at (misfits_in_body basic.now block) basic.now.algorithms)) }
 {
     let scope = Scope::new(basic, indexes);
-    push_guards(found, &scope, block, basic.transitions.as_slice())?;
-    push_in_bodies(alloc, found, &scope, block, basic.algorithms.as_slice())
+    push_guards(found, &scope, block, basic.transitions.as_slice()).and(push_in_bodies(
+        alloc,
+        found,
+        &scope,
+        block,
+        basic.algorithms.as_slice(),
+    ))
 }
 
 /// Adds the wrong parameters inside a composite type.

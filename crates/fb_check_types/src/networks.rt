@@ -71,15 +71,14 @@ fn push_instance(
 {
     match types.number_of(&declared.block_type) {
         Some(number) => {
-            kinds.push(number)?;
             let parameters = declared.parameters.as_slice();
             let set = inputs_of(alloc, found, types, number, site, instance, parameters)?;
-            inputs.push(set)
+            kinds.push(number).and(inputs.push(set))
         }
         None => {
-            push_one(found, UnknownName::InstanceType { site, instance })?;
-            kinds.push(no_type(types))?;
-            inputs.push(Items::new(alloc))
+            push_one(found, UnknownName::InstanceType { site, instance })
+                .and(kinds.push(no_type(types)))
+                .and(inputs.push(Items::new(alloc)))
         }
     }
 }

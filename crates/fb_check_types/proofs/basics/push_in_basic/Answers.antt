@@ -5,7 +5,7 @@ use Rattle.fb_types.specs.declared.library.BlockType.TheVariants as block
 use Rattle.fb_check_names.specs.declared.location.Direction.TheVariants.{Input, Output}
 use Rattle.fb_check_types.specs.Roles.{Declared}
 use Rattle.fb_check_types.specs.Unknowns.{unknown_in_chart, unknown_withs}
-use Rattle.fb_check_types.proofs.Added.{then_added}
+use Rattle.fb_check_types.proofs.Added.{and_added, all_added}
 use Rattle.fb_check_types.proofs.BlockNumbers.{has_indexes}
 use Rattle.fb_check_types.proofs.basics.push_in_basic.Goals as goal
 
@@ -30,8 +30,11 @@ returns c =
     let ins = unknown_withs b Input t.ports in
     let outs = unknown_withs b Output t.ports in
     let f0 = c.args.found.now.items in
-    then_added c.push_in_chart.result f0 c.push_in_withs.new.found.items c.push_in_chart.new.found.items (ins ++ outs) (unknown_in_chart s b) _
+    let withs = ap (λ (x : BasicType). unknown_withs b Input x.ports ++ unknown_withs b Output x.ports) (sym c.new-scope.ensures)
+    ∙ ap (λ (d : Declared). unknown_withs b Input d.ports ++ unknown_withs b Output d.ports) (sym c.interface.ensures) in
+    and_added c.and.result c.push_in_withs-withs.result c.push_in_chart.result f0 c.push_in_withs-withs.new.found.items c.push_in_chart.new.found.items (ins ++ outs)
+    (unknown_in_chart s b) _
     (ap (λ (x : BasicType). ins ++ (outs ++ unknown_in_chart x b)) (sym c.new-scope.ensures) ∙ sym (append_assoc ins outs (unknown_in_chart s b)))
-    (c.in_ok-push_in_withs.ensures ∙ ap (λ (d : Declared). f0 ++ (unknown_withs b Input d.ports ++ unknown_withs b Output d.ports)) c.interface.ensures
-    ∙ ap (λ (x : BasicType). f0 ++ (unknown_withs b Input x.ports ++ unknown_withs b Output x.ports)) c.new-scope.ensures)
+    c.and.ensures
+    (all_added c.push_in_withs-withs.result f0 c.push_in_withs-withs.new.found.items _ (ins ++ outs) withs c.push_in_withs-withs.ensures)
     c.push_in_chart.ensures

@@ -1,10 +1,11 @@
-use Rattle.std.proofs.Common.{◌++◌, List, ◌∙◌, ap}
+use Rattle.std.proofs.Common.{◌++◌, List, sym, ◌∙◌, ap}
 use Rattle.fb_types.specs.Syntax.{body_of}
 use Rattle.fb_types.specs.Unknown.{mentions_body}
+use Rattle.fb_check_names.specs.declared.location.UnknownName.{UnknownName}
 use Rattle.fb_check_types.specs.declared.basics.Naming.TheVariants as naming
 use Rattle.fb_check_types.specs.declared.mentions.Mention as gathered
 use Rattle.fb_check_types.specs.Mentions.{meant_all}
-use Rattle.fb_check_types.proofs.Added.{all_added}
+use Rattle.fb_check_types.proofs.Added.{and_both}
 use Rattle.fb_check_types.proofs.Mentioned.{mentions_are}
 use Rattle.fb_check_types.proofs.basics.push_in_body.Goals as goal
 
@@ -12,6 +13,9 @@ pub returns : goal.returns
 returns c =
     let t = c.args.scope.now in
     let text = naming.Body c.args.block c.args.algorithm in
-    all_added c.push_mentions.result c.args.found.now.items c.push_mentions.new.found.items _ _
-    (mentions_are t text c.as_slice.result.now (mentions_body (body_of c.args.declared.now.body)) (ap meant_all c.as_slice.ensures.value ∙ c.in_ok-push_body.ensures ∙ ap (λ (ms : List gathered.Mention). meant_all ms ++ mentions_body (body_of c.args.declared.now.body)) c.new-mentions.ensures.items))
-    c.push_mentions.ensures
+    let old = c.args.found.now.items in
+    let named = mentions_body (body_of c.args.declared.now.body) in
+    and_both c.and.result c.push_body.result c.push_mentions.result c.and.ensures
+    (λ there listed. listed ∙ ap (λ (us : List UnknownName). old ++ us) (sym (mentions_are t text c.as_slice.result.now named
+    (ap meant_all c.as_slice.ensures.value ∙ there ∙ ap (λ (ms : List gathered.Mention). meant_all ms ++ named) c.new-mentions.ensures.items))))
+    c.push_body.ensures c.push_mentions.ensures

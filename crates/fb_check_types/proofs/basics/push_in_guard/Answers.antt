@@ -1,12 +1,13 @@
-use Rattle.std.proofs.Common.{◌++◌, List, Option, ◌∙◌, ap}
+use Rattle.std.proofs.Common.{◌++◌, List, Option, sym, ◌∙◌, ap}
 use Rattle.fb_types.specs.Syntax.{expr_of}
 use Rattle.fb_types.specs.Unknown.{mentions}
 use Rattle.fb_types.specs.declared.text.Expr.{Expr}
+use Rattle.fb_check_names.specs.declared.location.UnknownName.{UnknownName}
 use Rattle.fb_check_types.specs.declared.basics.Naming.TheVariants as naming
 use Rattle.fb_check_types.specs.declared.mentions.Mention as gathered
 use Rattle.fb_check_types.specs.Mentions.{meant_all}
 use Rattle.fb_check_types.specs.Unknowns.{unknown_mentions}
-use Rattle.fb_check_types.proofs.Added.{all_added}
+use Rattle.fb_check_types.proofs.Added.{and_both}
 use Rattle.fb_check_types.proofs.Mentioned.{mentions_are, mentions_of}
 use Rattle.fb_check_types.proofs.basics.push_in_guard.Goals as goal
 
@@ -14,7 +15,11 @@ pub returns : goal.returns
 returns c =
     let t = c.args.scope.now in
     let text = naming.Guard c.args.block c.args.transition in
-    all_added c.push_mentions.result c.args.found.now.items c.push_mentions.new.found.items _ _
+    let old = c.args.found.now.items in
+    let named = mentions (expr_of c.in-Some.guard) in
+    and_both c.and.result c.push_expression.result c.push_mentions.result c.and.ensures
+    (λ there listed. listed ∙ ap (λ (us : List UnknownName). old ++ us) (sym
     (ap (λ (o : Option Expr). unknown_mentions t text (mentions_of o)) c.in-Some.is
-    ∙ mentions_are t text c.as_slice.result.now (mentions (expr_of c.in-Some.guard)) (ap meant_all c.as_slice.ensures.value ∙ c.in_ok-push_expression.ensures ∙ ap (λ (ms : List gathered.Mention). meant_all ms ++ mentions (expr_of c.in-Some.guard)) c.new-mentions.ensures.items))
-    c.push_mentions.ensures
+    ∙ mentions_are t text c.as_slice.result.now named
+    (ap meant_all c.as_slice.ensures.value ∙ there ∙ ap (λ (ms : List gathered.Mention). meant_all ms ++ named) c.new-mentions.ensures.items))))
+    c.push_expression.ensures c.push_mentions.ensures

@@ -6,6 +6,7 @@ use Rattle.fb_check_names.specs.declared.numbers.NumberedConnection.{NumberedCon
 use Rattle.fb_check_names.specs.Listed.{unless}
 use Rattle.fb_check_names.specs.declared.location.Side.TheVariants.{From, To}
 use Rattle.fb_check_names.specs.declared.location.UnknownName.{UnknownName}
+use Rattle.fb_check_names.specs.declared.location.UnknownName.TheVariants as location
 use Rattle.fb_check_types.specs.Scopes.{placed}
 use Rattle.fb_check_types.specs.There.{some_of}
 use Rattle.fb_check_types.proofs.Added.{and_added, and_first, and_last}
@@ -17,16 +18,17 @@ returns-clause-listed c =
     let lib = c.args.types.now.library.now in
     let n = placed c.args.scope.now in
     let x = c.args.declared.now in
+    let end = location.End c.args.site c.args.flow c.args.connection in
     let f0 = c.args.found.now.items in
     let f1 = c.push_unless.new.found.items in
     let f2 = c.push_unless-2.new.found.items in
     let starts = sym (c.is_some.ensures ∙ ap is_some c.side_of-from.ensures ∙ side_met lib n c.args.flow From x) in
     let ends = sym (c.is_some-2.ensures ∙ ap is_some c.side_of-to.ensures ∙ side_met lib n c.args.flow To x) in
-    let p : List UnknownName = unless c.is_some.result c.end-from_end.result in
-    let q : List UnknownName = unless c.is_some-2.result c.end-to_end.result in
+    let p : List UnknownName = unless c.is_some.result (end From) in
+    let q : List UnknownName = unless c.is_some-2.result (end To) in
     and_first _ c.and-2.result c.and.result c.push_some.result c.and-2.ensures
     (and_added c.and.result c.push_unless.result c.push_unless-2.result f0 f1 f2 p q _
-    (λ i. unless (starts i) (sym c.end-from_end.ensures i) ++ unless (ends i) (sym c.end-to_end.ensures i))
+    (λ i. unless (starts i) (end From) ++ unless (ends i) (end To))
     c.and.ensures c.push_unless.ensures c.push_unless-2.ensures)
 
 pub returns-clause-number : goal.returns-clause-number
