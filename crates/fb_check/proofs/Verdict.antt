@@ -1,6 +1,6 @@
 -- The numbers of the refusals, one after another.
-use Rattle.std.proofs.Common.{◌≡◌, ◌≢◌, ℕ, ◌+◌, ◌<◌, ◌≤◌, Bool, true, false, nat_eq, List, [], length, refl, sym, ap, ◌∙◌, subst, inl, inr, ⊎_elim, arith}
-use Rattle.std.specs.Prelude.{◌↔◌, IsTrue}
+use Rattle.std.proofs.Common.{◌≡◌, ◌≢◌, ℕ, ◌+◌, ◌<◌, ◌≤◌, Bool, true, false, nat_eq, List, [], Result, Ok, Err, length, refl, sym, ap, ◌∙◌, subst, inl, inr, ⊎_elim, arith}
+use Rattle.std.specs.Prelude.{◌↔◌, IfErr, IfOk, IsTrue}
 use Rattle.std.proofs.lemmas.Bool.{cases_lt, eqb-true, true≢false}
 use Rattle.std.proofs.lemmas.List.{nil_from_length}
 use Rattle.fb_types.specs.Accepted.{Applies, IsLeastFault, IsAccepted, BadStimulus, OverLimit}
@@ -9,7 +9,12 @@ use Rattle.fb_types.specs.Unknown.{NameUnknown}
 use Rattle.fb_types.specs.Kinds.{KindWrong}
 use Rattle.fb_types.specs.Joined.{OutOfRange, TwoSources, TooHigh}
 use Rattle.fb_types.specs.Mapped.{NotMapped, NoLink, NoEvent}
+use Rattle.fb_types.specs.Headline.{Inputs}
+use Rattle.fb_check.specs.Refusals.{IsRefusal, IsStop}
 use Rattle.fb_check.specs.Verdicts.{Passes}
+use Rattle.fb_check.specs.declared.refusal.Refusal.{Refusal}
+use Rattle.fb_check.specs.declared.refusal.Stop.{Stop}
+use Rattle.fb_check.specs.declared.refusal.Stop.TheVariants.{Refused}
 use Rattle.fb_types.specs.declared.library.Library.{Library}
 use Rattle.fb_types.specs.declared.deploy.Plan.{Plan}
 use Rattle.fb_types.specs.declared.deploy.Stimulus.{Stimulus}
@@ -45,6 +50,19 @@ no_location xs n b counted is h = nil_from_length xs (sym counted ∙ eqb-true n
 
 pub some_location : {A : Type 0} (xs : List A) (n : ℕ) (b : Bool) → n ≡ length xs → b ≡ nat_eq n 0 → b ≡ false → xs ≢ []
 some_location xs n b counted is h none = true≢false (sym (ap (λ m. nat_eq m 0) (counted ∙ ap length none)) ∙ sym is ∙ h)
+
+-- what a check made, if it found nothing
+pub made_so :
+    {T : Type 0} (P : T → Type 0) (r : Result T Stop) (x : T) (b : Bool) → (b ≡ true → P x) → IfOk r (λ y. (y ≡ x) × (b ≡ true)) → IfOk r P
+made_so {T} P (Ok y) x b says h = subst P (sym h.0) (says h.1)
+made_so {T} P (Err s) x b says h = tt
+
+-- why it stops, if it found something
+pub stopped_so :
+    {T : Type 0} (r : Result T Stop) (i : Inputs) (refusal : Refusal) (b : Bool) → (b ≡ false → IsRefusal i refusal)
+    → IfErr r (λ s. (s ≡ Refused refusal) × (b ≡ false)) → IfErr r (IsStop i)
+stopped_so {T} (Ok x) i refusal b says h = tt
+stopped_so {T} (Err s) i refusal b says h = subst (λ (s : Stop). IsStop i s) (sym h.0) (says h.1)
 
 pub first : (lib : Library) (plan : Plan) (stimuli : List Stimulus) → Passes 20 lib plan stimuli
 first lib plan stimuli n h a = applies_cases n lib plan stimuli a

@@ -14,7 +14,7 @@ use crate::fault::Fault;
 use crate::location::Limit;
 use crate::mapping_checks::judge_mapping;
 use crate::network_checks::judge_networks;
-use crate::refusal::{Refusal, Stop};
+use crate::refusal::{Refusal, Stop, passed};
 use crate::stimuli::stimulus_rows;
 use fb_check_names::{Catalog, Resolved, catalog_of};
 use fb_check_networks::has_too_many_instances;
@@ -30,10 +30,8 @@ fn catalog<'a>(alloc: Global, case: &Case<'a>) -> Result<Catalog<'a>, Stop>
 {
     let mut found = Vec::new(alloc);
     let catalog = catalog_of(alloc, &mut found, case.library, case.plan)?;
-    if !found.is_empty() {
-        return Err(Stop::Refused(Refusal::Twice(found)));
-    }
-    Ok(catalog)
+    let is_right = found.is_empty();
+    passed(is_right, Refusal::Twice(found), catalog)
 }
 
 /// E21: the numbers of all names, if each is known.
@@ -44,10 +42,8 @@ fn numbers(alloc: Global, case: &Case, catalog: &Catalog) -> Result<Resolved, St
 {
     let mut found = Vec::new(alloc);
     let resolved = resolve(alloc, &mut found, case.library, case.plan, catalog)?;
-    if !found.is_empty() {
-        return Err(Stop::Refused(Refusal::NameUnknown(found)));
-    }
-    Ok(resolved)
+    let is_right = found.is_empty();
+    passed(is_right, Refusal::NameUnknown(found), resolved)
 }
 
 /// E29: the stimuli by number, if each fits.
@@ -60,10 +56,8 @@ fn judge_stimuli(alloc: Global, case: &Case, catalog: &Catalog) -> Result<Items<
 {
     let mut found = Vec::new(alloc);
     let rows = stimulus_rows(alloc, &mut found, case.library, catalog, case.stimuli)?;
-    if !found.is_empty() {
-        return Err(Stop::Refused(Refusal::BadStimulus(found)));
-    }
-    Ok(rows)
+    let is_right = found.is_empty();
+    passed(is_right, Refusal::BadStimulus(found), rows)
 }
 
 /// E30: whether the inputs keep the limits.

@@ -8,7 +8,7 @@ ghost use Rattle.fb_check.specs.Refusals.{IsStop, inputs_in};
 ghost use Rattle.fb_check.specs.Verdicts.{HasPassed};
 
 use crate::case::Case;
-use crate::refusal::{Refusal, Stop};
+use crate::refusal::{Refusal, Stop, passed};
 use fb_check_names::Resolved;
 use fb_check_networks::{Mapping, holders_of, mapping_of, unlinked_locations, unserved_locations};
 use fb_types::Items;
@@ -23,10 +23,8 @@ fn mapping<'a>(alloc: Global, case: &Case<'a>) -> Result<Mapping<'a>, Stop>
 {
     let mut found = Vec::new(alloc);
     let mapping = mapping_of(alloc, &mut found, case.library, case.plan)?;
-    if !found.is_empty() {
-        return Err(Stop::Refused(Refusal::NotMapped(found)));
-    }
-    Ok(mapping)
+    let is_right = found.is_empty();
+    passed(is_right, Refusal::NotMapped(found), mapping)
 }
 
 /// E27: a link for each connection between two resources.
@@ -37,10 +35,8 @@ fn judge_links(alloc: Global, case: &Case, mapping: &Mapping) -> Result<(), Stop
     ensures refused { IfErr result (IsStop (inputs_in case.now)) }
 {
     let found = unlinked_locations(alloc, case.library, case.plan, mapping)?;
-    if !found.is_empty() {
-        return Err(Stop::Refused(Refusal::NoLink(found)));
-    }
-    Ok(())
+    let is_right = found.is_empty();
+    passed(is_right, Refusal::NoLink(found), ())
 }
 
 /// E28: an event for each data connection between two resources.
@@ -57,10 +53,8 @@ fn judge_events(
     ensures refused { IfErr result (IsStop (inputs_in case.now)) }
 {
     let found = unserved_locations(alloc, case.library, case.plan, mapping, resolved)?;
-    if !found.is_empty() {
-        return Err(Stop::Refused(Refusal::NoEvent(found)));
-    }
-    Ok(())
+    let is_right = found.is_empty();
+    passed(is_right, Refusal::NoEvent(found), ())
 }
 
 /// The checks from E26 to E28. Returns, for each instance of the application, the resource that holds it.

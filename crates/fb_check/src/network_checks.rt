@@ -7,7 +7,7 @@ ghost use Rattle.fb_check.specs.Refusals.{IsStop, inputs_in};
 ghost use Rattle.fb_check.specs.Verdicts.{HasPassed};
 
 use crate::case::Case;
-use crate::refusal::{Refusal, Stop};
+use crate::refusal::{Refusal, Stop, passed};
 use fb_check_names::{Catalog, Resolved};
 use fb_check_networks::{joined_locations, misjoin_locations, too_high_location};
 use fb_check_types::misfit_locations;
@@ -27,10 +27,8 @@ fn judge_kinds(
     ensures refused { IfErr result (IsStop (inputs_in case.now)) }
 {
     let found = misfit_locations(alloc, case.library, catalog, resolved)?;
-    if !found.is_empty() {
-        return Err(Stop::Refused(Refusal::KindWrong(found)));
-    }
-    Ok(())
+    let is_right = found.is_empty();
+    passed(is_right, Refusal::KindWrong(found), ())
 }
 
 /// E23: data connections to types that contain all values.
@@ -41,10 +39,8 @@ fn judge_ranges(alloc: Global, case: &Case, resolved: &Resolved) -> Result<(), S
     ensures refused { IfErr result (IsStop (inputs_in case.now)) }
 {
     let found = misjoin_locations(alloc, case.library, resolved)?;
-    if !found.is_empty() {
-        return Err(Stop::Refused(Refusal::OutOfRange(found)));
-    }
-    Ok(())
+    let is_right = found.is_empty();
+    passed(is_right, Refusal::OutOfRange(found), ())
 }
 
 /// E24: one source for each port.
@@ -54,10 +50,8 @@ fn judge_sources(alloc: Global, case: &Case) -> Result<(), Stop>
     ensures refused { IfErr result (IsStop (inputs_in case.now)) }
 {
     let found = joined_locations(alloc, case.library)?;
-    if !found.is_empty() {
-        return Err(Stop::Refused(Refusal::TwoSources(found)));
-    }
-    Ok(())
+    let is_right = found.is_empty();
+    passed(is_right, Refusal::TwoSources(found), ())
 }
 
 /// E25: composites of a height up to 16.

@@ -1,9 +1,9 @@
 //! Why inputs are refused, and where.
 
-ghost use Rattle.std.specs.Prelude.{◌≡◌, ⊤, MatchOption};
+ghost use Rattle.std.specs.Prelude.{◌≡◌, ⊤, IfOk, IfErr, MatchOption, false, true};
 ghost use Rattle.fb_types.specs.Headline.{Inputs};
 ghost use Rattle.fb_check.specs.Refusals.{IsRefusal, IsStop, error_of, fault_of};
-ghost use Rattle.fb_check.specs.declared.refusal.Stop.TheVariants.{Memory};
+ghost use Rattle.fb_check.specs.declared.refusal.Stop.TheVariants.{Memory, Refused};
 
 use crate::error::CheckError;
 use crate::fault::Fault;
@@ -122,5 +122,17 @@ impl Stop {
             Stop::Memory => None,
             Stop::Refused(refusal) => Some(refusal),
         }
+    }
+}
+
+/// What a check made, if it found nothing. Otherwise the check stops for this refusal.
+pub(crate) fn passed<T: Drop>(is_right: bool, refusal: Refusal, made: T) -> Result<T, Stop>
+    ensures ok { IfOk result (λ x. (x ≡ made) × (is_right ≡ true)) }
+    ensures refused { IfErr result (λ s. (s ≡ Refused refusal) × (is_right ≡ false)) }
+{
+    if is_right {
+        Ok(made)
+    } else {
+        Err(Stop::Refused(refusal))
     }
 }

@@ -133,11 +133,12 @@ fn row_of<'a>(
     let Some(event) = event_index(inputs, &stimulus.event) else {
         return Ok(Err(StimulusFault::Event));
     };
+    let is_set_twice = has_setting_twice(alloc, stimulus)?;
     let sets = match slots_of(alloc, directory, inputs, stimulus)? {
         Ok(sets) => sets,
         Err(setting) => return Ok(Err(StimulusFault::Setting(setting))),
     };
-    if has_setting_twice(alloc, stimulus)? {
+    if is_set_twice {
         return Ok(Err(StimulusFault::Twice));
     }
     library.application.network.instances.count();

@@ -5,22 +5,26 @@ use Rattle.fb_check_types.specs.Unknown.{IsUnknownAt}
 use Rattle.fb_check_types.specs.Unknowns.{unknown_all}
 use Rattle.fb_check_types.proofs.Applying.{unknown_applies}
 use Rattle.fb_check_types.proofs.Witnesses.{each_unknown}
-use Rattle.fb_check.proofs.Verdict.{first, least_21, no_location, passes_20, some_location}
+use Rattle.fb_check.specs.Refusals.{inputs_in}
+use Rattle.fb_check.specs.declared.refusal.Refusal.TheVariants.{NameUnknown}
+use Rattle.fb_check.proofs.Verdict.{first, least_21, made_so, no_location, passes_20, some_location, stopped_so}
 use Rattle.fb_check.proofs.judgement.numbers.Goals as goal
 
-pub returns-then-not-is_empty-clause-refused : goal.returns-then-not-is_empty-clause-refused
-returns-then-not-is_empty-clause-refused c =
+pub returns-clause-refused : goal.returns-clause-refused
+returns-clause-refused c =
     let lib = c.args.case.now.library.now in
     let plan = c.args.case.now.plan.now in
     let ss = c.args.case.now.stimuli.now in
     let found = c.resolve.new.found in
     let all : found.items ≡ unknown_all lib plan = c.in_ok-resolved.ensures.listed ∙ ap (λ (ps : List UnknownName). ps ++ unknown_all lib plan) c.new-found.ensures.items in
-    record {
+    stopped_so c.passed.result (inputs_in c.args.case.now) (NameUnknown found) c.is_empty-is_right.result
+    (λ h. record {
       least = least_21 lib plan ss (passes_20 lib plan ss (first lib plan ss) c.requires.once)
           (some_says (IsUnknownAt lib plan) (unknown_all lib plan) (unknown_applies lib plan) (each_unknown lib plan)
-          (λ none. some_location found.items (vec_len found) c.is_empty.result found.ok.0 c.is_empty.ensures c.if-not-is_empty.true (all ∙ none)));
+          (λ none. some_location found.items (vec_len found) c.is_empty-is_right.result found.ok.0 c.is_empty-is_right.ensures h (all ∙ none)));
       all = all;
-    }
+    })
+    c.passed.ensures.refused
 
 pub returns-clause-ok : goal.returns-clause-ok
 returns-clause-ok c =
@@ -28,4 +32,6 @@ returns-clause-ok c =
     let plan = c.args.case.now.plan.now in
     let found = c.resolve.new.found in
     let all : found.items ≡ unknown_all lib plan = c.in_ok-resolved.ensures.listed ∙ ap (λ (ps : List UnknownName). ps ++ unknown_all lib plan) c.new-found.ensures.items in
-    c.in_ok-resolved.ensures.numbers (sym all ∙ no_location found.items (vec_len found) c.is_empty.result found.ok.0 c.is_empty.ensures c.if-not-is_empty.false)
+    made_so _ c.passed.result c.in_ok-resolved.resolved c.is_empty-is_right.result
+    (λ h. c.in_ok-resolved.ensures.numbers (sym all ∙ no_location found.items (vec_len found) c.is_empty-is_right.result found.ok.0 c.is_empty-is_right.ensures h))
+    c.passed.ensures.ok

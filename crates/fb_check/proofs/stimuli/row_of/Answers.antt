@@ -54,8 +54,8 @@ returns-in-Err c =
     let w = subst Q c.in-Err.is c.in_ok-sets.ensures in
     (w.0, w.1, slot_none lib c.args.directory.now x s w.0 known c.requires.directory found w.2)
 
-pub returns-then-branch : goal.returns-then-branch
-returns-then-branch c = c.in_ok-has_setting_twice.ensures.0 c.if-branch.true
+pub returns-then-is_set_twice : goal.returns-then-is_set_twice
+returns-then-is_set_twice c = c.in_ok-is_set_twice.ensures.0 c.if-is_set_twice.true
 
 pub returns : goal.returns
 returns c =
@@ -70,5 +70,5 @@ returns c =
     taken_is lib d s x _ c.in-Some.index c.in-Some-event_index.event c.requires.directory
     (at ∙ c.in-Some.is, subst P (ap option_copied c.in-Some-inputs_at.is) c.inputs_at.ensures.found)
     (sym c.event_index.ensures ∙ c.in-Some-event_index.is)
-    (λ t. true≢false (sym (c.in_ok-has_setting_twice.ensures.1 t) ∙ c.if-branch.false)) (subst Q c.in-Ok.is c.in_ok-sets.ensures)
+    (λ t. true≢false (sym (c.in_ok-is_set_twice.ensures.1 t) ∙ c.if-is_set_twice.false)) (subst Q c.in-Ok.is c.in_ok-sets.ensures)
     refl refl refl
