@@ -78,7 +78,7 @@ parameters_are lib s i x =
       | Some k ↦ refl
     ]
 
-not_not : (b : Bool) → not (not b) ≡ b
+pub not_not : (b : Bool) → not (not b) ≡ b
 not_not true = refl
 not_not false = refl
 
