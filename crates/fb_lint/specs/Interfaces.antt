@@ -43,11 +43,15 @@ joins kind.EventOutput n c = is_boundary n c.to
 joins kind.Input n c = is_boundary n c.from
 joins kind.Output n c = is_boundary n c.to
 
+-- a port of a composite type, by its name
+abbrev pub unjoined : (block : ℕ) → PortKind → List Connection → ℕ → Name → List Warning
+unjoined b p cs k n = when (not (list_any (joins p n) cs)) (UnusedPort b p k)
+
 abbrev pub unjoined_event : (block : ℕ) → PortKind → List Connection → ℕ → EventPort → List Warning
-unjoined_event b p cs k e = when (not (list_any (joins p e.name) cs)) (UnusedPort b p k)
+unjoined_event b p cs k e = unjoined b p cs k e.name
 
 abbrev pub unjoined_variable : (block : ℕ) → PortKind → List Connection → ℕ → Variable → List Warning
-unjoined_variable b p cs k v = when (not (list_any (joins p v.name) cs)) (UnusedPort b p k)
+unjoined_variable b p cs k v = unjoined b p cs k v.name
 
 abbrev pub unjoined_events : (block : ℕ) → PortKind → List Connection → List EventPort → List Warning
 unjoined_events b p cs es = each_from (unjoined_event b p cs) 0 es

@@ -38,23 +38,13 @@ fn runs_at(states: &[State], algorithm: &Name, state: &Name) -> bool
 }
 
 /// Whether an event that does not sample the variable leads by a transition to a state that runs the algorithm.
-fn leads_unsampled(
-    chart: &Chart,
-    algorithm: &Name,
-    variable: &Name,
-    transition: &Transition,
-) -> bool
-    ensures { result ≡ spec.leads_unsampled chart.now.states.now chart.now.events.now algorithm.now variable.now transition.now }
-{
-    is_unsampled(chart.events, &transition.condition.event, variable)
-        && runs_at(chart.states, algorithm, &transition.to)
-}
-
 fn has_leading(chart: &Chart, transitions: &[Transition], algorithm: &Name, variable: &Name) -> bool
     ensures { result ≡ list_any (spec.leads_unsampled chart.now.states.now chart.now.events.now algorithm.now variable.now) transitions.now }
 {
     for transition in transitions {
-        if leads_unsampled(chart, algorithm, variable, transition) {
+        if is_unsampled(chart.events, &transition.condition.event, variable)
+            && runs_at(chart.states, algorithm, &transition.to)
+        {
             return true;
         }
     }

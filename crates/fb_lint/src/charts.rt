@@ -59,21 +59,15 @@ fn is_met_with(earlier: &Option<Name>, later: &Option<Name>) -> bool
     }
 }
 
-/// Whether an earlier transition leaves the same state and clears whenever the later one would.
-fn shadows(later: &Transition, earlier: &Transition) -> bool
-    ensures { result ≡ spec.shadows later.now earlier.now }
-{
-    later.from.is(&earlier.from)
-        && has_no_guard(&earlier.condition.guard)
-        && is_met_with(&earlier.condition.event, &later.condition.event)
-}
-
-/// Whether one of the earlier transitions does.
+/// Whether one of the earlier transitions leaves the same state and clears whenever the later one would.
 fn is_shadowed(later: &Transition, earlier: &[Transition]) -> bool
     ensures { result ≡ list_any (spec.shadows later.now) earlier.now }
 {
     for entry in earlier {
-        if shadows(later, entry) {
+        if later.from.is(&entry.from)
+            && has_no_guard(&entry.condition.guard)
+            && is_met_with(&entry.condition.event, &later.condition.event)
+        {
             return true;
         }
     }

@@ -2,12 +2,13 @@
 
 ghost use Rattle.std.specs.Prelude.{◌≡◌, ◌++◌, OnOk};
 ghost use Rattle.std.specs.List.{list_any};
+ghost use Rattle.fb_lint.specs.Findings.{each_from};
 ghost use Rattle.fb_lint.specs.Interfaces as spec;
 
 use crate::findings::push_if;
 use crate::names::is_among;
 use crate::warning::Warning;
-use fb_check_names::PortKind;
+use fb_check_names::{Named, PortKind};
 use fb_types::{CompositeType, Connection, EventPort, Name, PortName, Variable};
 use std::alloc::AllocError;
 
@@ -70,40 +71,18 @@ fn is_joined(port_kind: PortKind, name: &Name, connections: &[Connection]) -> bo
     false
 }
 
-/// Adds the events of a composite type that no connection inside names.
-fn push_unjoined_events(
+/// Adds the ports of a composite type, all of one kind, that no connection inside names.
+fn push_unjoined<T: Named>(
     all: &mut Vec<Warning>,
     block: usize,
     port_kind: PortKind,
     connections: &[Connection],
-    events: &[EventPort],
+    ports: &[T],
 ) -> Result<(), AllocError>
-    ensures { OnOk result (all.new.items ≡ all.old.items ++ spec.unjoined_events block port_kind connections.now events.now) }
+    ensures { OnOk result (all.new.items ≡ all.old.items ++ each_from (λ k p. spec.unjoined block port_kind connections.now k (T.called p)) 0 ports.now) }
 {
-    for (port, event) in events.iter().enumerate() {
-        let is_unused = !is_joined(port_kind, &event.name, connections);
-        let warning = Warning::UnusedPort {
-            block,
-            port_kind,
-            port,
-        };
-        push_if(all, is_unused, warning)?;
-    }
-    Ok(())
-}
-
-/// Adds the variables of a composite type that no connection inside names.
-fn push_unjoined_variables(
-    all: &mut Vec<Warning>,
-    block: usize,
-    port_kind: PortKind,
-    connections: &[Connection],
-    variables: &[Variable],
-) -> Result<(), AllocError>
-    ensures { OnOk result (all.new.items ≡ all.old.items ++ spec.unjoined_variables block port_kind connections.now variables.now) }
-{
-    for (port, variable) in variables.iter().enumerate() {
-        let is_unused = !is_joined(port_kind, &variable.name, connections);
+    for (port, each) in ports.iter().enumerate() {
+        let is_unused = !is_joined(port_kind, each.name(), connections);
         let warning = Warning::UnusedPort {
             block,
             port_kind,
@@ -126,11 +105,11 @@ pub(crate) fn push_unjoined_ports(
     let events = composite.network.event_connections.as_slice();
     let data = composite.network.data_connections.as_slice();
     let inputs = ports.event_inputs.as_slice();
-    push_unjoined_events(all, block, PortKind::EventInput, events, inputs)?;
+    push_unjoined(all, block, PortKind::EventInput, events, inputs)?;
     let outputs = ports.event_outputs.as_slice();
-    push_unjoined_events(all, block, PortKind::EventOutput, events, outputs)?;
+    push_unjoined(all, block, PortKind::EventOutput, events, outputs)?;
     let inputs = ports.inputs.as_slice();
-    push_unjoined_variables(all, block, PortKind::Input, data, inputs)?;
+    push_unjoined(all, block, PortKind::Input, data, inputs)?;
     let outputs = ports.outputs.as_slice();
-    push_unjoined_variables(all, block, PortKind::Output, data, outputs)
+    push_unjoined(all, block, PortKind::Output, data, outputs)
 }

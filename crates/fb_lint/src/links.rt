@@ -32,19 +32,14 @@ fn is_end_in(resources: &[ResourceEntry], name: &Name, component: &Option<Name>)
     }
 }
 
-fn crosses(resources: &[ResourceEntry], link: &Link, connection: &Connection) -> bool
-    ensures { result ≡ spec.crosses resources.now link.now connection.now }
-{
-    is_end_in(resources, &link.from, &connection.from.component)
-        && is_end_in(resources, &link.to, &connection.to.component)
-}
-
 /// Whether one of the connections crosses the link.
 fn is_crossed_by(resources: &[ResourceEntry], link: &Link, connections: &[Connection]) -> bool
     ensures { result ≡ list_any (spec.crosses resources.now link.now) connections.now }
 {
     for connection in connections {
-        if crosses(resources, link, connection) {
+        if is_end_in(resources, &link.from, &connection.from.component)
+            && is_end_in(resources, &link.to, &connection.to.component)
+        {
             return true;
         }
     }
