@@ -2,6 +2,19 @@ use Rattle.std.proofs.Common.{map, ◌∙◌}
 use Rattle.fb_types.specs.declared.library.Instance.{Instance}
 use Rattle.fb_check.proofs.mapping_checks.judge_mapping.Goals as goal
 
+pub mapping-requires : goal.mapping-requires
+mapping-requires c = record { passed = c.requires.passed }
+
+pub judge_links-requires : goal.judge_links-requires
+judge_links-requires c = record { mapping = c.in_ok-mapping.ensures.ok; passed = c.in_ok-mapping.ensures.passed }
+
+pub judge_events-requires : goal.judge_events-requires
+judge_events-requires c = record {
+  mapping = c.in_ok-mapping.ensures.ok;
+  resolved = c.requires.resolved;
+  passed = c.in_ok-judge_links.ensures.ok;
+}
+
 pub returns-clause-holders : goal.returns-clause-holders
 returns-clause-holders c =
     c.in_ok-holders.ensures
@@ -9,9 +22,3 @@ returns-clause-holders c =
 
 pub returns-clause-ok : goal.returns-clause-ok
 returns-clause-ok c = c.in_ok-judge_events.ensures.ok
-
-pub judge_links-requires-clause-passed : goal.judge_links-requires-clause-passed
-judge_links-requires-clause-passed c = c.in_ok-mapping.ensures.passed
-
-pub judge_events-requires-clause-passed : goal.judge_events-requires-clause-passed
-judge_events-requires-clause-passed c = c.in_ok-judge_links.ensures.ok
