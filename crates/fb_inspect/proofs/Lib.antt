@@ -31,6 +31,7 @@ pub mod Opened
 pub mod Within
 pub mod Actions
 pub mod Placed
+pub mod Joined
 pub mod MoreSteps
 pub mod MoreReactions
 pub mod OneTaking

@@ -195,8 +195,9 @@ fn perform<R: BufRead>(
     let mut emits = Emits::new(taking.fixed.alloc);
     let end = acted(taking.block, &mut chart.state, meter, action, &mut emits)?;
     note_ran(taking, trail, chart, algorithm, left)?;
-    trail.emit_all(&taking.fixed, taking.line, &mut emits, input)?;
-    Ok(end)
+    trail
+        .emit_all(&taking.fixed, taking.line, &mut emits, input)
+        .and(Ok(end))
 }
 
 /// Performs all actions of the state in which the chart is.

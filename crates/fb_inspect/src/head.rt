@@ -128,10 +128,10 @@ pub(crate) fn put_head(
     requires blocks { AreKept system.now blocks.now (opening_look system.now) }
     ensures { OnOk result (text.new.items ≡ text.old.items ++ state_head system.now) }
 {
-    text.extend_from_slice(b"$timescale 1 ms $end\n")?;
-    put_resources(text, system, firsts)?;
-    text.extend_from_slice(b"$enddefinitions $end\n#0\n$dumpvars\n")?;
-    put_begun(alloc, text, system, firsts)?;
-    put_insides_begun(text, system, blocks)?;
-    text.extend_from_slice(b"$end\n")
+    text.extend_from_slice(b"$timescale 1 ms $end\n")
+        .and(put_resources(text, system, firsts))
+        .and(text.extend_from_slice(b"$enddefinitions $end\n#0\n$dumpvars\n"))
+        .and(put_begun(alloc, text, system, firsts))
+        .and(put_insides_begun(text, system, blocks))
+        .and(text.extend_from_slice(b"$end\n"))
 }

@@ -14,10 +14,10 @@ use std::alloc::AllocError;
 fn put_code(text: &mut Vec<u8>, instance: u32, index: usize) -> Result<(), AllocError>
     ensures { OnOk result (text.new.items ≡ text.old.items ++ spec.internal_code instance index) }
 {
-    text.extend_from_slice(b"i")?;
-    put_decimal(text, u64::from(instance))?;
-    text.extend_from_slice(b"_")?;
-    put_decimal(text, index as u64)
+    text.extend_from_slice(b"i")
+        .and(put_decimal(text, u64::from(instance)))
+        .and(text.extend_from_slice(b"_"))
+        .and(put_decimal(text, index as u64))
 }
 
 /// The front of the declaration of a variable: a truth value is a wire.
@@ -64,18 +64,18 @@ fn put_internals(
 fn put_state_signal(text: &mut Vec<u8>, instance: u32) -> Result<(), AllocError>
     ensures { OnOk result (text.new.items ≡ text.old.items ++ declares (codes "string 1") (spec.state_code instance) (codes "state")) }
 {
-    text.extend_from_slice(b"$var string 1 s")?;
-    put_decimal(text, u64::from(instance))?;
-    text.extend_from_slice(b" state $end\n")
+    text.extend_from_slice(b"$var string 1 s")
+        .and(put_decimal(text, u64::from(instance)))
+        .and(text.extend_from_slice(b" state $end\n"))
 }
 
 /// Declares the signal of lost events.
 fn put_lost_signal(text: &mut Vec<u8>, instance: u32) -> Result<(), AllocError>
     ensures { OnOk result (text.new.items ≡ text.old.items ++ declares (codes "event 1") (spec.lost_code instance) (codes "lost")) }
 {
-    text.extend_from_slice(b"$var event 1 l")?;
-    put_decimal(text, u64::from(instance))?;
-    text.extend_from_slice(b" lost $end\n")
+    text.extend_from_slice(b"$var event 1 l")
+        .and(put_decimal(text, u64::from(instance)))
+        .and(text.extend_from_slice(b" lost $end\n"))
 }
 
 /// Declares the signals of an instance of a basic type.

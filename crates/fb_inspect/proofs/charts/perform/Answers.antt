@@ -1,6 +1,5 @@
 use Rattle.std.proofs.Common.{◌++◌, ℕ, List, [], ◌∷◌, length, map, Option, refl, sym, ◌∙◌, ap, subst}
 use Rattle.std.proofs.lemmas.List.{length-map}
-use Rattle.std.proofs.lemmas.Result.{err_from_is_err_and}
 use Rattle.fb_types.specs.Charts.{Acts, Position}
 use Rattle.fb_types.specs.Names.{Name}
 use Rattle.fb_types.specs.Numbers.{emission_of, path_at, ports_at}
@@ -18,7 +17,8 @@ use Rattle.fb_inspect.proofs.Charted.{act_goes}
 use Rattle.fb_inspect.specs.Chains.{Acting}
 use Rattle.fb_inspect.specs.Refusals.{ChartFails, EmitsFail, IsPlainLine}
 use Rattle.fb_inspect.proofs.ChartFailing.{act_fails, emitted_fails, fit_chart}
-use Rattle.fb_inspect.proofs.Refused.{err_passed, none_passed}
+use Rattle.fb_inspect.proofs.Joined.{err_joined, ok_joined, ok_passed, on_any, on_joined}
+use Rattle.fb_inspect.proofs.Refused.{err_refused, none_passed}
 use Rattle.fb_inspect.proofs.charts.perform.Goals as goal
 
 pub note_ran-requires : goal.note_ran-requires
@@ -46,16 +46,18 @@ returns-clause-shown g c = λ a at.
     let trail : Trail = c.args.trail.now in
     let noted = c.in_ok-note_ran.ensures.noted before (λ some. c.in_ok-keep_before.ensures some ∙ ap (λ (ns : List Name). map before ns) c.as_slice-variables.ensures.value) in
     let named = c.algorithm_of-algorithm.ensures a at in
+    ok_joined c.and.result c.emit_all.result _ _ _ c.and.ensures c.emit_all.ensures.goes
+    (λ goes.
     act_goes x t a p q c.acted.new.emits _ trail c.note_ran.new.trail _ _ _ c.requires.taking.kind refl refl acts noted.aside
     (noted.marked ∙ ap (λ (n : Option Name). with_ran_by t x.number n left trail.marks.charts) named)
-    c.in_ok-emit_all.ensures.charts (ap (λ (r : Reading). r.line.items) c.in_ok-note_ran.ensures.reading)
+    c.emit_all.ensures.charts (ap (λ (r : Reading). r.line.items) c.in_ok-note_ran.ensures.reading)
     (noted.added
     ∙ ap (λ (n : Option Name). trail.page.text.items ++ shown_text trail.is_shown (ran_by_action n left before after own)) named
     ∙ ap (λ (ns : List Name). trail.page.text.items ++ shown_text trail.is_shown (ran_by_action a.algorithm left before after ns)) c.requires.chart.own)
-    c.in_ok-emit_all.ensures.goes
+    goes)
 
-pub returns-in_err-emit_all-clause-refused : goal.returns-in_err-emit_all-clause-refused
-returns-in_err-emit_all-clause-refused g c = λ a others at names plain.
+pub returns-clause-refused : goal.returns-clause-refused
+returns-clause-refused g c = λ a others at names plain.
     let x = c.args.taking.now in
     let t = x.block.now in
     let left : ℕ = c.args.meter.now.left in
@@ -67,21 +69,22 @@ returns-in_err-emit_all-clause-refused g c = λ a others at names plain.
     let before = g.R.Read.remaining c.args.input.now in
     let after = g.R.Read.remaining c.emit_all.new.input in
     let own : IsPlainLine (sys_of x) x.fixed.form x.line.now = record { names = names; line = c.requires.taking.line; plain = plain } in
-    err_passed _ _
+    err_joined c.and.result c.emit_all.result _ _ c.and.ensures
+    (err_refused c.emit_all.result
     (λ n. EmitsFail (sys_of x) x.fixed.form x.line.now (map (emission_of (ports_at (sys_of x) (path_at (sys_of x) x.line.now.instance))) es) c.note_ran.new.trail.reading c.emit_all.new.self.reading before after n)
-    (λ n. ChartFails x (Acting t (a ∷ others)) p c.args.trail.now.reading c.emit_all.new.self.reading before after n) c.from_residual-in_err-emit_all.ensures.1
-    (c.in_err-emit_all.ensures.refused own (fit_chart x t es c.requires.taking.kind (c.in_ok-end.ensures.fit c.new-emits.ensures)))
+    (λ n. ChartFails x (Acting t (a ∷ others)) p c.args.trail.now.reading c.emit_all.new.self.reading before after n)
+    (c.emit_all.ensures.refused own (fit_chart x t es c.requires.taking.kind (c.in_ok-end.ensures.fit c.new-emits.ensures)))
     (λ n fails. act_fails x t a others p q c.in_ok-end.end c.args.trail.now.reading c.emit_all.new.self.reading before after n refl acts
     (emitted_fails x t es c.args.trail.now.reading c.emit_all.new.self.reading before after n c.requires.taking.kind
     (subst (λ (r : Reading). EmitsFail (sys_of x) x.fixed.form x.line.now (map (emission_of (ports_at (sys_of x) (path_at (sys_of x) x.line.now.instance))) es) r c.emit_all.new.self.reading before after n)
-    c.in_ok-note_ran.ensures.reading fails)))
+    c.in_ok-note_ran.ensures.reading fails))))
 
 pub returns-in_err-end-clause-refused : goal.returns-in_err-end-clause-refused
 returns-in_err-end-clause-refused g c = λ a others at names plain.
     none_passed _ _ _ c.from_residual-in_err-end.ensures.1 c.in_err-end.ensures.fault
 
 pub returns-clause-chart : goal.returns-clause-chart
-returns-clause-chart g c = record { block = c.acted.ensures.block; own = c.requires.chart.own }
+returns-clause-chart g c = on_any c.and.result _ (record { block = c.acted.ensures.block; own = c.requires.chart.own })
 
 pub returns-clause-state : goal.returns-clause-state
 returns-clause-state g c = c.acted.ensures.state
@@ -90,46 +93,37 @@ pub returns-clause-fewer : goal.returns-clause-fewer
 returns-clause-fewer g c = c.acted.ensures.fewer
 
 pub returns-clause-next : goal.returns-clause-next
-returns-clause-next g c = c.in_ok-emit_all.ensures.next
+returns-clause-next g c = on_joined c.and.result c.emit_all.result _ _ c.and.ensures c.emit_all.ensures.next
 
 pub returns-in_err-keep_before-clause-chart : goal.returns-in_err-keep_before-clause-chart
-returns-in_err-keep_before-clause-chart g c = let q = err_from_is_err_and c.from_residual.result c.from_residual.ensures.1 in rw q.1 tt
+returns-in_err-keep_before-clause-chart g c = ok_passed c.from_residual.result _ _ c.from_residual.ensures.1
 
 pub returns-in_err-keep_before-clause-next : goal.returns-in_err-keep_before-clause-next
-returns-in_err-keep_before-clause-next g c = let q = err_from_is_err_and c.from_residual.result c.from_residual.ensures.1 in rw q.1 tt
+returns-in_err-keep_before-clause-next g c = ok_passed c.from_residual.result _ _ c.from_residual.ensures.1
 
 pub returns-in_err-keep_before-clause-shown : goal.returns-in_err-keep_before-clause-shown
-returns-in_err-keep_before-clause-shown g c = λ a at. let q = err_from_is_err_and c.from_residual.result c.from_residual.ensures.1 in rw q.1 tt
+returns-in_err-keep_before-clause-shown g c = λ a at. ok_passed c.from_residual.result _ _ c.from_residual.ensures.1
 
 pub returns-in_err-keep_before-clause-refused : goal.returns-in_err-keep_before-clause-refused
 returns-in_err-keep_before-clause-refused g c = λ a others at names plain. none_passed _ _ _ c.from_residual.ensures.1 tt
 
 pub returns-in_err-end-clause-chart : goal.returns-in_err-end-clause-chart
-returns-in_err-end-clause-chart g c = let q = err_from_is_err_and c.from_residual-in_err-end.result c.from_residual-in_err-end.ensures.1 in rw q.1 tt
+returns-in_err-end-clause-chart g c = ok_passed c.from_residual-in_err-end.result _ _ c.from_residual-in_err-end.ensures.1
 
 pub returns-in_err-end-clause-next : goal.returns-in_err-end-clause-next
-returns-in_err-end-clause-next g c = let q = err_from_is_err_and c.from_residual-in_err-end.result c.from_residual-in_err-end.ensures.1 in rw q.1 tt
+returns-in_err-end-clause-next g c = ok_passed c.from_residual-in_err-end.result _ _ c.from_residual-in_err-end.ensures.1
 
 pub returns-in_err-end-clause-shown : goal.returns-in_err-end-clause-shown
-returns-in_err-end-clause-shown g c = λ a at. let q = err_from_is_err_and c.from_residual-in_err-end.result c.from_residual-in_err-end.ensures.1 in rw q.1 tt
+returns-in_err-end-clause-shown g c = λ a at. ok_passed c.from_residual-in_err-end.result _ _ c.from_residual-in_err-end.ensures.1
 
 pub returns-in_err-note_ran-clause-chart : goal.returns-in_err-note_ran-clause-chart
-returns-in_err-note_ran-clause-chart g c = let q = err_from_is_err_and c.from_residual-in_err-note_ran.result c.from_residual-in_err-note_ran.ensures.1 in rw q.1 tt
+returns-in_err-note_ran-clause-chart g c = ok_passed c.from_residual-in_err-note_ran.result _ _ c.from_residual-in_err-note_ran.ensures.1
 
 pub returns-in_err-note_ran-clause-next : goal.returns-in_err-note_ran-clause-next
-returns-in_err-note_ran-clause-next g c = let q = err_from_is_err_and c.from_residual-in_err-note_ran.result c.from_residual-in_err-note_ran.ensures.1 in rw q.1 tt
+returns-in_err-note_ran-clause-next g c = ok_passed c.from_residual-in_err-note_ran.result _ _ c.from_residual-in_err-note_ran.ensures.1
 
 pub returns-in_err-note_ran-clause-shown : goal.returns-in_err-note_ran-clause-shown
-returns-in_err-note_ran-clause-shown g c = λ a at. let q = err_from_is_err_and c.from_residual-in_err-note_ran.result c.from_residual-in_err-note_ran.ensures.1 in rw q.1 tt
+returns-in_err-note_ran-clause-shown g c = λ a at. ok_passed c.from_residual-in_err-note_ran.result _ _ c.from_residual-in_err-note_ran.ensures.1
 
 pub returns-in_err-note_ran-clause-refused : goal.returns-in_err-note_ran-clause-refused
 returns-in_err-note_ran-clause-refused g c = λ a others at names plain. none_passed _ _ _ c.from_residual-in_err-note_ran.ensures.1 tt
-
-pub returns-in_err-emit_all-clause-chart : goal.returns-in_err-emit_all-clause-chart
-returns-in_err-emit_all-clause-chart g c = let q = err_from_is_err_and c.from_residual-in_err-emit_all.result c.from_residual-in_err-emit_all.ensures.1 in rw q.1 tt
-
-pub returns-in_err-emit_all-clause-next : goal.returns-in_err-emit_all-clause-next
-returns-in_err-emit_all-clause-next g c = let q = err_from_is_err_and c.from_residual-in_err-emit_all.result c.from_residual-in_err-emit_all.ensures.1 in rw q.1 tt
-
-pub returns-in_err-emit_all-clause-shown : goal.returns-in_err-emit_all-clause-shown
-returns-in_err-emit_all-clause-shown g c = λ a at. let q = err_from_is_err_and c.from_residual-in_err-emit_all.result c.from_residual-in_err-emit_all.ensures.1 in rw q.1 tt

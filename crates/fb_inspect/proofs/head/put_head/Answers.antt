@@ -1,9 +1,10 @@
-use Rattle.std.proofs.Common.{◌≡◌, ℕ, List, ◌++◌, codes, ap, ◌∙◌, append_assoc, true}
+use Rattle.std.proofs.Common.{◌≡◌, ℕ, List, ◌++◌, codes, ◌∙◌, append_assoc, true}
 use Rattle.fb_types.specs.Headline.{system_of}
 use Rattle.fb_wave.specs.Changes.{line}
 use Rattle.fb_wave.specs.Scopes.{instances_begun}
-use Rattle.fb_wave.proofs.Handing.{on_put}
+use Rattle.fb_wave.proofs.Handing.{on_ok, on_put}
 use Rattle.fb_inspect.specs.Heads.{insides_begun, resources_opened}
+use Rattle.fb_inspect.proofs.Joined.{both_put}
 use Rattle.fb_inspect.proofs.head.put_head.Goals as goal
 
 regroup : (t s r d z v g i e : List ℕ) → (((((t ++ s) ++ r) ++ (d ++ (z ++ v))) ++ g) ++ i) ++ e ≡ t ++ (((((((s ++ r) ++ d) ++ z) ++ v) ++ g) ++ i) ++ e)
@@ -16,15 +17,15 @@ returns c =
     let scopes : List ℕ = resources_opened true sys 0 sys.resource_names in
     let begun : List ℕ = instances_begun sys 0 sys.paths in
     let insides : List ℕ = insides_begun true sys sys.paths in
-    on_put c.extend_from_slice-3.result _ _ _ _ c.extend_from_slice-3.ensures.items
-    (λ e.
-    e
-    ∙ ap (λ (t : List ℕ). t ++ line (codes "$end"))
-    (c.in_ok-put_insides_begun.ensures
-    ∙ ap (λ (t : List ℕ). t ++ insides)
-    (c.in_ok-put_begun.ensures
-    ∙ ap (λ (t : List ℕ). t ++ begun)
-    (c.in_ok-extend_from_slice-2.ensures.items
-    ∙ ap (λ (t : List ℕ). t ++ codes "$enddefinitions $end\n#0\n$dumpvars\n")
-    (c.in_ok-put_resources.ensures ∙ ap (λ (t : List ℕ). t ++ scopes) c.in_ok-extend_from_slice.ensures.items))))
-    ∙ regroup text (line (codes "$timescale 1 ms $end")) scopes (line (codes "$enddefinitions $end")) (line (codes "#0")) (line (codes "$dumpvars")) begun insides (line (codes "$end")))
+    let first = on_put c.extend_from_slice.result _ _ _ _ c.extend_from_slice.ensures.items (λ e. e) in
+    let second = on_put c.extend_from_slice-2.result _ _ _ _ c.extend_from_slice-2.ensures.items (λ e. e) in
+    let third = on_put c.extend_from_slice-3.result _ _ _ _ c.extend_from_slice-3.ensures.items (λ e. e) in
+    on_ok c.and-5.result _ _
+    (both_put c.and-5.result c.and-4.result c.extend_from_slice-3.result _ _ _ _ c.and-5.ensures
+    (both_put c.and-4.result c.and-3.result c.put_insides_begun.result _ _ _ insides c.and-4.ensures
+    (both_put c.and-3.result c.and-2.result c.put_begun.result _ _ _ begun c.and-3.ensures
+    (both_put c.and-2.result c.and.result c.extend_from_slice-2.result _ _ _ _ c.and-2.ensures
+    (both_put c.and.result c.extend_from_slice.result c.put_resources.result _ _ _ scopes c.and.ensures first c.put_resources.ensures) second) c.put_begun.ensures)
+    c.put_insides_begun.ensures)
+    third)
+    (λ e. e ∙ regroup text (line (codes "$timescale 1 ms $end")) scopes (line (codes "$enddefinitions $end")) (line (codes "#0")) (line (codes "$dumpvars")) begun insides (line (codes "$end")))
