@@ -34,7 +34,7 @@ pub(crate) struct Inside<'a> {
 }
 
 /// The basic block at a number, if there is one.
-fn chart_at(blocks: &[Remembered], instance: u32) -> Option<&Chart>
+pub(crate) fn chart_at(blocks: &[Remembered], instance: u32) -> Option<&Chart>
     ensures some { IfSome result (λ c. slice_get blocks.now instance ≡ Some (kept.Basic c.now)) }
     ensures none { IfNone result ((c : Chart) → slice_get blocks.now instance ≡ Some (kept.Basic c) → ⊥) }
 {

@@ -222,8 +222,7 @@ fn go_through<R: BufRead, W: Write>(
         → IfErr result (OfRefusal (λ n. of_walk.IsWrongAt fixed.now terms.steps n text)) }
 {
     if is_severed(terms.cut, walk.trail.reading.line.as_slice()) {
-        walk.finish_cut(out)?;
-        return Ok(Extent::CutOff);
+        return walk.finish_cut(out).and(Ok(Extent::CutOff));
     }
     let mut ahead = Ahead::new(fixed.alloc, fixed.table)?;
     let gone = walk.go(fixed, terms, &mut ahead, input, out);

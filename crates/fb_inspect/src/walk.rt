@@ -25,6 +25,7 @@ ghost use Rattle.fb_inspect.specs.declared.blocks.Remembered.TheVariants as kept
 ghost use Rattle.fb_inspect.specs.OfWalk.{AreAhead, AreApart, AreKept, BeginsText, CanReact, FailsAt, GoesAfter, HasAdvanced, HasCovered, HasLook, HasNames, IsCoveredBy, IsKeptAt, IsLineOf, IsNear, IsNext, IsNextLine, IsNotNear, IsShownBy, IsTextOf, IsWrongAt, KeptGoes, LineGoes, LooksAs, ReactGoes, ShowsFront, StandsAfter, StandsAt, StandsWell, Starts, StepGoes, TakingFails, WalkTakes, Watches, resource_count};
 
 use crate::ahead::Ahead;
+use crate::before::chart_at;
 use crate::blocks::{Chart, EventBlock, Remembered, basic_type, type_number};
 use crate::charts::{ChartTaking, react_chart};
 use crate::error::InspectError;
@@ -144,14 +145,8 @@ fn react_kept<R: BufRead>(
 {
     match block {
         Remembered::Basic(chart) => react_basic(fixed, trail, chart, meter, line, input),
-        Remembered::Event(block) => {
-            react_event(fixed, trail, block, line, input)?;
-            Ok(None)
-        }
-        Remembered::Composite => {
-            trail.pass(fixed, line, input)?;
-            Ok(None)
-        }
+        Remembered::Event(block) => react_event(fixed, trail, block, line, input).and(Ok(None)),
+        Remembered::Composite => trail.pass(fixed, line, input).and(Ok(None)),
     }
 }
 
@@ -281,9 +276,9 @@ impl Walk {
             unreachable!()
         };
         let trail = &mut self.trail;
-        let stop = react_kept(fixed, trail, block, &mut steps.meter, line, input)?;
+        let stop = react_kept(fixed, trail, block, &mut steps.meter, line, input);
         steps.settle();
-        Ok(stop)
+        stop
     }
 
     /// Takes the event of the next line. Answers the reason that stops the resource, if one does.
@@ -346,7 +341,7 @@ impl Walk {
         ensures over { (sys : System) (look : Look) → IsLookOf sys self.now.blocks.items self.now.steps.items look → IsTrue result → (resource < length sys.resource_names) × (most ≤ (look.steps resource).least + steps → ⊥) }
         ensures kept { (sys : System) (look : Look) → IsLookOf sys self.now.blocks.items self.now.steps.items look → result ≡ false → resource < length sys.resource_names → most ≤ (look.steps resource).least + steps }
     {
-        match self.steps.get(resource as usize) {
+        match self.steps.as_slice().get(resource as usize) {
             Some(own) => !own.keeps(steps),
             None => false,
         }
@@ -394,7 +389,7 @@ impl Walk {
         ensures used { (sys : System) (look : Look) → IsLookOf sys self.now.blocks.items self.now.steps.items look → IsTrue result → left_at limit tick (look.steps resource) ≡ 0 }
         ensures other { (sys : System) (look : Look) → IsLookOf sys self.now.blocks.items self.now.steps.items look → resource < length sys.resource_names → result ≡ false → left_at limit tick (look.steps resource) ≡ 0 → ⊥ }
     {
-        match self.steps.get(resource as usize) {
+        match self.steps.as_slice().get(resource as usize) {
             Some(steps) => steps.left_at(limit, tick) == 0,
             None => false,
         }
@@ -420,10 +415,7 @@ impl Walk {
     fn is_basic(&self, instance: u32) -> bool
         ensures { result ≡ spec.keeps_chart (slice_get self.now.blocks.items instance) }
     {
-        match self.blocks.get(instance as usize) {
-            Some(Remembered::Basic(_)) => true,
-            Some(Remembered::Event(_) | Remembered::Composite) | None => false,
-        }
+        chart_at(self.blocks.as_slice(), instance).is_some()
     }
 
     /// Whether the taking of the event of a line may end by its steps: the line that was read ahead is that of such a
@@ -583,7 +575,7 @@ impl Walk {
             → (stop ≡ Some Reason.Steps) ⊎ ((stop ≡ None) × (left_at limit key.now.tick (look.steps key.now.resource) ≡ 0)) }
     {
         match stop {
-            Some(reason) => reason == Reason::Steps,
+            Some(reason) => is_for_steps(reason),
             None => self.is_used_up(limit, key.tick, key.resource),
         }
     }
@@ -736,13 +728,9 @@ impl Walk {
             match self.step(fixed, terms, ahead, input)? {
                 Step::Taken => self.trail.page.flush_much(out)?,
                 Step::Ended(_) => {
-                    self.finish(ahead, input, out)?;
-                    return Ok(Extent::Whole);
+                    return self.finish(ahead, input, out).and(Ok(Extent::Whole));
                 }
-                Step::CutOff => {
-                    self.finish_cut(out)?;
-                    return Ok(Extent::CutOff);
-                }
+                Step::CutOff => return self.finish_cut(out).and(Ok(Extent::CutOff)),
             }
         }
         Err(InspectError::Read)

@@ -1,14 +1,15 @@
 use Rattle.std.proofs.Common.{◌≡◌, List, ℕ, Bool, true, refl, sym, subst}
 use Rattle.std.specs.Prelude.{IfSome}
-use Rattle.std.proofs.lemmas.Result.{err_from_is_err_and}
 use Rattle.fb_types.specs.Headline.{system_of}
 use Rattle.fb_coverage.specs.declared.marks.Marks.{Marks}
 use Rattle.fb_wave.specs.CutOff.{is_unended}
 use Rattle.fb_inspect.specs.Covering.{IsCoveredBy, IsCutCovered}
 use Rattle.fb_inspect.specs.Standing.{BeginsText}
 use Rattle.fb_inspect.proofs.Ended.{front_none, severed_covered, severed_none, severed_part, severed_shown, shown_cut}
-use Rattle.fb_inspect.proofs.Placed.{err_any, ok_then}
-use Rattle.fb_inspect.proofs.Refused.{none_refused}
+use Rattle.fb_wave.proofs.Handing.{on_ok}
+use Rattle.fb_inspect.proofs.Joined.{err_joined, fails_joined, ok_joined, ok_passed, on_joined}
+use Rattle.fb_inspect.proofs.Placed.{err_any, err_then, ok_then}
+use Rattle.fb_inspect.proofs.Refused.{err_none, none_passed}
 use Rattle.fb_inspect.proofs.Severing.{on_some}
 use Rattle.fb_inspect.proofs.insides.go_through.Goals as goal
 
@@ -22,8 +23,11 @@ returns-then-is_severed-clause-whole g c = λ only known starts read one.
     let walk = c.args.walk.now in
     let short = subst (λ (l : List ℕ). is_unended l ≡ true) c.as_slice.ensures.value (c.is_severed.ensures.line c.if-is_severed.true) in
     let severed = severed_none i fixed.form only steps walk.trail.marks walk walk.trail.reading.line.items known (g.R.Read.remaining c.args.input.now) old starts.empty read one short refl in
+    on_joined c.and.result c.finish_cut.result _ _ c.and.ensures
+    (on_ok c.finish_cut.result _ _ c.finish_cut.ensures.finishes
+    (λ finishes.
     shown_cut c.args.terms.cut (system_of i) only steps known old new (c.is_severed.ensures.cut c.if-is_severed.true)
-    (severed_shown i fixed.form only steps walk.trail.marks walk known old old severed new c.in_ok-finish_cut.ensures.finishes)
+    (severed_shown i fixed.form only steps walk.trail.marks walk known old old severed new finishes)))
 
 pub returns-then-is_severed-clause-covered : goal.returns-then-is_severed-clause-covered
 returns-then-is_severed-clause-covered g c = λ only known starts read one.
@@ -37,10 +41,10 @@ returns-then-is_severed-clause-covered g c = λ only known starts read one.
     let severed = severed_none i fixed.form only steps walk.trail.marks walk walk.trail.reading.line.items known (g.R.Read.remaining c.args.input.now) old starts.empty read one short refl in
     let covered = subst (λ (m : Marks). IfSome known (λ text. IsCutCovered i only text walk.trail.marks m)) (sym c.finish_cut.ensures.marks)
     (severed_covered i fixed.form only steps walk.trail.marks walk known old old severed) in
-    on_some known _ _ covered (λ text is. (allowed, is))
+    ok_joined c.and.result c.finish_cut.result _ _ _ c.and.ensures c.finish_cut.ensures.finishes (λ finishes. on_some known _ _ covered (λ text is. (allowed, is)))
 
-pub returns-in_err-finish_cut-clause-fault : goal.returns-in_err-finish_cut-clause-fault
-returns-in_err-finish_cut-clause-fault g c = λ only known starts read one.
+pub returns-then-is_severed-clause-fault : goal.returns-then-is_severed-clause-fault
+returns-then-is_severed-clause-fault g c = λ only known starts read one.
     let fixed = c.args.fixed.now in
     let i = fixed.table.now.system.now in
     let steps = c.args.terms.steps in
@@ -48,15 +52,17 @@ returns-in_err-finish_cut-clause-fault g c = λ only known starts read one.
     let walk = c.args.walk.now in
     let short = subst (λ (l : List ℕ). is_unended l ≡ true) c.as_slice.ensures.value (c.is_severed.ensures.line c.if-is_severed.true) in
     let severed = severed_none i fixed.form only steps walk.trail.marks walk walk.trail.reading.line.items known (g.R.Read.remaining c.args.input.now) old starts.empty read one short refl in
-    err_any c.from_residual.result _ (severed_part i fixed.form only steps walk.trail.marks walk known old old severed (g.W.Write.contents c.finish_cut.new.out) c.in_err-finish_cut.ensures.fault)
+    fails_joined c.and.result c.finish_cut.result _ _ c.and.ensures
+    (err_then c.finish_cut.result _ _ c.finish_cut.ensures.fault
+    (λ part. severed_part i fixed.form only steps walk.trail.marks walk known old old severed (g.W.Write.contents c.finish_cut.new.out) part))
 
-pub returns-in_err-finish_cut-clause-refused : goal.returns-in_err-finish_cut-clause-refused
-returns-in_err-finish_cut-clause-refused g c = λ only rest text few names starts known begins.
-    let q = err_from_is_err_and c.from_residual.result c.from_residual.ensures.1 in rw (q.1, q.2) (none_refused _ _ c.in_err-finish_cut.ensures.none)
+pub returns-then-is_severed-clause-refused : goal.returns-then-is_severed-clause-refused
+returns-then-is_severed-clause-refused g c = λ only rest text few names starts known begins.
+    err_joined c.and.result c.finish_cut.result _ _ c.and.ensures (err_none c.finish_cut.result _ c.finish_cut.ensures.none)
 
 pub returns-in_err-ahead-clause-fault : goal.returns-in_err-ahead-clause-fault
 returns-in_err-ahead-clause-fault g c = λ only known starts read one.
-    err_any c.from_residual-in_err-ahead.result _ (front_none (system_of c.args.fixed.now.table.now.system.now) only c.args.terms.steps (g.W.Write.contents c.args.out.now))
+    err_any c.from_residual.result _ (front_none (system_of c.args.fixed.now.table.now.system.now) only c.args.terms.steps (g.W.Write.contents c.args.out.now))
 
 pub returns-clause-whole : goal.returns-clause-whole
 returns-clause-whole g c = λ only known starts read one. c.go-gone.ensures.whole only known starts read
@@ -76,3 +82,12 @@ returns-clause-refused g c = λ only rest text few names starts known begins.
     let fixed = c.args.fixed.now in
     c.go-gone.ensures.refused only rest text few names starts known
     (subst (λ (e : Bool). BeginsText (system_of fixed.table.now.system.now) fixed.form c.args.walk.now.trail.reading.line.items e rest text) (sym c.in_ok-ahead.ensures.watched) begins)
+
+pub returns-in_err-ahead-clause-whole : goal.returns-in_err-ahead-clause-whole
+returns-in_err-ahead-clause-whole g c = λ _ _ _ _ _. ok_passed c.from_residual.result _ _ c.from_residual.ensures.1
+
+pub returns-in_err-ahead-clause-covered : goal.returns-in_err-ahead-clause-covered
+returns-in_err-ahead-clause-covered g c = λ _ _ _ _ _. ok_passed c.from_residual.result _ _ c.from_residual.ensures.1
+
+pub returns-in_err-ahead-clause-refused : goal.returns-in_err-ahead-clause-refused
+returns-in_err-ahead-clause-refused g c = λ _ _ _ _ _ _ _ _. none_passed _ _ _ c.from_residual.ensures.1 tt

@@ -10,9 +10,11 @@ use Rattle.fb_inspect.specs.Chains.{ShowsReaction}
 use Rattle.fb_inspect.specs.Looks.{IsTakingAt}
 use Rattle.fb_inspect.specs.Refusals.{ChartFails, FailsBy}
 use Rattle.fb_inspect.proofs.Failed.{chart_fails, untaken_chart}
+use Rattle.fb_inspect.proofs.Near.{basic_kept}
 use Rattle.fb_inspect.proofs.Errors.{of_number}
 use Rattle.fb_inspect.proofs.Refused.{err_refused, none_refused, reads_of}
 use Rattle.fb_inspect.proofs.Walked.{begun}
+use Rattle.fb_inspect.proofs.Joined.{ok_passed}
 use Rattle.fb_inspect.proofs.walk.react_basic.Goals as goal
 
 pub returns-clause-goes : goal.returns-clause-goes
@@ -68,3 +70,44 @@ returns-clause-refused g c = λ look names plain kept.
     inr
     (chart_fails x look chart chart left 0 old.reading mid.reading new before between after n taking is
     (reads_of sys form l.key.tick (l ∷ []) _ old mid before between c.in_ok-pass.ensures.goes c.in_ok-pass.ensures.alone) fails))
+
+pub basic_type-requires : goal.basic_type-requires
+basic_type-requires g c = c.requires.is.line.belongs.instance
+
+pub unreachable-requires : goal.unreachable-requires
+unreachable-requires g c =
+    let sys = system_of c.args.fixed.now.table.now.system.now in
+    let basic = basic_kept (sys.kind (path_at sys c.args.line.now.instance)) c.args.chart.now c.requires.seen c.requires.kept in
+    c.in_default.ensures.other basic.0 basic.1
+
+pub pass-requires : goal.pass-requires
+pass-requires g c = c.requires.is
+
+pub type_number-number-requires : goal.type_number-number-requires
+type_number-number-requires g c = c.requires.is.line.belongs.instance
+
+pub react_chart-requires-clause-taking : goal.react_chart-requires-clause-taking
+react_chart-requires-clause-taking g c =
+    let sys = system_of c.args.fixed.now.table.now.system.now in
+    let p = path_at sys c.args.line.now.instance in
+    let x : ChartTaking = record { fixed = c.args.fixed.now; block = c.in-Some.block; number = c.type_number-number.result; line = c.args.line } in
+    let is = chart_kept_at (sys.kind p) c.in-Some.block.now c.args.chart.now c.requires.seen c.in-Some.ensures.basic c.requires.kept in
+    chart_taking x c.requires.is.line c.if-not-line.false c.in-Some.ensures.basic is.sound (c.type_number-number.ensures c.in-Some.block.now c.in-Some.ensures.basic)
+
+pub react_chart-requires-clause-chart : goal.react_chart-requires-clause-chart
+react_chart-requires-clause-chart g c =
+    let sys = system_of c.args.fixed.now.table.now.system.now in
+    let p = path_at sys c.args.line.now.instance in
+    (chart_kept_at (sys.kind p) c.in-Some.block.now c.args.chart.now c.requires.seen c.in-Some.ensures.basic c.requires.kept).chart
+
+pub react_chart-requires-clause-next : goal.react_chart-requires-clause-next
+react_chart-requires-clause-next g c = c.in_ok-pass.ensures.next
+
+pub returns-clause-next : goal.returns-clause-next
+returns-clause-next g c = c.react_chart.ensures.next
+
+pub returns-in_err-pass-clause-goes : goal.returns-in_err-pass-clause-goes
+returns-in_err-pass-clause-goes g c = λ _ _. ok_passed c.from_residual.result _ _ c.from_residual.ensures.1
+
+pub returns-in_err-pass-clause-next : goal.returns-in_err-pass-clause-next
+returns-in_err-pass-clause-next g c = ok_passed c.from_residual.result _ _ c.from_residual.ensures.1

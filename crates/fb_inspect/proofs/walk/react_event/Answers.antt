@@ -10,6 +10,7 @@ use Rattle.fb_inspect.specs.Refusals.{EmitsFail, FailsBy, IsNotDue}
 use Rattle.fb_inspect.specs.Timing.{taken_reaction}
 use Rattle.fb_inspect.proofs.Failed.{block_fails, not_due}
 use Rattle.fb_inspect.proofs.Refused.{err_refused, none_refused, reads_of}
+use Rattle.fb_inspect.proofs.Joined.{ok_passed}
 use Rattle.fb_inspect.proofs.walk.react_event.Goals as goal
 
 pub expire_block-requires-clause-line : goal.expire_block-requires-clause-line
@@ -85,3 +86,21 @@ returns-clause-refused g c = λ look left names plain kept.
     inr
     (block_fails sys form look left l b.state.kind old.reading mid.reading new before between after n line.kind c.if-not-line.false
     (reads_of sys form l.key.tick (l ∷ []) _ old mid before between c.in_ok-pass.ensures.goes c.in_ok-pass.ensures.alone) fails))
+
+pub returns-in_err-pass-clause-goes : goal.returns-in_err-pass-clause-goes
+returns-in_err-pass-clause-goes g c = λ _ _ _. ok_passed c.from_residual.result _ _ c.from_residual.ensures.1
+
+pub returns-in_err-pass-clause-next : goal.returns-in_err-pass-clause-next
+returns-in_err-pass-clause-next g c = ok_passed c.from_residual.result _ _ c.from_residual.ensures.1
+
+pub pass-requires : goal.pass-requires
+pass-requires g c = c.requires.is
+
+pub expire_block-requires-clause-text : goal.expire_block-requires-clause-text
+expire_block-requires-clause-text g c = c.requires.is
+
+pub returns-then-not-line-clause-next : goal.returns-then-not-line-clause-next
+returns-then-not-line-clause-next g c = c.expire_block.ensures.next
+
+pub returns-clause-next : goal.returns-clause-next
+returns-clause-next g c = c.react_block.ensures.next

@@ -10,7 +10,8 @@ use Rattle.fb_inspect.specs.declared.walk.Step.{Step}
 use Rattle.fb_wave.specs.Dumps.{last_tick}
 use Rattle.fb_inspect.proofs.Ended.{complete_covered, complete_part, complete_shown, front_flush, front_gone, severed_covered, severed_part, severed_shown, shown_cut, shown_whole, some_text}
 use Rattle.fb_inspect.proofs.Gone.{covered_none, flushed_on}
-use Rattle.fb_inspect.proofs.Placed.{err_any}
+use Rattle.fb_inspect.proofs.Joined.{err_joined, fails_joined, ok_joined, ok_passed, on_joined}
+use Rattle.fb_inspect.proofs.Placed.{err_any, err_then}
 use Rattle.fb_inspect.proofs.Severing.{on_some}
 use Rattle.fb_inspect.proofs.Stepped.{none_ahead}
 use Rattle.std.proofs.Common.{◌≡◌, Ok, Some}
@@ -19,7 +20,8 @@ use Rattle.std.proofs.lemmas.Result.{err_from_is_err_and}
 use Rattle.fb_inspect.specs.Refusals.{IsWrongAt, IsWrongLine}
 use Rattle.fb_inspect.specs.Standing.{GoesAfter}
 use Rattle.fb_inspect.proofs.Going.{after_last, cut_short_none, well_first, well_flushed}
-use Rattle.fb_inspect.proofs.Refused.{none_refused, refused_then}
+use Rattle.fb_wave.proofs.Handing.{on_ok}
+use Rattle.fb_inspect.proofs.Refused.{err_none, err_refused, none_refused, refused_then}
 use Rattle.fb_inspect.proofs.walk.Walk.go.Goals as goal
 
 pub loop-init : goal.loop-init
@@ -99,8 +101,8 @@ loop-preserved g c = (
       (after.0, after.1, well_flushed sys fixed.form c.args.terms.steps c.step.new.self c.flush_much.new.self c.step.new.ahead after.0 text after.2),
 )
 
-pub returns-in_err-finish-in-Ended-clause-fault : goal.returns-in_err-finish-in-Ended-clause-fault
-returns-in_err-finish-in-Ended-clause-fault g c = λ only starts.
+pub returns-in-Ended-clause-fault : goal.returns-in-Ended-clause-fault
+returns-in-Ended-clause-fault g c = λ only starts.
     let fixed = c.args.fixed.now in
     let i = fixed.table.now.system.now in
     let first = c.args.self.now.trail.marks in
@@ -111,8 +113,9 @@ returns-in_err-finish-in-Ended-clause-fault g c = λ only starts.
     let known = some_text (g.R.Read.remaining c.args.input.now) c.args.self.now.trail.reading.line.items in
     let next = subst (λ (s : Step). HasAdvanced i.library.blocks first (system_of i) fixed.form only steps c.step.new.self known.0 r old mid s) c.in-Ended.is
     (c.in_ok-step.ensures.goes first only known.0 old mid (c.loop.invariant.0 only known.0 starts known.1)) in
-    err_any c.from_residual-in_err-finish-in-Ended.result _
-    (complete_part i fixed.form only steps first c.step.new.self c.in-Ended.field-0 known.0 r old mid next (g.W.Write.contents c.finish.new.out) c.in_err-finish-in-Ended.ensures.fault)
+    fails_joined c.and.result c.finish.result _ _ c.and.ensures
+    (err_then c.finish.result _ _ c.finish.ensures.fault
+    (λ part. complete_part i fixed.form only steps first c.step.new.self c.in-Ended.field-0 known.0 r old mid next (g.W.Write.contents c.finish.new.out) part))
 
 pub returns-in-Ended-clause-whole : goal.returns-in-Ended-clause-whole
 returns-in-Ended-clause-whole g c = λ only known starts read.
@@ -126,8 +129,11 @@ returns-in-Ended-clause-whole g c = λ only known starts read.
     let r = unread c.step.new.ahead (g.R.Read.remaining c.step.new.input) in
     let next = subst (λ (s : Step). HasAdvanced i.library.blocks first (system_of i) fixed.form only steps c.step.new.self known r old mid s) c.in-Ended.is
     (c.in_ok-step.ensures.goes first only known old mid (c.loop.invariant.0 only known starts read)) in
+    on_joined c.and.result c.finish.result _ _ c.and.ensures
+    (on_ok c.finish.result _ _ c.finish.ensures.finishes
+    (λ over.
     shown_whole c.args.terms.cut (system_of i) only steps known old new
-    (complete_shown i fixed.form only steps first c.step.new.self c.in-Ended.field-0 known r old mid next new c.in_ok-finish-in-Ended.ensures.finishes)
+    (complete_shown i fixed.form only steps first c.step.new.self c.in-Ended.field-0 known r old mid next new over)))
 
 pub returns-in-Ended-clause-covered : goal.returns-in-Ended-clause-covered
 returns-in-Ended-clause-covered g c = λ only known starts read.
@@ -140,12 +146,13 @@ returns-in-Ended-clause-covered g c = λ only known starts read.
     let r = unread c.step.new.ahead (g.R.Read.remaining c.step.new.input) in
     let next = subst (λ (s : Step). HasAdvanced i.library.blocks first (system_of i) fixed.form only steps c.step.new.self known r old mid s) c.in-Ended.is
     (c.in_ok-step.ensures.goes first only known old mid (c.loop.invariant.0 only known starts read)) in
+    ok_joined c.and.result c.finish.result _ _ _ c.and.ensures c.finish.ensures.finishes
+    (λ finishes.
     subst (λ (m : Marks). IfSome known (λ text. IsCovered i only steps text first m)) (sym c.finish.ensures.marks)
-    (complete_covered i fixed.form only steps first c.step.new.self c.in-Ended.field-0 known r old mid next c.in_ok-finish-in-Ended.ensures.finishes.over)
+    (complete_covered i fixed.form only steps first c.step.new.self c.in-Ended.field-0 known r old mid next finishes.over))
 
-pub returns-in_err-finish_cut-in-CutOff-clause-fault :
-    goal.returns-in_err-finish_cut-in-CutOff-clause-fault
-returns-in_err-finish_cut-in-CutOff-clause-fault g c = λ only starts.
+pub returns-in-CutOff-clause-fault : goal.returns-in-CutOff-clause-fault
+returns-in-CutOff-clause-fault g c = λ only starts.
     let fixed = c.args.fixed.now in
     let i = fixed.table.now.system.now in
     let first = c.args.self.now.trail.marks in
@@ -156,8 +163,9 @@ returns-in_err-finish_cut-in-CutOff-clause-fault g c = λ only starts.
     let known = some_text (g.R.Read.remaining c.args.input.now) c.args.self.now.trail.reading.line.items in
     let next = subst (λ (s : Step). HasAdvanced i.library.blocks first (system_of i) fixed.form only steps c.step.new.self known.0 r old mid s) c.in-CutOff.is
     (c.in_ok-step.ensures.goes first only known.0 old mid (c.loop.invariant.0 only known.0 starts known.1)) in
-    err_any c.from_residual-in_err-finish_cut-in-CutOff.result _
-    (severed_part i fixed.form only steps first c.step.new.self known.0 old mid next (g.W.Write.contents c.finish_cut.new.out) c.in_err-finish_cut-in-CutOff.ensures.fault)
+    fails_joined c.and-in-CutOff.result c.finish_cut.result _ _ c.and-in-CutOff.ensures
+    (err_then c.finish_cut.result _ _ c.finish_cut.ensures.fault
+    (λ part. severed_part i fixed.form only steps first c.step.new.self known.0 old mid next (g.W.Write.contents c.finish_cut.new.out) part))
 
 pub returns-in-CutOff-clause-whole : goal.returns-in-CutOff-clause-whole
 returns-in-CutOff-clause-whole g c = λ only known starts read.
@@ -171,8 +179,11 @@ returns-in-CutOff-clause-whole g c = λ only known starts read.
     let r = unread c.step.new.ahead (g.R.Read.remaining c.step.new.input) in
     let next = subst (λ (s : Step). HasAdvanced i.library.blocks first (system_of i) fixed.form only steps c.step.new.self known r old mid s) c.in-CutOff.is
     (c.in_ok-step.ensures.goes first only known old mid (c.loop.invariant.0 only known starts read)) in
+    on_joined c.and-in-CutOff.result c.finish_cut.result _ _ c.and-in-CutOff.ensures
+    (on_ok c.finish_cut.result _ _ c.finish_cut.ensures.finishes
+    (λ finishes.
     shown_cut c.args.terms.cut (system_of i) only steps known old new (c.in_ok-step.ensures.cut c.in-CutOff.is)
-    (severed_shown i fixed.form only steps first c.step.new.self known old mid next new c.in_ok-finish_cut-in-CutOff.ensures.finishes)
+    (severed_shown i fixed.form only steps first c.step.new.self known old mid next new finishes)))
 
 pub returns-in-CutOff-clause-covered : goal.returns-in-CutOff-clause-covered
 returns-in-CutOff-clause-covered g c = λ only known starts read.
@@ -188,7 +199,7 @@ returns-in-CutOff-clause-covered g c = λ only known starts read.
     let allowed = c.in_ok-step.ensures.cut c.in-CutOff.is in
     let covered = subst (λ (m : Marks). IfSome known (λ text. IsCutCovered i only text first m)) (sym c.finish_cut.ensures.marks)
     (severed_covered i fixed.form only steps first c.step.new.self known old mid next) in
-    on_some known _ _ covered (λ text is. (allowed, is))
+    ok_joined c.and-in-CutOff.result c.finish_cut.result _ _ _ c.and-in-CutOff.ensures c.finish_cut.ensures.finishes (λ finishes. on_some known _ _ covered (λ text is. (allowed, is)))
 
 pub returns-clause-fault : goal.returns-clause-fault
 returns-clause-fault g c = λ only starts.
@@ -213,9 +224,8 @@ returns-in_err-flush_much-in-Taken-clause-refused g c = λ only rest text few na
     let q = err_from_is_err_and c.from_residual-in_err-flush_much-in-Taken.result c.from_residual-in_err-flush_much-in-Taken.ensures.1 in
     rw (q.1, q.2) (none_refused _ _ (cut_short_none (g.W.Write.contents c.loop.out) (g.W.Write.contents c.flush_much.new.out) c.step.new.self.trail.page c.in_err-flush_much-in-Taken.field-0.0 c.in_err-flush_much-in-Taken.ensures.part))
 
-pub returns-in_err-finish-in-Ended-clause-refused :
-    goal.returns-in_err-finish-in-Ended-clause-refused
-returns-in_err-finish-in-Ended-clause-refused g c = λ only rest text few names starts known begins.
+pub returns-in-Ended-clause-refused : goal.returns-in-Ended-clause-refused
+returns-in-Ended-clause-refused g c = λ only rest text few names starts known begins.
     let fixed = c.args.fixed.now in
     let i = fixed.table.now.system.now in
     let sys = system_of i in
@@ -227,13 +237,22 @@ returns-in_err-finish-in-Ended-clause-refused g c = λ only rest text few names 
     let read = subst (λ (o : Option (List ℕ)). Consumes (Some text) o c.args.self.now.trail.reading.line.items) (sym known) begins.is in
     let next = subst (λ (s : Step). HasAdvanced i.library.blocks first sys fixed.form only steps c.step.new.self (Some text) r old mid s) c.in-Ended.is
     (c.in_ok-step.ensures.goes first only (Some text) old mid (c.loop.invariant.0 only (Some text) starts read)) in
-    let q = err_from_is_err_and c.from_residual-in_err-finish-in-Ended.result c.from_residual-in_err-finish-in-Ended.ensures.1 in
-    rw (q.1, q.2)
-    (refused_then c.in_err-finish-in-Ended.field-0.0 (λ n. (n ≡ c.step.new.self.trail.reading.number + 1) × IfSome r (λ rest. 0 < length rest)) (λ n. IsWrongAt sys steps n text) c.in_err-finish-in-Ended.ensures.refused
+    err_joined c.and.result c.finish.result _ _ c.and.ensures
+    (err_refused c.finish.result (λ n. (n ≡ c.step.new.self.trail.reading.number + 1) × IfSome r (λ rest. 0 < length rest)) (λ n. IsWrongAt sys steps n text) c.finish.ensures.refused
     (λ n over. after_last i.library.blocks first sys fixed.form only steps c.step.new.self c.in-Ended.field-0 text r old mid n next over.0 over.1))
 
-pub returns-in_err-finish_cut-in-CutOff-clause-refused :
-    goal.returns-in_err-finish_cut-in-CutOff-clause-refused
-returns-in_err-finish_cut-in-CutOff-clause-refused g c = λ only rest text few names starts known begins.
-    let q = err_from_is_err_and c.from_residual-in_err-finish_cut-in-CutOff.result c.from_residual-in_err-finish_cut-in-CutOff.ensures.1 in
-    rw (q.1, q.2) (none_refused _ _ c.in_err-finish_cut-in-CutOff.ensures.none)
+pub returns-in-CutOff-clause-refused : goal.returns-in-CutOff-clause-refused
+returns-in-CutOff-clause-refused g c = λ only rest text few names starts known begins.
+    err_joined c.and-in-CutOff.result c.finish_cut.result _ _ c.and-in-CutOff.ensures (err_none c.finish_cut.result _ c.finish_cut.ensures.none)
+
+pub returns-in_err-step-clause-whole : goal.returns-in_err-step-clause-whole
+returns-in_err-step-clause-whole g c = λ _ _ _ _. ok_passed c.from_residual.result _ _ c.from_residual.ensures.1
+
+pub returns-in_err-step-clause-covered : goal.returns-in_err-step-clause-covered
+returns-in_err-step-clause-covered g c = λ _ _ _ _. ok_passed c.from_residual.result _ _ c.from_residual.ensures.1
+
+pub returns-in_err-flush_much-in-Taken-clause-whole : goal.returns-in_err-flush_much-in-Taken-clause-whole
+returns-in_err-flush_much-in-Taken-clause-whole g c = λ _ _ _ _. ok_passed c.from_residual-in_err-flush_much-in-Taken.result _ _ c.from_residual-in_err-flush_much-in-Taken.ensures.1
+
+pub returns-in_err-flush_much-in-Taken-clause-covered : goal.returns-in_err-flush_much-in-Taken-clause-covered
+returns-in_err-flush_much-in-Taken-clause-covered g c = λ _ _ _ _. ok_passed c.from_residual-in_err-flush_much-in-Taken.result _ _ c.from_residual-in_err-flush_much-in-Taken.ensures.1

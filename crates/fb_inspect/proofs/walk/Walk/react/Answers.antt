@@ -1,17 +1,17 @@
 use Rattle.std.proofs.Common.{◌<◌, ℕ, ap, refl, slice_set, sym, subst}
 use Rattle.fb_types.specs.Headline.{system_of}
 use Rattle.fb_types.specs.Numbers.{path_at}
-use Rattle.fb_inspect.proofs.Placed.{item_is}
+use Rattle.fb_inspect.proofs.Placed.{item_is, ok_then}
 use Rattle.std.proofs.Common.{◌≡◌, ◌∙◌}
-use Rattle.std.proofs.lemmas.Result.{err_from_is_err_and}
+use Rattle.std.specs.Prelude.{IfErr}
 use Rattle.std.proofs.lemmas.Option.{same_Some}
 use Rattle.fb_inspect.specs.Looks.{IsTakingAt}
 use Rattle.fb_inspect.specs.Refusals.{FailsBy, OfRefusal}
 use Rattle.fb_inspect.specs.declared.steps.TickSteps.{TickSteps}
 use Rattle.fb_inspect.proofs.walk.Walk.react.Goals as goal
 
-pub react_kept-requires : goal.react_kept-requires
-react_kept-requires g c =
+pub react_kept-stop-requires : goal.react_kept-stop-requires
+react_kept-stop-requires g c =
     let sys = system_of c.args.fixed.now.table.now.system.now in
     let l = c.args.line.now in
     let are = c.requires.blocks.1 in
@@ -29,20 +29,20 @@ returns-clause-goes g c = λ look are.
     let within = subst (λ (n : ℕ). l.instance < n) (sym are.all) c.requires.is.line.belongs.instance in
     let at = item_is c.args.self.now.blocks.items l.instance c.in-Some-get_mut.block.now within c.in-Some-get_mut.ensures.value in
     let resource = subst (λ (n : ℕ). l.key.resource < n) (sym c.requires.steps) c.requires.is.line.belongs.resource in
-    let goes = c.in_ok-stop.ensures.goes look (are.each l.instance c.in-Some-get_mut.block.now at) in
-    record {
+    ok_then c.react_kept-stop.result _ _ (c.react_kept-stop.ensures.goes look (are.each l.instance c.in-Some-get_mut.block.now at))
+    (λ stop goes. record {
       own = c.in-Some.steps.now;
       stood = item_is c.args.self.now.steps.items l.key.resource c.in-Some.steps.now resource c.in-Some.ensures.value;
-      block = c.react_kept.new.block;
-      left = c.react_kept.new.meter.left;
+      block = c.react_kept-stop.new.block;
+      left = c.react_kept-stop.new.meter.left;
       goes = goes;
       blocks_are = refl;
       steps_are = ap (slice_set c.args.self.now.steps.items l.key.resource) c.settle.ensures;
       shown_are = refl;
-    }
+    })
 
-pub returns-in_err-stop-clause-refused : goal.returns-in_err-stop-clause-refused
-returns-in_err-stop-clause-refused g c = λ look own names plain are stood.
+pub returns-clause-refused : goal.returns-clause-refused
+returns-clause-refused g c = λ look own names plain are stood.
     let sys = system_of c.args.fixed.now.table.now.system.now in
     let l = c.args.line.now in
     let within = subst (λ (n : ℕ). l.instance < n) (sym are.all) c.requires.is.line.belongs.instance in
@@ -50,9 +50,10 @@ returns-in_err-stop-clause-refused g c = λ look own names plain are stood.
     let resource = subst (λ (n : ℕ). l.key.resource < n) (sym c.requires.steps) c.requires.is.line.belongs.resource in
     let there = item_is c.args.self.now.steps.items l.key.resource c.in-Some.steps.now resource c.in-Some.ensures.value in
     let same : c.in-Some.steps.now ≡ own = same_Some c.in-Some.steps.now own (sym there ∙ stood) in
-    let q = err_from_is_err_and c.from_residual.result c.from_residual.ensures.1 in
-    rw (q.1, q.2)
-    (subst
-    (λ (s : TickSteps). OfRefusal (FailsBy (IsTakingAt s.meter.left look (sys.kind (path_at sys l.instance))) sys c.args.fixed.now.form l c.args.self.now.trail.reading c.react_kept.new.trail.reading
-    (g.R.Read.remaining c.args.input.now) (g.R.Read.remaining c.react_kept.new.input)) c.in_err-stop.field-0.0) same
-    (c.in_err-stop.ensures.refused look names plain (are.each l.instance c.in-Some-get_mut.block.now at)))
+    subst
+    (λ (s : TickSteps). IfErr c.react_kept-stop.result (OfRefusal (FailsBy (IsTakingAt s.meter.left look (sys.kind (path_at sys l.instance))) sys c.args.fixed.now.form l c.args.self.now.trail.reading c.react_kept-stop.new.trail.reading
+    (g.R.Read.remaining c.args.input.now) (g.R.Read.remaining c.react_kept-stop.new.input)))) same
+    (c.react_kept-stop.ensures.refused look names plain (are.each l.instance c.in-Some-get_mut.block.now at))
+
+pub returns-clause-next : goal.returns-clause-next
+returns-clause-next g c = c.react_kept-stop.ensures.next

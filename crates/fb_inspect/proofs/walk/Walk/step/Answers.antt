@@ -19,6 +19,7 @@ use Rattle.fb_inspect.specs.declared.walk.Step.{Step}
 use Rattle.fb_inspect.proofs.Judging.{bad_line, event_at, wrong_end}
 use Rattle.fb_inspect.proofs.OneEnd.{names_apart}
 use Rattle.fb_inspect.proofs.Errors.{of_number}
+use Rattle.fb_inspect.proofs.Joined.{ok_passed}
 use Rattle.fb_inspect.proofs.walk.Walk.step.Goals as goal
 
 pub returns-in-CutOff-clause-goes : goal.returns-in-CutOff-clause-goes
@@ -146,3 +147,12 @@ returns-in-Bad-clause-stands g c = λ rest text few names known well.
     let sys = system_of fixed.table.now.system.now in
     of_number (λ n. IsWrongLine sys c.args.terms.steps n text) c.refusal.result c.args.self.now.trail.reading.number c.refusal.ensures.refused
     (bad_line sys fixed.form c.args.terms.steps c.args.self.now c.args.ahead.now rest text names well c.in-Bad.ensures.value)
+
+pub returns-in_err-step_on-in-Event-clause-goes : goal.returns-in_err-step_on-in-Event-clause-goes
+returns-in_err-step_on-in-Event-clause-goes g c = λ _ _ _ _ _ _. ok_passed c.from_residual.result _ _ c.from_residual.ensures.1
+
+pub returns-in_err-step_on-in-Event-clause-takes : goal.returns-in_err-step_on-in-Event-clause-takes
+returns-in_err-step_on-in-Event-clause-takes g c = λ _ _. ok_passed c.from_residual.result _ _ c.from_residual.ensures.1
+
+pub returns-in_err-step_on-in-Event-clause-cut : goal.returns-in_err-step_on-in-Event-clause-cut
+returns-in_err-step_on-in-Event-clause-cut g c = ok_passed c.from_residual.result _ _ c.from_residual.ensures.1

@@ -72,3 +72,6 @@ returns-clause-refused g c = λ look names plain is.
     err_refused c.react.result (FailsBy (IsTakingAt stepped.after.meter.left look (sys.kind (path_at sys l.instance))) sys form l old new before after) (FailsBy (IsTaking sys limit look) sys form l old new before after)
     (c.react.ensures.refused look stepped.after names plain is.are stood)
     (λ n fails. fails_whole sys limit look l stepped.after.meter.left used c.if-line-gt-LATEST_TICK.false form old new before after n fails)
+
+pub returns-clause-next : goal.returns-clause-next
+returns-clause-next g c = c.react.ensures.next

@@ -5,7 +5,8 @@ use Rattle.fb_inspect.proofs.Stepped.{taking_joined}
 use Rattle.fb_inspect.specs.Lines.{IsAlone}
 use Rattle.fb_inspect.specs.Looks.{IsTaking}
 use Rattle.fb_inspect.specs.Refusals.{FailsBy}
-use Rattle.fb_inspect.proofs.Refused.{refused_then}
+use Rattle.fb_inspect.proofs.Refused.{none_passed, refused_then}
+use Rattle.fb_inspect.proofs.Joined.{ok_passed}
 use Rattle.fb_inspect.proofs.walk.Walk.take_ahead.Goals as goal
 
 pub returns-clause-goes : goal.returns-clause-goes
@@ -36,3 +37,48 @@ returns-in_err-stop-clause-refused c = λ look names plain is.
     (λ n. (rest : List ℕ) × FailsBy T sys fixed.form c.args.line.now old new (Some c.args.ahead.now.text.items) (Some rest) n) (c.in_err-stop.ensures.refused look names plain is)
     (λ n fails.
     (c.take.new.input.now, subst (λ (u : List ℕ). FailsBy T sys fixed.form c.args.line.now old new (Some u) (Some c.take.new.input.now) n) c.as_slice-rest.ensures.value fails)))
+
+pub returns-in_err-stop-clause-goes : goal.returns-in_err-stop-clause-goes
+returns-in_err-stop-clause-goes c = λ _ _ _. ok_passed c.from_residual.result _ _ c.from_residual.ensures.1
+
+pub returns-in_err-stop-clause-alone : goal.returns-in_err-stop-clause-alone
+returns-in_err-stop-clause-alone c = ok_passed c.from_residual.result _ _ c.from_residual.ensures.1
+
+pub returns-in_err-stop-clause-last : goal.returns-in_err-stop-clause-last
+returns-in_err-stop-clause-last c = ok_passed c.from_residual.result _ _ c.from_residual.ensures.1
+
+pub returns-in_err-stop-clause-next : goal.returns-in_err-stop-clause-next
+returns-in_err-stop-clause-next c = ok_passed c.from_residual.result _ _ c.from_residual.ensures.1
+
+pub returns-in_err-left-clause-goes : goal.returns-in_err-left-clause-goes
+returns-in_err-left-clause-goes c = λ _ _ _. ok_passed c.from_residual-in_err-left.result _ _ c.from_residual-in_err-left.ensures.1
+
+pub returns-in_err-left-clause-alone : goal.returns-in_err-left-clause-alone
+returns-in_err-left-clause-alone c = ok_passed c.from_residual-in_err-left.result _ _ c.from_residual-in_err-left.ensures.1
+
+pub returns-in_err-left-clause-last : goal.returns-in_err-left-clause-last
+returns-in_err-left-clause-last c = ok_passed c.from_residual-in_err-left.result _ _ c.from_residual-in_err-left.ensures.1
+
+pub returns-in_err-left-clause-next : goal.returns-in_err-left-clause-next
+returns-in_err-left-clause-next c = ok_passed c.from_residual-in_err-left.result _ _ c.from_residual-in_err-left.ensures.1
+
+pub returns-in_err-left-clause-refused : goal.returns-in_err-left-clause-refused
+returns-in_err-left-clause-refused c = λ _ _ _ _. none_passed _ _ _ c.from_residual-in_err-left.ensures.1 tt
+
+pub returns-in_err-keep-clause-goes : goal.returns-in_err-keep-clause-goes
+returns-in_err-keep-clause-goes c = λ _ _ _. ok_passed c.from_residual-in_err-keep.result _ _ c.from_residual-in_err-keep.ensures.1
+
+pub returns-in_err-keep-clause-alone : goal.returns-in_err-keep-clause-alone
+returns-in_err-keep-clause-alone c = ok_passed c.from_residual-in_err-keep.result _ _ c.from_residual-in_err-keep.ensures.1
+
+pub returns-in_err-keep-clause-last : goal.returns-in_err-keep-clause-last
+returns-in_err-keep-clause-last c = ok_passed c.from_residual-in_err-keep.result _ _ c.from_residual-in_err-keep.ensures.1
+
+pub returns-in_err-keep-clause-next : goal.returns-in_err-keep-clause-next
+returns-in_err-keep-clause-next c = ok_passed c.from_residual-in_err-keep.result _ _ c.from_residual-in_err-keep.ensures.1
+
+pub returns-in_err-keep-clause-refused : goal.returns-in_err-keep-clause-refused
+returns-in_err-keep-clause-refused c = λ _ _ _ _. none_passed _ _ _ c.from_residual-in_err-keep.ensures.1 tt
+
+pub returns-clause-next : goal.returns-clause-next
+returns-clause-next c = c.in_ok-stop.ensures.next

@@ -9,6 +9,7 @@ use Rattle.fb_inspect.specs.Refusals.{FailsBy, IsWrongLine}
 use Rattle.fb_inspect.proofs.Errors.{of_number}
 use Rattle.fb_inspect.proofs.Refused.{refused_then}
 use Rattle.fb_inspect.proofs.Stood.{freely_on, freely_stop, wrong_freely}
+use Rattle.fb_inspect.proofs.Joined.{ok_passed}
 use Rattle.fb_inspect.proofs.walk.Walk.take_freely.Goals as goal
 
 pub returns-in_default-clause-takes : goal.returns-in_default-clause-takes
@@ -68,3 +69,9 @@ returns-then-not-is_stop-clause-stands c = λ steps takings rest text rows at ah
     c.take_ahead.new.self c.take_ahead.new.ahead c.in_ok-reason.field-0 (c.in_ok-reason.ensures.goes (last_look (opening_look sys) takings) (Some []) at.stands.look) c.in_ok-reason.ensures.alone c.in_ok-reason.ensures.last
     c.in_ok-reason.ensures.next steps c.take_ahead.new.self.trail.reading.number c.in-Some.reason refl c.in-Some.is (inr (c.is_for_steps.ensures.other c.if-is_for_steps.false))
     (λ not. c.is_stop.ensures.other c.if-not-is_stop.true))
+
+pub returns-in_err-reason-clause-takes : goal.returns-in_err-reason-clause-takes
+returns-in_err-reason-clause-takes c = λ _ _ _ _. ok_passed c.from_residual.result _ _ c.from_residual.ensures.1
+
+pub returns-in_err-reason-clause-whole : goal.returns-in_err-reason-clause-whole
+returns-in_err-reason-clause-whole c = ok_passed c.from_residual.result _ _ c.from_residual.ensures.1

@@ -19,6 +19,7 @@ use Rattle.fb_inspect.proofs.Lasting.{stop_same, last_fails, last_goes, last_kep
 use Rattle.fb_inspect.proofs.OneEnd.{no_stop_text}
 use Rattle.fb_inspect.proofs.Errors.{of_number}
 use Rattle.fb_inspect.proofs.Refused.{refused_then}
+use Rattle.fb_inspect.proofs.Joined.{ok_passed}
 use Rattle.fb_inspect.proofs.walk.Walk.take_last.Goals as goal
 
 pub take_ahead-requires-clause-look : goal.take_ahead-requires-clause-look
@@ -117,3 +118,9 @@ returns-then-not-has_run_out-clause-stands c = λ takings rest text rows few at 
     (λ is out.
     c.has_run_out.ensures.other sys goes.taking.after goes.look_after at.is.line.belongs.resource c.if-not-has_run_out.true
     (stop_same goes.taking.stop c.in_ok-stop.stop (left_at c.args.steps l.key.tick (goes.taking.after.steps l.key.resource) ≡ 0) goes.stop_is out)))
+
+pub returns-in_err-stop-clause-takes : goal.returns-in_err-stop-clause-takes
+returns-in_err-stop-clause-takes c = λ _ _ _. ok_passed c.from_residual.result _ _ c.from_residual.ensures.1
+
+pub returns-in_err-stop-clause-whole : goal.returns-in_err-stop-clause-whole
+returns-in_err-stop-clause-whole c = ok_passed c.from_residual.result _ _ c.from_residual.ensures.1

@@ -15,6 +15,7 @@ use Rattle.fb_inspect.specs.declared.ahead.EventLine.{EventLine}
 use Rattle.fb_inspect.proofs.OneStep.{line_watched}
 use Rattle.fb_inspect.proofs.Stood.{ahead_ahead, at_ahead, watched_step}
 use Rattle.fb_inspect.proofs.Watched.{watched_line, watches_on}
+use Rattle.fb_inspect.proofs.Joined.{ok_passed}
 use Rattle.fb_inspect.proofs.walk.Walk.take_watched.Goals as goal
 
 pub returns-clause-takes : goal.returns-clause-takes
@@ -63,3 +64,15 @@ returns-clause-stands c = λ takings rest text rows at watches ahead far.
     (λ under within.
     subst (λ (m : model.Line). most ≤ (x.after.steps m.key.resource).least + steps) (sym first)
     (c.exceeds-is_excess.ensures.kept sys x.after look under (subst (λ (m : model.Line). m.key.resource < length sys.resource_names) first within)))))
+
+pub returns-in_err-watch-clause-takes : goal.returns-in_err-watch-clause-takes
+returns-in_err-watch-clause-takes c = λ _ _ _. ok_passed c.from_residual.result _ _ c.from_residual.ensures.1
+
+pub returns-in_err-watch-clause-whole : goal.returns-in_err-watch-clause-whole
+returns-in_err-watch-clause-whole c = ok_passed c.from_residual.result _ _ c.from_residual.ensures.1
+
+pub returns-in_err-step-clause-takes : goal.returns-in_err-step-clause-takes
+returns-in_err-step-clause-takes c = λ _ _ _. ok_passed c.from_residual-in_err-step.result _ _ c.from_residual-in_err-step.ensures.1
+
+pub returns-in_err-step-clause-whole : goal.returns-in_err-step-clause-whole
+returns-in_err-step-clause-whole c = ok_passed c.from_residual-in_err-step.result _ _ c.from_residual-in_err-step.ensures.1
