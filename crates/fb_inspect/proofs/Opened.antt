@@ -1,9 +1,9 @@
 -- What is kept of the instances before the first event.
-use Rattle.std.proofs.Common.{◌≡◌, ◌<◌, ◌+◌, ℕ, Bool, false, length, List, [], ◌∷◌, ◌++◌, map, Option, Some, None, refl, sym, ◌∙◌, ap, subst, length-append, rules, arith}
+use Rattle.std.proofs.Common.{◌≡◌, ◌<◌, ◌+◌, ℕ, Bool, false, length, List, [], ◌∷◌, ◌++◌, map, Option, Some, None, refl, sym, ◌∙◌, ap, subst, append_assoc, get_or, take, length-append, rules, arith}
 use Rattle.std.specs.Prelude.{unwrap_or}
 use Rattle.std.proofs.lemmas.Option.{slice_get_within}
 use Rattle.fb_types.specs.Blocks.{Basic, Composite, Event, Kind, ports_of_event_block, variable_names}
-use Rattle.fb_types.specs.Names.{Path}
+use Rattle.fb_types.specs.Names.{Name, Path}
 use Rattle.fb_types.specs.Numbers.{path_at}
 use Rattle.fb_types.specs.Simulation.{opening_block}
 use Rattle.fb_types.specs.States as model
@@ -13,8 +13,10 @@ use Rattle.fb_types.specs.declared.event_kind.EventKind.{EventKind}
 use Rattle.fb_types.specs.declared.library.BasicType.{BasicType}
 use Rattle.fb_types.specs.declared.library.CompositeType.{CompositeType}
 use Rattle.fb_types.specs.declared.library.Ports.{Ports}
+use Rattle.fb_types.specs.declared.library.Variable.{Variable}
 use Rattle.fb_types.specs.declared.value.Value.{Value}
 use Rattle.fb_types.proofs.ByIndex.{element_at, slice_get-push}
+use Rattle.fb_types.proofs.LoopSteps.{map_take_more}
 use Rattle.fb_ecc.specs.declared.state.BasicState.{BasicState}
 use Rattle.fb_event.specs.Reactions.{FitInputs}
 use Rattle.fb_event.specs.State.{State}
@@ -157,3 +159,11 @@ shown_more F n old new b counted shown here is k below =
     slice_get-push (λ j c. c ≡ F j) old b (λ j c at. sym (ap (λ (o : Option Bool). unwrap_or o false) at) ∙ shown j (subst (λ (i : ℕ). j < i) counted (slice_get_within old j c at)))
     (subst (λ (i : ℕ). b ≡ F i) (sym counted) here) in
     ap (λ (l : List Bool). flag_at l k) is ∙ ap (λ (o : Option Bool). unwrap_or o false) own.1 ∙ each k own.0 own.1
+
+-- the names of the variables so far, with one more
+pub names_next :
+    (vs : List Variable) (i : ℕ) (v : Variable) (old own new : List Name) (n : Name) → i < length vs → v ≡ get_or vs i v → n ≡ v.name → own ≡ old ++ variable_names (take i vs)
+    → new ≡ own ++ n ∷ [] → new ≡ old ++ variable_names (take (i + 1) vs)
+names_next vs i v old own new n within at is are grown =
+    grown ∙ (λ j. are j ++ is j ∷ []) ∙ append_assoc old (variable_names (take i vs)) (v.name ∷ [])
+    ∙ ap (λ (ns : List Name). old ++ ns) (sym (map_take_more (λ v. v.name) vs i v within at))

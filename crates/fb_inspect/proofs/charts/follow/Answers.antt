@@ -9,6 +9,7 @@ use Rattle.fb_inspect.proofs.Charted.{step_ends, step_none, step_then}
 use Rattle.fb_inspect.specs.Refusals.{ChartFails}
 use Rattle.fb_inspect.proofs.ChartFailing.{fails_after}
 use Rattle.fb_inspect.proofs.Refused.{err_passed}
+use Rattle.fb_inspect.proofs.Joined.{ok_passed}
 use Rattle.fb_inspect.proofs.charts.follow.Goals as goal
 
 pub loop-reason-init : goal.loop-reason-init
@@ -84,3 +85,12 @@ returns-in_err-link-clause-refused g c = λ names plain.
     err_passed _ _ (λ n. ChartFails x (ShowsChain t present) m c.loop-reason.trail.reading c.link.new.trail.reading middle after n)
     (λ n. ChartFails x whole p c.args.trail.now.reading c.link.new.trail.reading left after n) c.from_residual.ensures.1 (c.in_err-link.ensures.refused names plain)
     (λ n fails. fails_after x whole (ShowsChain t present) p m c.args.trail.now c.loop-reason.trail c.link.new.trail.reading left middle after n c.loop-reason.invariant.came fails)
+
+pub returns-in_err-link-clause-shown : goal.returns-in_err-link-clause-shown
+returns-in_err-link-clause-shown g c = ok_passed c.from_residual.result _ _ c.from_residual.ensures.1
+
+pub returns-in_err-link-clause-chart : goal.returns-in_err-link-clause-chart
+returns-in_err-link-clause-chart g c = ok_passed c.from_residual.result _ _ c.from_residual.ensures.1
+
+pub returns-in_err-link-clause-next : goal.returns-in_err-link-clause-next
+returns-in_err-link-clause-next g c = ok_passed c.from_residual.result _ _ c.from_residual.ensures.1

@@ -1,6 +1,5 @@
 use Rattle.std.proofs.Common.{◌≡◌, ◌<◌, ◌++◌, ℕ, length, List, None, Ok, Option, Some, refl, sym, ap, subst, ◌∙◌, arith}
 use Rattle.std.specs.Prelude.{IfNone, IfSome, OnSome, option_map}
-use Rattle.std.proofs.lemmas.Result.{err_from_is_err_and}
 use Rattle.fb_types.specs.Charts.{Position, actions_of, trial_at}
 use Rattle.fb_types.specs.Names.{Name}
 use Rattle.fb_types.specs.Numbers.{event_at}
@@ -25,6 +24,7 @@ use Rattle.fb_inspect.specs.Refusals.{ChartFails}
 use Rattle.fb_inspect.specs.declared.reading.Reading.{Reading}
 use Rattle.fb_inspect.proofs.ChartFailing.{link_fails}
 use Rattle.fb_inspect.proofs.Refused.{err_passed, none_passed}
+use Rattle.fb_inspect.proofs.Joined.{ok_passed}
 use Rattle.fb_inspect.proofs.charts.link.Goals as goal
 
 pub returns-in-Err-clause-linked : goal.returns-in-Err-clause-linked
@@ -188,46 +188,46 @@ pub returns-in_ok-note_lost-in-Ok-None-clause-fewer : goal.returns-in_ok-note_lo
 returns-in_ok-note_lost-in-Ok-None-clause-fewer g c = c.in-Ok-None.ensures.fewer
 
 pub returns-in_err-note_lost-in-Ok-None-clause-linked : goal.returns-in_err-note_lost-in-Ok-None-clause-linked
-returns-in_err-note_lost-in-Ok-None-clause-linked g c = let q = err_from_is_err_and c.from_residual.result c.from_residual.ensures.1 in rw q.1 tt
+returns-in_err-note_lost-in-Ok-None-clause-linked g c = ok_passed c.from_residual.result _ _ c.from_residual.ensures.1
 
 pub returns-in_err-note_lost-in-Ok-None-clause-chart : goal.returns-in_err-note_lost-in-Ok-None-clause-chart
-returns-in_err-note_lost-in-Ok-None-clause-chart g c = let q = err_from_is_err_and c.from_residual.result c.from_residual.ensures.1 in rw q.1 tt
+returns-in_err-note_lost-in-Ok-None-clause-chart g c = ok_passed c.from_residual.result _ _ c.from_residual.ensures.1
 
 pub returns-in_err-note_lost-in-Ok-None-clause-less : goal.returns-in_err-note_lost-in-Ok-None-clause-less
-returns-in_err-note_lost-in-Ok-None-clause-less g c = let q = err_from_is_err_and c.from_residual.result c.from_residual.ensures.1 in rw q.1 tt
+returns-in_err-note_lost-in-Ok-None-clause-less g c = ok_passed c.from_residual.result _ _ c.from_residual.ensures.1
 
 pub returns-in_err-note_lost-in-Ok-None-clause-next : goal.returns-in_err-note_lost-in-Ok-None-clause-next
-returns-in_err-note_lost-in-Ok-None-clause-next g c = let q = err_from_is_err_and c.from_residual.result c.from_residual.ensures.1 in rw q.1 tt
+returns-in_err-note_lost-in-Ok-None-clause-next g c = ok_passed c.from_residual.result _ _ c.from_residual.ensures.1
 
 pub returns-in_err-note_lost-in-Ok-None-clause-refused : goal.returns-in_err-note_lost-in-Ok-None-clause-refused
 returns-in_err-note_lost-in-Ok-None-clause-refused g c = λ names plain. none_passed _ _ _ c.from_residual.ensures.1 tt
 
 pub returns-in_err-note_cleared-in-Ok-Some-clause-linked : goal.returns-in_err-note_cleared-in-Ok-Some-clause-linked
-returns-in_err-note_cleared-in-Ok-Some-clause-linked g c = let q = err_from_is_err_and c.from_residual-in_err-note_cleared-in-Ok-Some.result c.from_residual-in_err-note_cleared-in-Ok-Some.ensures.1 in rw q.1 tt
+returns-in_err-note_cleared-in-Ok-Some-clause-linked g c = ok_passed c.from_residual-in_err-note_cleared-in-Ok-Some.result _ _ c.from_residual-in_err-note_cleared-in-Ok-Some.ensures.1
 
 pub returns-in_err-note_cleared-in-Ok-Some-clause-chart : goal.returns-in_err-note_cleared-in-Ok-Some-clause-chart
-returns-in_err-note_cleared-in-Ok-Some-clause-chart g c = let q = err_from_is_err_and c.from_residual-in_err-note_cleared-in-Ok-Some.result c.from_residual-in_err-note_cleared-in-Ok-Some.ensures.1 in rw q.1 tt
+returns-in_err-note_cleared-in-Ok-Some-clause-chart g c = ok_passed c.from_residual-in_err-note_cleared-in-Ok-Some.result _ _ c.from_residual-in_err-note_cleared-in-Ok-Some.ensures.1
 
 pub returns-in_err-note_cleared-in-Ok-Some-clause-less : goal.returns-in_err-note_cleared-in-Ok-Some-clause-less
-returns-in_err-note_cleared-in-Ok-Some-clause-less g c = let q = err_from_is_err_and c.from_residual-in_err-note_cleared-in-Ok-Some.result c.from_residual-in_err-note_cleared-in-Ok-Some.ensures.1 in rw q.1 tt
+returns-in_err-note_cleared-in-Ok-Some-clause-less g c = ok_passed c.from_residual-in_err-note_cleared-in-Ok-Some.result _ _ c.from_residual-in_err-note_cleared-in-Ok-Some.ensures.1
 
 pub returns-in_err-note_cleared-in-Ok-Some-clause-next : goal.returns-in_err-note_cleared-in-Ok-Some-clause-next
-returns-in_err-note_cleared-in-Ok-Some-clause-next g c = let q = err_from_is_err_and c.from_residual-in_err-note_cleared-in-Ok-Some.result c.from_residual-in_err-note_cleared-in-Ok-Some.ensures.1 in rw q.1 tt
+returns-in_err-note_cleared-in-Ok-Some-clause-next g c = ok_passed c.from_residual-in_err-note_cleared-in-Ok-Some.result _ _ c.from_residual-in_err-note_cleared-in-Ok-Some.ensures.1
 
 pub returns-in_err-note_cleared-in-Ok-Some-clause-refused : goal.returns-in_err-note_cleared-in-Ok-Some-clause-refused
 returns-in_err-note_cleared-in-Ok-Some-clause-refused g c = λ names plain. none_passed _ _ _ c.from_residual-in_err-note_cleared-in-Ok-Some.ensures.1 tt
 
 pub returns-in_err-reason-in-Ok-Some-clause-linked : goal.returns-in_err-reason-in-Ok-Some-clause-linked
-returns-in_err-reason-in-Ok-Some-clause-linked g c = let q = err_from_is_err_and c.from_residual-in_err-reason-in-Ok-Some.result c.from_residual-in_err-reason-in-Ok-Some.ensures.1 in rw q.1 tt
+returns-in_err-reason-in-Ok-Some-clause-linked g c = ok_passed c.from_residual-in_err-reason-in-Ok-Some.result _ _ c.from_residual-in_err-reason-in-Ok-Some.ensures.1
 
 pub returns-in_err-reason-in-Ok-Some-clause-chart : goal.returns-in_err-reason-in-Ok-Some-clause-chart
-returns-in_err-reason-in-Ok-Some-clause-chart g c = let q = err_from_is_err_and c.from_residual-in_err-reason-in-Ok-Some.result c.from_residual-in_err-reason-in-Ok-Some.ensures.1 in rw q.1 tt
+returns-in_err-reason-in-Ok-Some-clause-chart g c = ok_passed c.from_residual-in_err-reason-in-Ok-Some.result _ _ c.from_residual-in_err-reason-in-Ok-Some.ensures.1
 
 pub returns-in_err-reason-in-Ok-Some-clause-less : goal.returns-in_err-reason-in-Ok-Some-clause-less
-returns-in_err-reason-in-Ok-Some-clause-less g c = let q = err_from_is_err_and c.from_residual-in_err-reason-in-Ok-Some.result c.from_residual-in_err-reason-in-Ok-Some.ensures.1 in rw q.1 tt
+returns-in_err-reason-in-Ok-Some-clause-less g c = ok_passed c.from_residual-in_err-reason-in-Ok-Some.result _ _ c.from_residual-in_err-reason-in-Ok-Some.ensures.1
 
 pub returns-in_err-reason-in-Ok-Some-clause-next : goal.returns-in_err-reason-in-Ok-Some-clause-next
-returns-in_err-reason-in-Ok-Some-clause-next g c = let q = err_from_is_err_and c.from_residual-in_err-reason-in-Ok-Some.result c.from_residual-in_err-reason-in-Ok-Some.ensures.1 in rw q.1 tt
+returns-in_err-reason-in-Ok-Some-clause-next g c = ok_passed c.from_residual-in_err-reason-in-Ok-Some.result _ _ c.from_residual-in_err-reason-in-Ok-Some.ensures.1
 
 pub returns-in_err-note_lost-in-Ok-None-clause-fewer : goal.returns-in_err-note_lost-in-Ok-None-clause-fewer
 returns-in_err-note_lost-in-Ok-None-clause-fewer g c = c.in-Ok-None.ensures.fewer

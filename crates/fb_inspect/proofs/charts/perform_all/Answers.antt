@@ -11,6 +11,7 @@ use Rattle.fb_inspect.proofs.Charted.{acts_done, acts_more, acts_stopped, step_n
 use Rattle.fb_inspect.specs.Refusals.{ChartFails}
 use Rattle.fb_inspect.proofs.ChartFailing.{acts_fail}
 use Rattle.fb_inspect.proofs.Refused.{err_passed}
+use Rattle.fb_inspect.proofs.Joined.{ok_passed}
 use Rattle.fb_inspect.proofs.charts.perform_all.Goals as goal
 
 pub loop-action-init : goal.loop-action-init
@@ -99,3 +100,12 @@ returns-in_err-reason-clause-refused g c = λ names plain.
     err_passed _ _ (λ n. ChartFails x (Acting t (one.0 ∷ drop (i + 1) all)) m c.loop-action.trail.reading c.perform.new.trail.reading middle after n)
     (λ n. ChartFails x (Acting t all) p c.args.trail.now.reading c.perform.new.trail.reading left after n) c.from_residual.ensures.1 (c.in_err-reason.ensures.refused one.0 (drop (i + 1) all) here names plain)
     (λ n fails. acts_fail x t all i one.0 p m c.args.trail.now c.loop-action.trail c.perform.new.trail.reading left middle after n one.1 inv.came fails)
+
+pub returns-in_err-reason-clause-shown : goal.returns-in_err-reason-clause-shown
+returns-in_err-reason-clause-shown g c = ok_passed c.from_residual.result _ _ c.from_residual.ensures.1
+
+pub returns-in_err-reason-clause-chart : goal.returns-in_err-reason-clause-chart
+returns-in_err-reason-clause-chart g c = ok_passed c.from_residual.result _ _ c.from_residual.ensures.1
+
+pub returns-in_err-reason-clause-next : goal.returns-in_err-reason-clause-next
+returns-in_err-reason-clause-next g c = ok_passed c.from_residual.result _ _ c.from_residual.ensures.1

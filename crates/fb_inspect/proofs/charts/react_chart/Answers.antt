@@ -13,7 +13,8 @@ use Rattle.fb_inspect.proofs.Charted.{begun_at, reaction_goes}
 use Rattle.fb_inspect.specs.Refusals.{ChartFails}
 use Rattle.fb_inspect.specs.declared.reading.Reading.{Reading}
 use Rattle.fb_inspect.proofs.ChartFailing.{reaction_fails}
-use Rattle.fb_inspect.proofs.Refused.{err_passed}
+use Rattle.fb_inspect.proofs.Refused.{err_passed, none_passed}
+use Rattle.fb_inspect.proofs.Joined.{ok_passed}
 use Rattle.fb_inspect.proofs.charts.react_chart.Goals as goal
 
 pub returns-clause-shown : goal.returns-clause-shown
@@ -59,3 +60,27 @@ returns-in_err-end-clause-refused g c = λ names plain.
     err_passed _ _ (λ n. ChartFails x (ShowsChain t (Some e)) (place t (record (c.args.chart.now) { state = now }) left) before new first after n)
     (λ n. ChartFails x (ShowsReaction t e) p before new first after n) c.from_residual.ensures.1 (c.in_err-end.ensures.refused names plain)
     (λ n fails. reaction_fails x e p before new first after n (subst (λ (m : Position). ChartFails x (ShowsChain t (Some e)) m before new first after n) at fails))
+
+pub returns-in_err-end-clause-shown : goal.returns-in_err-end-clause-shown
+returns-in_err-end-clause-shown g c = ok_passed c.from_residual.result _ _ c.from_residual.ensures.1
+
+pub returns-in_err-end-clause-chart : goal.returns-in_err-end-clause-chart
+returns-in_err-end-clause-chart g c = ok_passed c.from_residual.result _ _ c.from_residual.ensures.1
+
+pub returns-in_err-end-clause-next : goal.returns-in_err-end-clause-next
+returns-in_err-end-clause-next g c = ok_passed c.from_residual.result _ _ c.from_residual.ensures.1
+
+pub returns-in_err-note_stop-clause-shown : goal.returns-in_err-note_stop-clause-shown
+returns-in_err-note_stop-clause-shown g c = ok_passed c.from_residual-in_err-note_stop.result _ _ c.from_residual-in_err-note_stop.ensures.1
+
+pub returns-in_err-note_stop-clause-chart : goal.returns-in_err-note_stop-clause-chart
+returns-in_err-note_stop-clause-chart g c = ok_passed c.from_residual-in_err-note_stop.result _ _ c.from_residual-in_err-note_stop.ensures.1
+
+pub returns-in_err-note_stop-clause-next : goal.returns-in_err-note_stop-clause-next
+returns-in_err-note_stop-clause-next g c = ok_passed c.from_residual-in_err-note_stop.result _ _ c.from_residual-in_err-note_stop.ensures.1
+
+pub returns-in_err-note_stop-clause-refused : goal.returns-in_err-note_stop-clause-refused
+returns-in_err-note_stop-clause-refused g c = λ _ _. none_passed _ _ _ c.from_residual-in_err-note_stop.ensures.1 tt
+
+pub returns-clause-chart : goal.returns-clause-chart
+returns-clause-chart g c = c.in_ok-end.ensures.chart

@@ -8,6 +8,7 @@ use Rattle.fb_inspect.specs.Refusals.{IsNotDue, OfRefusal}
 use Rattle.fb_inspect.specs.declared.error.InspectError.{InspectError}
 use Rattle.fb_inspect.proofs.NotDue.{not_due}
 use Rattle.fb_inspect.proofs.Refused.{none_passed}
+use Rattle.fb_inspect.proofs.Joined.{ok_passed}
 use Rattle.fb_inspect.proofs.event_blocks.expire_block.Goals as goal
 
 pub returns-clause-takes : goal.returns-clause-takes
@@ -38,3 +39,24 @@ returns-in_err-expire_to-clause-refused g c = λ s kept names plain. none_passed
 
 pub returns-in_err-pass-clause-refused : goal.returns-in_err-pass-clause-refused
 returns-in_err-pass-clause-refused g c = λ s kept names plain. none_passed _ _ _ c.from_residual-in_err-pass.ensures.1 c.in_err-pass.ensures.fault
+
+pub returns-in_err-expire_to-clause-takes : goal.returns-in_err-expire_to-clause-takes
+returns-in_err-expire_to-clause-takes g c = λ _ _. ok_passed c.from_residual.result _ _ c.from_residual.ensures.1
+
+pub returns-in_err-expire_to-clause-next : goal.returns-in_err-expire_to-clause-next
+returns-in_err-expire_to-clause-next g c = ok_passed c.from_residual.result _ _ c.from_residual.ensures.1
+
+pub returns-in_err-pass-clause-takes : goal.returns-in_err-pass-clause-takes
+returns-in_err-pass-clause-takes g c = λ _ _. ok_passed c.from_residual-in_err-pass.result _ _ c.from_residual-in_err-pass.ensures.1
+
+pub returns-in_err-pass-clause-next : goal.returns-in_err-pass-clause-next
+returns-in_err-pass-clause-next g c = ok_passed c.from_residual-in_err-pass.result _ _ c.from_residual-in_err-pass.ensures.1
+
+pub returns-in_err-note_change-clause-takes : goal.returns-in_err-note_change-clause-takes
+returns-in_err-note_change-clause-takes g c = λ _ _. ok_passed c.from_residual-in_err-note_change.result _ _ c.from_residual-in_err-note_change.ensures.1
+
+pub returns-in_err-note_change-clause-next : goal.returns-in_err-note_change-clause-next
+returns-in_err-note_change-clause-next g c = ok_passed c.from_residual-in_err-note_change.result _ _ c.from_residual-in_err-note_change.ensures.1
+
+pub returns-in_err-note_change-clause-refused : goal.returns-in_err-note_change-clause-refused
+returns-in_err-note_change-clause-refused g c = λ _ _ _ _. none_passed _ _ _ c.from_residual-in_err-note_change.ensures.1 tt

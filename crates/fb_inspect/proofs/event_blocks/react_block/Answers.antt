@@ -16,6 +16,7 @@ use Rattle.fb_net.proofs.Sampling.{ports-of_kind}
 use Rattle.fb_inspect.specs.Refusals.{EmitsFail, IsPlainLine}
 use Rattle.fb_inspect.proofs.NotDue.{fit_block}
 use Rattle.fb_inspect.proofs.Refused.{err_refused, none_passed}
+use Rattle.fb_inspect.proofs.Joined.{ok_passed}
 use Rattle.fb_inspect.proofs.event_blocks.react_block.Goals as goal
 
 pub answer-requires-clause-typed : goal.answer-requires-clause-typed
@@ -68,3 +69,30 @@ returns-clause-refused g c = λ s kept names plain.
 
 pub returns-in_err-answer-clause-refused : goal.returns-in_err-answer-clause-refused
 returns-in_err-answer-clause-refused g c = λ s kept names plain. none_passed _ _ _ c.from_residual-in_err-answer.ensures.1 c.in_err-answer.ensures.fault
+
+pub returns-in_err-sample-clause-takes : goal.returns-in_err-sample-clause-takes
+returns-in_err-sample-clause-takes g c = λ _ _. ok_passed c.from_residual.result _ _ c.from_residual.ensures.1
+
+pub returns-in_err-sample-clause-next : goal.returns-in_err-sample-clause-next
+returns-in_err-sample-clause-next g c = ok_passed c.from_residual.result _ _ c.from_residual.ensures.1
+
+pub returns-in_err-sample-clause-refused : goal.returns-in_err-sample-clause-refused
+returns-in_err-sample-clause-refused g c = λ _ _ _ _. none_passed _ _ _ c.from_residual.ensures.1 tt
+
+pub returns-in_err-answer-clause-takes : goal.returns-in_err-answer-clause-takes
+returns-in_err-answer-clause-takes g c = λ _ _. ok_passed c.from_residual-in_err-answer.result _ _ c.from_residual-in_err-answer.ensures.1
+
+pub returns-in_err-answer-clause-next : goal.returns-in_err-answer-clause-next
+returns-in_err-answer-clause-next g c = ok_passed c.from_residual-in_err-answer.result _ _ c.from_residual-in_err-answer.ensures.1
+
+pub returns-in_err-note_change-clause-takes : goal.returns-in_err-note_change-clause-takes
+returns-in_err-note_change-clause-takes g c = λ _ _. ok_passed c.from_residual-in_err-note_change.result _ _ c.from_residual-in_err-note_change.ensures.1
+
+pub returns-in_err-note_change-clause-next : goal.returns-in_err-note_change-clause-next
+returns-in_err-note_change-clause-next g c = ok_passed c.from_residual-in_err-note_change.result _ _ c.from_residual-in_err-note_change.ensures.1
+
+pub returns-in_err-note_change-clause-refused : goal.returns-in_err-note_change-clause-refused
+returns-in_err-note_change-clause-refused g c = λ _ _ _ _. none_passed _ _ _ c.from_residual-in_err-note_change.ensures.1 tt
+
+pub returns-clause-next : goal.returns-clause-next
+returns-clause-next g c = c.emit_all.ensures.next

@@ -8,6 +8,8 @@ use Rattle.fb_inspect.proofs.Placed.{err_any, of_table}
 use Rattle.fb_wave.specs.Named.{HasNames}
 use Rattle.fb_inspect.specs.Looks.{most}
 use Rattle.fb_inspect.specs.Refusals.{IsWrongAt, OfRefusal}
+use Rattle.fb_inspect.proofs.Joined.{ok_passed}
+use Rattle.fb_inspect.proofs.Refused.{none_passed}
 use Rattle.fb_inspect.proofs.insides.inspect_and_mark.Goals as goal
 
 pub returns-in_err-ports-clause-fault : goal.returns-in_err-ports-clause-fault
@@ -49,3 +51,21 @@ returns-clause-covered g c =
     let x = c.args.inspection in
     subst (λ (i : Inputs). IfOk c.inspect_with.result (λ covered. IfSome (g.R.Read.remaining c.args.input.now) (λ text. Covers x.terms.cut i x.terms.steps text c.args.marks covered.marks covered.extent)))
     (of_table _ c.in-Some.table _ c.in-Some.is c.in_ok-table.ensures.system ∙ c.in_ok-ports.ensures) c.inspect_with.ensures.covered
+
+pub returns-in_err-ports-clause-whole : goal.returns-in_err-ports-clause-whole
+returns-in_err-ports-clause-whole g c = ok_passed c.from_residual.result _ _ c.from_residual.ensures.1
+
+pub returns-in_err-ports-clause-covered : goal.returns-in_err-ports-clause-covered
+returns-in_err-ports-clause-covered g c = ok_passed c.from_residual.result _ _ c.from_residual.ensures.1
+
+pub returns-in_err-ports-clause-refused : goal.returns-in_err-ports-clause-refused
+returns-in_err-ports-clause-refused g c = λ _ _. none_passed _ _ _ c.from_residual.ensures.1 tt
+
+pub returns-in_err-table-clause-whole : goal.returns-in_err-table-clause-whole
+returns-in_err-table-clause-whole g c = ok_passed c.from_residual-in_err-table.result _ _ c.from_residual-in_err-table.ensures.1
+
+pub returns-in_err-table-clause-covered : goal.returns-in_err-table-clause-covered
+returns-in_err-table-clause-covered g c = ok_passed c.from_residual-in_err-table.result _ _ c.from_residual-in_err-table.ensures.1
+
+pub returns-in_err-table-clause-refused : goal.returns-in_err-table-clause-refused
+returns-in_err-table-clause-refused g c = λ _ _. none_passed _ _ _ c.from_residual-in_err-table.ensures.1 tt

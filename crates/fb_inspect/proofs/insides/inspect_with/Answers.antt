@@ -14,7 +14,8 @@ use Rattle.fb_inspect.proofs.Ended.{covers_of, front_none, starts_of}
 use Rattle.fb_inspect.proofs.Errors.{of_known, read_refuses}
 use Rattle.fb_inspect.proofs.Going.{text_begins}
 use Rattle.fb_inspect.proofs.Placed.{err_any}
-use Rattle.fb_inspect.proofs.Refused.{none_refused}
+use Rattle.fb_inspect.proofs.Refused.{none_passed, none_refused}
+use Rattle.fb_inspect.proofs.Joined.{ok_passed}
 use Rattle.fb_inspect.proofs.insides.inspect_with.Goals as goal
 
 pub returns-in_err-next_line-clause-fault : goal.returns-in_err-next_line-clause-fault
@@ -91,3 +92,33 @@ returns-in_err-extent-clause-refused g c = λ names few.
     c.in_ok-next_line.ensures.read c.in_ok-next_line.ensures.line (subst (λ (u : List ℕ). ShowsForm c.form_of-form.result u) c.as_slice.ensures.value c.form_of-form.ensures) refl in
     c.in_err-extent.ensures.refused only begins.0 text few names starts begins.1
     (subst (λ (u : List ℕ). BeginsText sys c.form_of-form.result u false begins.0 text) line_is begins.2)))
+
+pub returns-in_err-next_line-clause-whole : goal.returns-in_err-next_line-clause-whole
+returns-in_err-next_line-clause-whole g c = ok_passed c.from_residual.result _ _ c.from_residual.ensures.1
+
+pub returns-in_err-next_line-clause-covered : goal.returns-in_err-next_line-clause-covered
+returns-in_err-next_line-clause-covered g c = ok_passed c.from_residual.result _ _ c.from_residual.ensures.1
+
+pub returns-in_err-reading-clause-whole : goal.returns-in_err-reading-clause-whole
+returns-in_err-reading-clause-whole g c = ok_passed c.from_residual-in_err-reading.result _ _ c.from_residual-in_err-reading.ensures.1
+
+pub returns-in_err-reading-clause-covered : goal.returns-in_err-reading-clause-covered
+returns-in_err-reading-clause-covered g c = ok_passed c.from_residual-in_err-reading.result _ _ c.from_residual-in_err-reading.ensures.1
+
+pub returns-in_err-reading-clause-refused : goal.returns-in_err-reading-clause-refused
+returns-in_err-reading-clause-refused g c = λ _ _. none_passed _ _ _ c.from_residual-in_err-reading.ensures.1 tt
+
+pub returns-in_err-walk-clause-whole : goal.returns-in_err-walk-clause-whole
+returns-in_err-walk-clause-whole g c = ok_passed c.from_residual-in_err-walk.result _ _ c.from_residual-in_err-walk.ensures.1
+
+pub returns-in_err-walk-clause-covered : goal.returns-in_err-walk-clause-covered
+returns-in_err-walk-clause-covered g c = ok_passed c.from_residual-in_err-walk.result _ _ c.from_residual-in_err-walk.ensures.1
+
+pub returns-in_err-walk-clause-refused : goal.returns-in_err-walk-clause-refused
+returns-in_err-walk-clause-refused g c = λ _ _. none_passed _ _ _ c.from_residual-in_err-walk.ensures.1 tt
+
+pub returns-in_err-extent-clause-whole : goal.returns-in_err-extent-clause-whole
+returns-in_err-extent-clause-whole g c = ok_passed c.from_residual-in_err-extent.result _ _ c.from_residual-in_err-extent.ensures.1
+
+pub returns-in_err-extent-clause-covered : goal.returns-in_err-extent-clause-covered
+returns-in_err-extent-clause-covered g c = ok_passed c.from_residual-in_err-extent.result _ _ c.from_residual-in_err-extent.ensures.1

@@ -8,6 +8,8 @@ use Rattle.std.specs.Prelude.{IfErr, ◌≤◌}
 use Rattle.fb_wave.specs.Named.{HasNames}
 use Rattle.fb_inspect.specs.Looks.{most}
 use Rattle.fb_inspect.specs.Refusals.{IsWrongAt, OfRefusal}
+use Rattle.fb_inspect.proofs.Joined.{ok_passed}
+use Rattle.fb_inspect.proofs.Refused.{none_passed}
 use Rattle.fb_inspect.proofs.states.write_states.Goals as goal
 
 pub returns-in_err-ports-clause-fault : goal.returns-in_err-ports-clause-fault
@@ -40,3 +42,15 @@ returns-clause-refused g c =
     subst
     (λ (s : Inputs). HasNames (system_of s) → c.args.terms.steps ≤ most → IfErr c.write_with.result (OfRefusal (λ n. IfSome (g.R.Read.remaining c.args.input.now) (IsWrongAt (system_of s) c.args.terms.steps n))))
     (of_table _ c.in-Some.table _ c.in-Some.is c.in_ok-table.ensures.system ∙ c.in_ok-ports.ensures) c.write_with.ensures.refused
+
+pub returns-in_err-ports-clause-whole : goal.returns-in_err-ports-clause-whole
+returns-in_err-ports-clause-whole g c = ok_passed c.from_residual.result _ _ c.from_residual.ensures.1
+
+pub returns-in_err-ports-clause-refused : goal.returns-in_err-ports-clause-refused
+returns-in_err-ports-clause-refused g c = λ _ _. none_passed _ _ _ c.from_residual.ensures.1 tt
+
+pub returns-in_err-table-clause-whole : goal.returns-in_err-table-clause-whole
+returns-in_err-table-clause-whole g c = ok_passed c.from_residual-in_err-table.result _ _ c.from_residual-in_err-table.ensures.1
+
+pub returns-in_err-table-clause-refused : goal.returns-in_err-table-clause-refused
+returns-in_err-table-clause-refused g c = λ _ _. none_passed _ _ _ c.from_residual-in_err-table.ensures.1 tt

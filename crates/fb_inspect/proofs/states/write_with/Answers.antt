@@ -13,8 +13,9 @@ use Rattle.fb_inspect.proofs.Ending.{front_none}
 use Rattle.fb_inspect.proofs.Errors.{read_refuses}
 use Rattle.fb_inspect.proofs.Going.{text_begins}
 use Rattle.fb_inspect.proofs.Placed.{err_any}
-use Rattle.fb_inspect.proofs.Refused.{none_refused}
+use Rattle.fb_inspect.proofs.Refused.{none_passed, none_refused}
 use Rattle.fb_inspect.proofs.Refusing.{err_known}
+use Rattle.fb_inspect.proofs.Joined.{ok_passed}
 use Rattle.fb_inspect.proofs.states.write_with.Goals as goal
 
 pub returns-in_err-next_line-clause-fault : goal.returns-in_err-next_line-clause-fault
@@ -71,3 +72,18 @@ returns-clause-refused g c = λ names few.
     let begins = text_begins sys form c.next_line.new.line.items false text (g.R.Read.remaining c.args.input.now) (g.R.Read.remaining c.next_line.new.input) names known
     c.in_ok-next_line.ensures.read c.in_ok-next_line.ensures.line (subst (λ (u : List ℕ). ShowsForm form u) c.as_slice.ensures.value c.form_of-form.ensures) refl in
     c.go_through.ensures.refused begins.0 text few names begins.1 (subst (λ (u : List ℕ). BeginsText sys form u false begins.0 text) line_is begins.2))
+
+pub returns-in_err-next_line-clause-whole : goal.returns-in_err-next_line-clause-whole
+returns-in_err-next_line-clause-whole g c = ok_passed c.from_residual.result _ _ c.from_residual.ensures.1
+
+pub returns-in_err-reading-clause-whole : goal.returns-in_err-reading-clause-whole
+returns-in_err-reading-clause-whole g c = ok_passed c.from_residual-in_err-reading.result _ _ c.from_residual-in_err-reading.ensures.1
+
+pub returns-in_err-reading-clause-refused : goal.returns-in_err-reading-clause-refused
+returns-in_err-reading-clause-refused g c = λ _ _. none_passed _ _ _ c.from_residual-in_err-reading.ensures.1 tt
+
+pub returns-in_err-wave-clause-whole : goal.returns-in_err-wave-clause-whole
+returns-in_err-wave-clause-whole g c = ok_passed c.from_residual-in_err-wave.result _ _ c.from_residual-in_err-wave.ensures.1
+
+pub returns-in_err-wave-clause-refused : goal.returns-in_err-wave-clause-refused
+returns-in_err-wave-clause-refused g c = λ _ _. none_passed _ _ _ c.from_residual-in_err-wave.ensures.1 tt

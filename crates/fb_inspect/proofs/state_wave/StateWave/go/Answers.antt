@@ -22,6 +22,7 @@ use Rattle.fb_inspect.specs.declared.walk.Step.{Step}
 use Rattle.fb_inspect.proofs.Going.{cut_short_none}
 use Rattle.fb_inspect.proofs.Refused.{err_none, err_refused, none_refused, refused_then}
 use Rattle.fb_inspect.proofs.Ending.{after_last}
+use Rattle.fb_inspect.proofs.Joined.{ok_passed}
 use Rattle.fb_inspect.proofs.state_wave.StateWave.go.Goals as goal
 
 pub loop-init : goal.loop-init
@@ -195,3 +196,9 @@ returns-in-Ended-clause-refused g c = λ rest text few names known well begins.
 pub returns-in-CutOff-clause-refused : goal.returns-in-CutOff-clause-refused
 returns-in-CutOff-clause-refused g c = λ rest text few names known well begins.
     err_none c.finish_cut.result _ c.finish_cut.ensures.none
+
+pub returns-in_err-step-clause-whole : goal.returns-in_err-step-clause-whole
+returns-in_err-step-clause-whole g c = λ _ _. ok_passed c.from_residual.result _ _ c.from_residual.ensures.1
+
+pub returns-in_err-flush_much-in-Taken-clause-whole : goal.returns-in_err-flush_much-in-Taken-clause-whole
+returns-in_err-flush_much-in-Taken-clause-whole g c = λ _ _. ok_passed c.from_residual-in_err-flush_much-in-Taken.result _ _ c.from_residual-in_err-flush_much-in-Taken.ensures.1

@@ -21,6 +21,7 @@ use Rattle.fb_inspect.specs.Standing.{GoesAfter}
 use Rattle.fb_inspect.specs.declared.error.InspectError.{InspectError}
 use Rattle.fb_inspect.proofs.Going.{well_aside}
 use Rattle.fb_inspect.proofs.Moving.{next_line}
+use Rattle.fb_inspect.proofs.Joined.{ok_passed}
 use Rattle.fb_inspect.proofs.state_wave.StateWave.step.Goals as goal
 
 pub keep_next-requires-clause-next : goal.keep_next-requires-clause-next
@@ -144,3 +145,27 @@ returns-clause-stands g c = λ rest text few names known well.
     let w = c.args.self.now.walk in
     subst (λ (w : Walk). GoesAfter sys fixed.form c.args.terms.steps w c.step.new.ahead (g.R.Read.remaining c.step.new.input) text (Ok c.in_ok-step.step)) (sym c.in_ok-show.ensures.walk)
     (c.in_ok-step.ensures.stands rest text few names known (well_aside sys fixed.form c.args.terms.steps w c.forget.new.self _ _ c.args.ahead.now rest text c.forget.ensures.others well))
+
+pub returns-in_err-kept-clause-goes : goal.returns-in_err-kept-clause-goes
+returns-in_err-kept-clause-goes g c = λ _ _ _ _. ok_passed c.from_residual.result _ _ c.from_residual.ensures.1
+
+pub returns-in_err-kept-clause-cut : goal.returns-in_err-kept-clause-cut
+returns-in_err-kept-clause-cut g c = ok_passed c.from_residual.result _ _ c.from_residual.ensures.1
+
+pub returns-in_err-step-clause-goes : goal.returns-in_err-step-clause-goes
+returns-in_err-step-clause-goes g c = λ _ _ _ _. ok_passed c.from_residual-in_err-step.result _ _ c.from_residual-in_err-step.ensures.1
+
+pub returns-in_err-step-clause-cut : goal.returns-in_err-step-clause-cut
+returns-in_err-step-clause-cut g c = ok_passed c.from_residual-in_err-step.result _ _ c.from_residual-in_err-step.ensures.1
+
+pub returns-in_err-show_untaken-clause-goes : goal.returns-in_err-show_untaken-clause-goes
+returns-in_err-show_untaken-clause-goes g c = λ _ _ _ _. ok_passed c.from_residual-in_err-show_untaken.result _ _ c.from_residual-in_err-show_untaken.ensures.1
+
+pub returns-in_err-show_untaken-clause-cut : goal.returns-in_err-show_untaken-clause-cut
+returns-in_err-show_untaken-clause-cut g c = ok_passed c.from_residual-in_err-show_untaken.result _ _ c.from_residual-in_err-show_untaken.ensures.1
+
+pub returns-in_err-show-clause-goes : goal.returns-in_err-show-clause-goes
+returns-in_err-show-clause-goes g c = λ _ _ _ _. ok_passed c.from_residual-in_err-show.result _ _ c.from_residual-in_err-show.ensures.1
+
+pub returns-in_err-show-clause-cut : goal.returns-in_err-show-clause-cut
+returns-in_err-show-clause-cut g c = ok_passed c.from_residual-in_err-show.result _ _ c.from_residual-in_err-show.ensures.1
