@@ -1,7 +1,10 @@
 -- Texts that are put together part by part.
-use Rattle.std.proofs.Common.{◌≡◌, ℕ, ◌+◌, ◌<◌, ◌≤◌, Bool, Bor, List, [], ◌∷◌, ◌++◌, length, get_or, map, take, drop, inl, inr, refl, sym, ap, ◌∙◌, append_assoc, append-nil, arith, min}
+use Rattle.std.proofs.Common.{◌≡◌, ℕ, ◌+◌, ◌<◌, ◌≤◌, Bool, Bor, List, [], ◌∷◌, ◌++◌, length, get_or, map, take, drop, inl, inr, Result, Ok, Err, refl, sym, ap, ap₂, subst, ◌∙◌, append_assoc, append-nil, arith, min}
+use Rattle.std.specs.Prelude.{IfOk}
+use Rattle.std.specs.Result.{result_and}
 use Rattle.std.proofs.lemmas.Bool.{cases_lt}
 use Rattle.std.proofs.lemmas.List.{length-take-le, map-append, take-append-drop, take_all, take_more}
+use Rattle.std.proofs.lemmas.Result.{IfOk-equal}
 use Rattle.fb_expect.specs.Reports.{escape, escape_byte, joined, point, points}
 use Rattle.fb_expect.specs.Words.{Text}
 use Rattle.fb_expect.specs.declared.judging.Judged.{Judged}
@@ -16,7 +19,7 @@ joined-push (u ∷ ts) t = ap (λ (z : Text). u ++ z) (joined-push ts t) ∙ sym
 abbrev pub part_at : List (Bor Text) → ℕ → Text
 part_at ps i = (get_or ps i (record { ref_ptr = (0, 0); now = [] })).now
 
-abbrev texts : List (Bor Text) → List Text
+abbrev pub texts : List (Bor Text) → List Text
 texts ps = map (λ (q : Bor Text). q.now) ps
 
 -- one more part
@@ -34,6 +37,25 @@ escape-push mark (x ∷ z) b = ap (λ (t : Text). escape_byte mark x ++ t) (esca
 pub byte-more : (mark : ℕ) (z : Text) (i d : ℕ) → i < length z → escape mark (take (i + 1) z) ≡ escape mark (take i z) ++ escape_byte mark (get_or z i d)
 byte-more mark z i d lt = ap (escape mark) (take_more z i d lt) ∙ escape-push mark (take i z) (get_or z i d)
 
+-- ---- Texts that are put after a text
+
+three-joined : (z a b x y v : Text) → a ≡ z ++ x → b ≡ a ++ y → b ++ v ≡ z ++ joined (x ∷ y ∷ v ∷ [])
+three-joined z a b x y v first second =
+    ap (λ (t : Text). t ++ v) (second ∙ ap (λ (t : Text). t ++ y) first ∙ append_assoc z x y) ∙ append_assoc z (x ++ y) v
+    ∙ ap (λ (t : Text). z ++ t) (append_assoc x y v ∙ ap (λ (t : Text). x ++ (y ++ t)) (sym (append-nil v)))
+
+-- what three calls put, of which each may fail
+pub three-put :
+    {T E : Type 0} (r s t q w : Result T E) (z a b c x y v : Text) → q ≡ result_and r s → w ≡ result_and q t → IfOk r (λ _. a ≡ z ++ x) → IfOk s (λ _. b ≡ a ++ y)
+    → IfOk t (λ _. c ≡ b ++ v) → IfOk w (λ _. c ≡ z ++ joined (x ∷ y ∷ v ∷ []))
+three-put {T} {E} (Err e) s t q w z a b c x y v is all-is first second third =
+    subst (λ (o : Result T E). IfOk o (λ _. c ≡ z ++ joined (x ∷ y ∷ v ∷ []))) (sym (all-is ∙ ap (λ (o : Result T E). result_and o t) is)) tt
+three-put {T} {E} (Ok k) (Err e) t q w z a b c x y v is all-is first second third =
+    subst (λ (o : Result T E). IfOk o (λ _. c ≡ z ++ joined (x ∷ y ∷ v ∷ []))) (sym (all-is ∙ ap (λ (o : Result T E). result_and o t) is)) tt
+three-put {T} {E} (Ok k) (Ok m) t q w z a b c x y v is all-is first second third =
+    subst (λ (o : Result T E). IfOk o (λ _. c ≡ z ++ joined (x ∷ y ∷ v ∷ []))) (sym (all-is ∙ ap (λ (o : Result T E). result_and o t) is))
+    (IfOk-equal t c (b ++ v) (z ++ joined (x ∷ y ∷ v ∷ [])) third (three-joined z a b x y v first second))
+
 -- ---- Points
 
 points-push :
@@ -47,17 +69,38 @@ points-push strict of before (s ∷ rs) (k ∷ js) r j same =
     ap (λ (t : Text). one ++ t) (points-push strict of (before + 1) rs js r j (omega arith) ∙ ap (λ (n : ℕ). points strict of (before + 1) rs js ++ point strict of n r j) (omega arith))
     ∙ sym (append_assoc one (points strict of (before + 1) rs js) (point strict of (before + length (s ∷ rs) + 1) r j))
 
--- one more point
-pub point-more :
-    (strict : Bool) (of : Of) (before : ℕ) (rs : List Rule) (js : List Judged) (i : ℕ) (r : Rule) (j : Judged) → i < length rs → i < length js → r ≡ get_or rs i r → j ≡ get_or js i j
-    → points strict of before (take (i + 1) rs) (take (i + 1) js) ≡ points strict of before (take i rs) (take i js) ++ point strict of (before + i + 1) r j
-point-more strict of before rs js i r j lt lt' is-r is-j =
+-- a point: what its line begins and ends with, and its comments
+pub point-put :
+    {T E : Type 0} (r s q : Result T E) (z a b h t v head tail : Text) → head ≡ h → tail ≡ t → q ≡ result_and r s → IfOk r (λ _. a ≡ z ++ joined (head ∷ tail ∷ []))
+    → IfOk s (λ _. b ≡ a ++ v) → IfOk q (λ _. b ≡ z ++ (h ++ (t ++ v)))
+point-put {T} {E} (Err e) s q z a b h t v head tail is-head is-tail is first second = subst (λ (o : Result T E). IfOk o (λ _. b ≡ z ++ (h ++ (t ++ v)))) (sym is) tt
+point-put {T} {E} (Ok k) s q z a b h t v head tail is-head is-tail is first second =
+    subst (λ (o : Result T E). IfOk o (λ _. b ≡ z ++ (h ++ (t ++ v)))) (sym is)
+    (IfOk-equal s b (a ++ v) (z ++ (h ++ (t ++ v))) second
+    (ap (λ (u : Text). u ++ v) (first ∙ ap₂ (λ (f g : Text). z ++ (f ++ (g ++ []))) is-head is-tail ∙ ap (λ (u : Text). z ++ (h ++ u)) (append-nil t))
+    ∙ append_assoc z (h ++ t) v ∙ ap (λ (u : Text). z ++ u) (append_assoc h t v)))
+
+point-more :
+    (strict : Bool) (of : Of) (before : ℕ) (rs : List Rule) (js : List Judged) (i : ℕ) (r : Rule) (d : Judged) → i < length rs → i < length js → r ≡ get_or rs i r
+    → points strict of before (take (i + 1) rs) (take (i + 1) js) ≡ points strict of before (take i rs) (take i js) ++ point strict of (before + i + 1) r (get_or js i d)
+point-more strict of before rs js i r d lt lt' is-r =
+    let j = get_or js i d in
     let short : length (take i rs) ≡ i = length-take-le i rs (omega arith) in
     let short' : length (take i js) ≡ i = length-take-le i js (omega arith) in
     ap (λ (xs : List Rule). points strict of before xs (take (i + 1) js)) (take_more rs i r lt ∙ ap (λ (x : Rule). take i rs ++ x ∷ []) (sym is-r))
-    ∙ ap (λ (xs : List Judged). points strict of before (take i rs ++ r ∷ []) xs) (take_more js i j lt' ∙ ap (λ (x : Judged). take i js ++ x ∷ []) (sym is-j))
+    ∙ ap (λ (xs : List Judged). points strict of before (take i rs ++ r ∷ []) xs) (take_more js i d lt')
     ∙ points-push strict of before (take i rs) (take i js) r j (omega arith)
     ∙ ap (λ (n : ℕ). points strict of before (take i rs) (take i js) ++ point strict of (before + n + 1) r j) short
+
+-- one more point, put after those before it
+pub point-added :
+    (strict : Bool) (of : Of) (before : ℕ) (rs : List Rule) (js : List Judged) (i : ℕ) (r : Rule) (d : Judged) (number : ℕ) (z a b : Text) → i < length rs → i < length js
+    → r ≡ get_or rs i r → number ≡ before + i → a ≡ z ++ points strict of before (take i rs) (take i js) → b ≡ a ++ point strict of (number + 1) r (get_or js i d)
+    → b ≡ z ++ points strict of before (take (i + 1) rs) (take (i + 1) js)
+point-added strict of before rs js i r d number z a b lt lt' is-r is-number said is =
+    let one = point strict of (before + i + 1) r (get_or js i d) in
+    is ∙ ap (λ (n : ℕ). a ++ point strict of (n + 1) r (get_or js i d)) is-number ∙ ap (λ (t : Text). t ++ one) said
+    ∙ append_assoc z (points strict of before (take i rs) (take i js)) one ∙ ap (λ (t : Text). z ++ t) (sym (point-more strict of before rs js i r d lt lt' is-r))
 
 -- ---- Points end with the shorter list
 

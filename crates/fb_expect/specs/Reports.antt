@@ -7,6 +7,7 @@ use Rattle.fb_expect.specs.declared.pattern.Pattern.{Pattern}
 use Rattle.fb_expect.specs.declared.rule.Rule.{Rule}
 use Rattle.fb_expect.specs.declared.sight.Sight.{Sight}
 use Rattle.fb_expect.specs.declared.sight.Sight.TheVariants.{Nothing, Port, All}
+use Rattle.fb_expect.specs.declared.sight.Sights.{Sights}
 use Rattle.fb_expect.specs.declared.tap.Of.{Of}
 use Rattle.fb_expect.specs.declared.verdict.Breach.{Breach}
 use Rattle.fb_expect.specs.declared.verdict.Fault.{Fault}
@@ -102,6 +103,10 @@ comment p All = []
 abbrev pub may_comment : Option Pattern → Sight → Text
 may_comment None s = []
 may_comment (Some p) s = comment p s
+
+-- what the trace does not have of the patterns of a rule
+abbrev pub comments : Rule → Sights → Text
+comments r s = joined (comment r.first s.first ∷ may_comment r.second s.second ∷ may_comment r.third s.third ∷ [])
 
 -- The point of a rule at a trace.
 unfoldable pub point : (strict : Bool) → Of → (number : ℕ) → Rule → Judged → Text

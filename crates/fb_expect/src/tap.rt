@@ -6,18 +6,26 @@ ghost use Rattle.fb_expect.specs.Reports as spec;
 use crate::judging::Judged;
 use crate::pattern::Pattern;
 use crate::rule::Rule;
-use crate::sight::Sight;
+use crate::sight::{Sight, Sights};
 use crate::verdict::{Breach, Fault, Verdict};
 use std::alloc::{AllocError, Global};
+
+/// Appends one text after the other to a text.
+fn put_all(text: &mut Vec<u8>, parts: &[&[u8]]) -> Result<(), AllocError>
+    ensures { OnOk result (text.new.items ≡ text.old.items ++ spec.joined (map (λ p. p.now) parts.now)) }
+{
+    for part in parts {
+        text.extend_from_slice(part)?;
+    }
+    Ok(())
+}
 
 /// One text after the other.
 pub(crate) fn join(alloc: Global, parts: &[&[u8]]) -> Result<Vec<u8>, AllocError>
     ensures { IfOk result (λ t. t.items ≡ spec.joined (map (λ p. p.now) parts.now)) }
 {
     let mut text = Vec::new(alloc);
-    for part in parts {
-        text.extend_from_slice(part)?;
-    }
+    put_all(&mut text, parts)?;
     Ok(text)
 }
 
@@ -208,37 +216,46 @@ fn tail(
     }
 }
 
-/// A line that says what a trace does not have of a pattern, or nothing.
-fn comment(alloc: Global, pattern: &Pattern, sight: Sight) -> Result<Vec<u8>, AllocError>
-    ensures { IfOk result (λ t. t.items ≡ spec.comment pattern.now sight) }
+/// Appends a line that says what a trace does not have of a pattern, or nothing.
+fn put_comment(text: &mut Vec<u8>, pattern: &Pattern, sight: Sight) -> Result<(), AllocError>
+    ensures { OnOk result (text.new.items ≡ text.old.items ++ spec.comment pattern.now sight) }
 {
-    let text = pattern.text.as_slice();
+    let of = pattern.text.as_slice();
     match sight {
-        Sight::Nothing => join(alloc, &[b"# no line of the trace is of: ", text, b"\n"]),
-        Sight::Port => join(
-            alloc,
+        Sight::Nothing => put_all(text, &[b"# no line of the trace is of: ", of, b"\n"]),
+        Sight::Port => put_all(
+            text,
             &[
                 b"# no such line of the trace has the variables of: ",
-                text,
+                of,
                 b"\n",
             ],
         ),
-        Sight::All => Ok(Vec::new(alloc)),
+        Sight::All => Ok(()),
     }
 }
 
 /// The same of a pattern that may be absent.
-fn may_comment(
-    alloc: Global,
+fn put_may_comment(
+    text: &mut Vec<u8>,
     pattern: &Option<Pattern>,
     sight: Sight,
-) -> Result<Vec<u8>, AllocError>
-    ensures { IfOk result (λ t. t.items ≡ spec.may_comment pattern.now sight) }
+) -> Result<(), AllocError>
+    ensures { OnOk result (text.new.items ≡ text.old.items ++ spec.may_comment pattern.now sight) }
 {
     match pattern {
-        Some(pattern) => comment(alloc, pattern, sight),
-        None => Ok(Vec::new(alloc)),
+        Some(pattern) => put_comment(text, pattern, sight),
+        None => Ok(()),
     }
+}
+
+/// Appends what a trace does not have of the patterns of a rule.
+fn put_comments(text: &mut Vec<u8>, rule: &Rule, sights: Sights) -> Result<(), AllocError>
+    ensures { OnOk result (text.new.items ≡ text.old.items ++ spec.comments rule.now sights) }
+{
+    put_comment(text, &rule.first, sights.first)
+        .and(put_may_comment(text, &rule.second, sights.second))
+        .and(put_may_comment(text, &rule.third, sights.third))
 }
 
 /// Whether a verdict is well.
@@ -264,34 +281,22 @@ pub fn are_well(is_strict: bool, judged: &[Judged]) -> bool
     true
 }
 
-/// The point of a rule at a trace.
-#[tactic(auto, unfolding(crate::specs::Reports::point))]
-fn point(
+/// Appends the point of a rule at a trace to a text.
+fn put_point(
     alloc: Global,
+    text: &mut Vec<u8>,
     is_strict: bool,
     of: Of<'_>,
     number: u128,
     rule: &Rule,
     judged: &Judged,
-) -> Result<Vec<u8>, AllocError>
-    ensures { IfOk result (λ t. t.items ≡ spec.point is_strict of.entry number rule.now judged.now) }
+) -> Result<(), AllocError>
+    ensures { OnOk result (text.new.items ≡ text.old.items ++ spec.point is_strict of.entry number rule.now judged.now) }
 {
     let verdict = judged.verdict;
     let head = head(alloc, is_well(is_strict, verdict), number, rule, of)?;
     let tail = tail(alloc, is_strict, of.trace, verdict)?;
-    let first = comment(alloc, &rule.first, judged.sights.first)?;
-    let second = may_comment(alloc, &rule.second, judged.sights.second)?;
-    let third = may_comment(alloc, &rule.third, judged.sights.third)?;
-    join(
-        alloc,
-        &[
-            head.as_slice(),
-            tail.as_slice(),
-            first.as_slice(),
-            second.as_slice(),
-            third.as_slice(),
-        ],
-    )
+    put_all(text, &[head.as_slice(), tail.as_slice()]).and(put_comments(text, rule, judged.sights))
 }
 
 /// The count of points of this many rules at this many traces.
@@ -333,10 +338,17 @@ pub fn put_points(
     ensures { OnOk result (text.new.items ≡ text.old.items ++ spec.points is_strict of.entry (length rules.now * before) rules.now judged.now) }
 {
     let mut number = point_count(rules, before);
-    for (rule, judged) in rules.iter().zip(judged) {
+    for index in 0..rules.len().min(judged.len()) {
         number += 1;
-        let point = point(alloc, is_strict, of, number, rule, judged)?;
-        text.extend_from_slice(point.as_slice())?;
+        put_point(
+            alloc,
+            text,
+            is_strict,
+            of,
+            number,
+            &rules[index],
+            &judged[index],
+        )?;
     }
     Ok(())
 }

@@ -1,6 +1,0 @@
-use Rattle.std.proofs.Common.{◌≡◌, map, take}
-use Rattle.fb_expect.specs.Reports.{joined}
-use Rattle.fb_expect.proofs.tap.join.Given as goal
-
-abbrev pub invariant-loop-part : goal.invariant-loop-part
-invariant-loop-part l = l.text.items ≡ joined (map (λ p. p.now) (take l.part-index l.parts))
