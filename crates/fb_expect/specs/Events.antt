@@ -45,6 +45,19 @@ abbrev pub IsHead : Form → Text → Type 0
 IsHead One head = head ≡ []
 IsHead Two head = IsKeyText head
 
+-- The text begins with this tick, a blank and the resource, and the rest comes after them.
+pub record IsStart (text : Text) (tick : ℕ) (resource rest : Text) : Type 0 where
+  pub digits : Text
+  pub tick_is : magnitude digits ≡ Some tick
+  pub resource_is : is_name resource ≡ true
+  pub parts : text ≡ digits ++ (codes " " ++ (resource ++ rest))
+
+-- The text is a port, what may come after it, and a line feed.
+pub record IsPortText (text port values : Text) : Type 0 where
+  pub port_is : is_port port ≡ true
+  pub values_are : list_all is_binding (words_after values) ≡ true
+  pub parts : text ≡ port ++ (values ++ codes "\n")
+
 -- The text is the line of the event in a form, with its line feed.
 pub record IsLine (form : Form) (text : Text) (e : Event) : Type 0 where
   pub head : Text

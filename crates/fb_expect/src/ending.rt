@@ -3,9 +3,9 @@
 ghost use Rattle.std.specs.Prelude.{◌≡◌, ◌++◌, ◌↔◌, IfSome, IsTrue, codes};
 ghost use Rattle.fb_expect.specs.Traces.{EndsAfter, IsEndOf, IsReason, IsStopText, tick_of};
 
-use crate::names::is_name;
+use crate::event::start_of;
 use crate::number::magnitude;
-use crate::words::{after_front, before, cut};
+use crate::words::{after_front, before};
 
 /// How a trace ends. Ticks are milliseconds.
 #[derive(Clone, Copy)]
@@ -40,14 +40,12 @@ fn is_reason(text: &[u8]) -> bool
 fn stop_of(text: &[u8]) -> Option<u64>
     ensures { IfSome result (IsStopText text.now) }
 {
-    let (digits, text) = cut(text)?;
-    let tick = magnitude(digits)?;
-    let (resource, text) = cut(after_front(text, b" ")?)?;
-    let reason = after_front(text, b" ")?;
-    if !is_name(resource) || !is_reason(reason) {
-        return None;
+    let (tick, _, text) = start_of(text)?;
+    if is_reason(after_front(text, b" ")?) {
+        Some(tick)
+    } else {
+        None
     }
-    Some(tick)
 }
 
 /// The end in a line, with its line feed.

@@ -2,7 +2,7 @@
 
 ghost use Rattle.std.specs.Prelude.{◌≡◌, ◌≤◌, ◌++◌, codes, IfSome, List, ℕ};
 ghost use Rattle.std.specs.List.{list_all};
-ghost use Rattle.fb_expect.specs.Events.{IsHead, IsKeyText, IsLine, IsNumberText, event_of, side_text};
+ghost use Rattle.fb_expect.specs.Events.{IsHead, IsKeyText, IsLine, IsNumberText, IsPortText, IsStart, event_of, side_text};
 ghost use Rattle.fb_expect.specs.Words as spec;
 
 use crate::entry::Entry;
@@ -20,9 +20,8 @@ fn after_number(text: &[u8], most: u128) -> Option<&[u8]>
     ensures { IfSome result (λ rest. (head : List ℕ) × IsNumberText most head × (text.now ≡ head ++ rest.now)) }
 {
     let (digits, rest) = cut(text)?;
-    let rest = after_front(rest, b" ")?;
     if is_number(digits, most) {
-        Some(rest)
+        after_front(rest, b" ")
     } else {
         None
     }
@@ -44,6 +43,20 @@ fn after_head(form: Form, text: &[u8]) -> Option<&[u8]>
     match form {
         Form::One => Some(text),
         Form::Two => after_key(text),
+    }
+}
+
+/// The tick and the resource that a text begins with, and what comes after them.
+pub(crate) fn start_of(text: &[u8]) -> Option<(u64, &[u8], &[u8])>
+    ensures { IfSome result (λ p. IsStart text.now p.0 p.1.now p.2.now) }
+{
+    let (digits, rest) = cut(text)?;
+    let tick = magnitude(digits)?;
+    let (resource, rest) = cut(after_front(rest, b" ")?)?;
+    if is_name(resource) {
+        Some((tick, resource, rest))
+    } else {
+        None
     }
 }
 
@@ -80,18 +93,25 @@ fn are_values(text: &[u8]) -> bool
     }
 }
 
+/// The port that a text begins with, and the values between it and the line feed.
+fn port_of(text: &[u8]) -> Option<(&[u8], &[u8])>
+    ensures { IfSome result (λ p. IsPortText text.now p.0.now p.1.now) }
+{
+    let (port, rest) = cut(text)?;
+    let values = before(rest, b"\n")?;
+    if is_port(port) && are_values(values) {
+        Some((port, values))
+    } else {
+        None
+    }
+}
+
 /// The entry whose text in a form this is, with its line feed.
 pub(crate) fn read_entry(form: Form, text: &[u8]) -> Option<Entry<'_>>
     ensures { IfSome result (λ e. IsLine form text.now (event_of e)) }
 {
-    let (digits, text) = cut(after_head(form, text)?)?;
-    let tick = magnitude(digits)?;
-    let (resource, text) = cut(after_front(text, b" ")?)?;
+    let (tick, resource, text) = start_of(after_head(form, text)?)?;
     let (taken, text) = side_of(text)?;
-    let (port, text) = cut(text)?;
-    let values = before(text, b"\n")?;
-    if !is_name(resource) || !is_port(port) || !are_values(values) {
-        return None;
-    }
+    let (port, values) = port_of(text)?;
     Some(Entry::of(tick, resource, taken, port, values))
 }
