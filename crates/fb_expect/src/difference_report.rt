@@ -1,6 +1,7 @@
 //! Reports how two lines differ.
 
 ghost use Rattle.std.specs.Prelude.{◌≡◌, IfOk};
+ghost use Rattle.std.specs.Str.{bytes_eq};
 ghost use Rattle.fb_expect.specs.DifferenceReport as spec;
 ghost use Rattle.fb_expect.specs.DifferenceReport.{IsKind, ShowsDifference};
 
@@ -40,6 +41,12 @@ fn kind_of(line: &[u8]) -> LineKind<'_>
     }
 }
 
+fn is_same(left: &[u8], right: &[u8]) -> bool
+    ensures { result ≡ bytes_eq left.now right.now }
+{
+    left == right
+}
+
 /// The word, unless two parts are the same.
 fn word_unless(same: bool, word: &'static [u8]) -> &'static [u8]
     ensures { result.now ≡ spec.word_unless same word.entry.now }
@@ -52,14 +59,14 @@ fn word_unless(same: bool, word: &'static [u8]) -> &'static [u8]
 fn parts(alloc: Global, left: &Entry<'_>, right: &Entry<'_>) -> Result<Vec<u8>, AllocError>
     ensures { IfOk result (λ t. t.items ≡ spec.parts left.now right.now) }
 {
-    let is_same_port = left.port == right.port && left.taken == right.taken;
+    let is_same_port = is_same(left.port, right.port) && left.taken == right.taken;
     join(
         alloc,
         &[
             word_unless(left.tick == right.tick, b", tick"),
-            word_unless(left.resource == right.resource, b", resource"),
+            word_unless(is_same(left.resource, right.resource), b", resource"),
             word_unless(is_same_port, b", port"),
-            word_unless(left.values == right.values, b", value"),
+            word_unless(is_same(left.values, right.values), b", value"),
         ],
     )
 }
