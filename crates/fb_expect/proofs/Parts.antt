@@ -1,9 +1,11 @@
 -- The parts of a text before and after a mark.
-use Rattle.std.proofs.Common.{◌≡◌, ℕ, ◌+◌, ◌-◌, ◌<◌, ◌≤◌, ltb, nat_eq, true, false, length, get_or, take, drop, Some, None, refl, arith}
+use Rattle.std.proofs.Common.{◌≡◌, ℕ, ◌+◌, ◌-◌, ◌<◌, ◌≤◌, Bool, [], ◌∷◌, inl, inr, ltb, nat_eq, true, false, length, get_or, take, drop, Some, None, refl, sym, ap, ap₂, ◌∙◌, arith}
+use Rattle.std.specs.Prelude.{Option, ◌&&◌, ◌||◌, if◌then◌else◌, is_some, unwrap_or}
 use Rattle.std.proofs.lemmas.List.{take_all, length-drop}
-use Rattle.std.proofs.lemmas.Bool.{lt-ltb}
-use Rattle.std.proofs.lemmas.List.Sums.{position_or_len_is}
-use Rattle.std.specs.List.{position_or_len}
+use Rattle.std.proofs.lemmas.Bool.{cases_lt, lt-ltb}
+use Rattle.std.proofs.lemmas.List.Splits.{slice_split_first, slice_split_none}
+use Rattle.std.proofs.lemmas.List.Sums.{fails_before_first, position_or_len_is}
+use Rattle.std.specs.List.{after_first, before_first, list_all, list_any, position_or_len, slice_split}
 use Rattle.fb_expect.specs.Words.{Text, split_at_mark}
 use Rattle.fb_expect.specs.Written.{at_comparison, is_sign}
 
@@ -21,6 +23,77 @@ parted_none mark z before =
     let e : position_or_len (nat_eq mark) z ≡ length z = position_or_len_is (nat_eq mark) z (length z) 0 (omega arith) before (λ lt. absurd (omega arith)) in
     let never : ltb (length z) (length z) ≡ false = grind arith in
     rw (e, never) refl
+
+-- what comes before the first mark, and after it
+cut_at : (mark : ℕ) (z a b : Text) → Some (a, b) ≡ split_at_mark mark z
+    → (position_or_len (nat_eq mark) z < length z) × (a ≡ before_first (nat_eq mark) z) × (b ≡ after_first (nat_eq mark) z)
+unfolding split_at_mark
+cut_at mark z a b is =
+    let p = position_or_len (nat_eq mark) z in
+    elim (cases_lt p (length z)) [
+      | inl lt ↦
+          (let e : Some (a, b) ≡ Some (take p z, drop (p + 1) z) = is ∙ (rw (lt-ltb p (length z) lt) refl) in
+          (lt, ap (λ (o : Option (Text × Text)). (unwrap_or o (a, b)).0) e, ap (λ (o : Option (Text × Text)). (unwrap_or o (a, b)).1) e))
+      | inr le ↦
+          (let never : ltb p (length z) ≡ false = grind arith in
+          let e : Some (a, b) ≡ None = is ∙ (rw never refl) in
+          let no : ◌≡◌ {A = ℕ} 1 0 = ap (λ (o : Option (Text × Text)). if is_some o then 1 else 0) e in
+          absurd (omega (arith, no)))
+    ]
+
+pub part_first : (mark : ℕ) (z a b : Text) → Some (a, b) ≡ split_at_mark mark z → slice_split (nat_eq mark) z ≡ a ∷ slice_split (nat_eq mark) b
+part_first mark z a b is =
+    let cut = cut_at mark z a b is in
+    slice_split_first (nat_eq mark) z 0 cut.0 ∙ ap₂ (λ (x y : Text). x ∷ slice_split (nat_eq mark) y) (sym cut.1) (sym cut.2)
+
+pub part_last : (mark : ℕ) (z : Text) → None ≡ split_at_mark mark z → slice_split (nat_eq mark) z ≡ z ∷ []
+unfolding split_at_mark
+part_last mark z is =
+    let p = position_or_len (nat_eq mark) z in
+    elim (cases_lt p (length z)) [
+      | inl lt ↦
+          (let e : None ≡ Some (take p z, drop (p + 1) z) = is ∙ (rw (lt-ltb p (length z) lt) refl) in
+          let no : ◌≡◌ {A = ℕ} 0 1 = ap (λ (o : Option (Text × Text)). if is_some o then 1 else 0) e in
+          absurd (omega (arith, no)))
+      | inr le ↦ slice_split_none (nat_eq mark) z (λ k d lt. fails_before_first (nat_eq mark) z k d (omega (arith, lt, le)))
+    ]
+
+-- what comes after a mark is shorter
+pub part_shorter : (mark : ℕ) (z a b : Text) → Some (a, b) ≡ split_at_mark mark z → length b < length z
+part_shorter mark z a b is =
+    let cut = cut_at mark z a b is in
+    let p = position_or_len (nat_eq mark) z in
+    let n : length b ≡ length z - (p + 1) = ap length cut.2 ∙ length-drop (p + 1) z in
+    let lt : p < length z = cut.0 in
+    omega (arith, n, lt)
+
+-- a test of all parts, and of any
+and-yes : (b : Bool) → (b && true) ≡ b
+and-yes true = refl
+and-yes false = refl
+
+or-no : (b : Bool) → (b || false) ≡ b
+or-no true = refl
+or-no false = refl
+
+module _ (test : Text → Bool) (mark : ℕ) where
+  abbrev all_in : Text → Bool
+  all_in z = list_all test (slice_split (nat_eq mark) z)
+
+  abbrev any_in : Text → Bool
+  any_in z = list_any test (slice_split (nat_eq mark) z)
+
+  pub all-first : (z a b : Text) (t : Bool) → Some (a, b) ≡ split_at_mark mark z → test a ≡ t → all_in z ≡ (t && all_in b)
+  all-first z a b t is of = ap (list_all test) (part_first mark z a b is) ∙ ap (λ (x : Bool). x && all_in b) of
+
+  pub all-last : (z : Text) → None ≡ split_at_mark mark z → all_in z ≡ test z
+  all-last z is = ap (list_all test) (part_last mark z is) ∙ and-yes (test z)
+
+  pub any-first : (z a b : Text) (t : Bool) → Some (a, b) ≡ split_at_mark mark z → test a ≡ t → any_in z ≡ (t || any_in b)
+  any-first z a b t is of = ap (list_any test) (part_first mark z a b is) ∙ ap (λ (x : Bool). x || any_in b) of
+
+  pub any-last : (z : Text) → None ≡ split_at_mark mark z → any_in z ≡ test z
+  any-last z is = ap (list_any test) (part_last mark z is) ∙ or-no (test z)
 
 -- the parts before and from a comparison on
 pub sign_at : (z : Text) (i : ℕ) → i < length z → ((k : ℕ) → k < i → is_sign (get_or z k 0) ≡ false) → is_sign (get_or z i 0) ≡ true

@@ -85,12 +85,16 @@ fn is_binding(word: &[u8]) -> bool
 fn are_values(text: &[u8]) -> bool
     ensures { result ≡ list_all spec.is_binding (spec.words_after text.now) }
 {
-    match after_blank(text) {
-        Some(words) => words
-            .split(|byte| *byte == b' ')
-            .all(|word| is_binding(word)),
-        None => true,
+    let Some(mut rest) = after_blank(text) else {
+        return true;
+    };
+    while let Some((word, after)) = split_at_mark(rest, b' ') {
+        if !is_binding(word) {
+            return false;
+        }
+        rest = after;
     }
+    is_binding(rest)
 }
 
 /// The port that a text begins with, and the values between it and the line feed.

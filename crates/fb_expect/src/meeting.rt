@@ -81,24 +81,32 @@ fn is_named_by(condition: &Condition, word: &[u8]) -> bool
 fn is_met(condition: &Condition, values: &[u8]) -> bool
     ensures { result ≡ spec.is_met condition.now values.now }
 {
-    match after_blank(values) {
-        Some(words) => words
-            .split(|byte| *byte == b' ')
-            .any(|word| is_met_by(condition, word)),
-        None => false,
+    let Some(mut rest) = after_blank(values) else {
+        return false;
+    };
+    while let Some((word, after)) = split_at_mark(rest, b' ') {
+        if is_met_by(condition, word) {
+            return true;
+        }
+        rest = after;
     }
+    is_met_by(condition, rest)
 }
 
 /// Whether one of the values of a line is of the variable of a condition.
 fn is_named(condition: &Condition, values: &[u8]) -> bool
     ensures { result ≡ spec.is_named condition.now values.now }
 {
-    match after_blank(values) {
-        Some(words) => words
-            .split(|byte| *byte == b' ')
-            .any(|word| is_named_by(condition, word)),
-        None => false,
+    let Some(mut rest) = after_blank(values) else {
+        return false;
+    };
+    while let Some((word, after)) = split_at_mark(rest, b' ') {
+        if is_named_by(condition, word) {
+            return true;
+        }
+        rest = after;
     }
+    is_named_by(condition, rest)
 }
 
 fn is_way(way: Way, taken: bool) -> bool

@@ -4,6 +4,8 @@ ghost use Rattle.std.specs.Prelude.{◌≡◌};
 ghost use Rattle.std.specs.List.{list_all};
 ghost use Rattle.fb_expect.specs.Words as spec;
 
+use crate::words::split_at_mark;
+
 /// Whether a name can begin with a byte: an upper-case letter or an underscore.
 fn is_letter(byte: u8) -> bool
     ensures { result ≡ spec.is_letter byte }
@@ -43,7 +45,14 @@ pub(crate) fn is_name(text: &[u8]) -> bool
 pub(crate) fn is_path(text: &[u8]) -> bool
     ensures { result ≡ spec.is_path text.now }
 {
-    text.split(|byte| *byte == b'.').all(|part| is_name(part))
+    let mut rest = text;
+    while let Some((name, after)) = split_at_mark(rest, b'.') {
+        if !is_name(name) {
+            return false;
+        }
+        rest = after;
+    }
+    is_name(rest)
 }
 
 /// Whether a full stop is in a text.

@@ -1,13 +1,23 @@
-use Rattle.std.proofs.Common.{nat_eq, refl, rules, sym, ap, ◌∙◌, tests}
+use Rattle.std.proofs.Common.{sym, ap, ◌∙◌}
 use Rattle.std.specs.List.{list_all}
-use Rattle.std.proofs.lemmas.Iterator.Search.{all_from_yields_List}
-use Rattle.std.proofs.lemmas.Iterator.Splits.{YieldsList-from_slice_split}
 use Rattle.fb_expect.specs.Words.{is_binding}
+use Rattle.fb_expect.proofs.Parts.{all-first, all-last, part_shorter}
 use Rattle.fb_expect.proofs.event.are_values.Goals as goal
 
-pub returns-in-Some : goal.returns-in-Some
-returns-in-Some c =
-    all_from_yields_List is_binding _ _ c.all.result c.all.ensures.ran
-    (YieldsList-from_slice_split _ (nat_eq 32) c.in-Some.words.now c.split.ensures.rest c.split.ensures.done refl (λ x r q k. search (rules, tests)))
-    (λ x b q k. search (rules, tests))
-    ∙ sym (ap (list_all is_binding) c.in-Some.ensures.some)
+pub loop-word-smaller : goal.loop-word-smaller
+loop-word-smaller c = part_shorter 32 c.loop-word.rest.now _ _ c.in-Some-split_at_mark.ensures
+
+pub loop-word-preserved : goal.loop-word-preserved
+loop-word-preserved c =
+    c.loop-word.invariant
+    ∙ all-first is_binding 32 c.loop-word.rest.now _ _ _ c.in-Some-split_at_mark.ensures (sym c.is_binding.ensures ∙ c.if-not-is_binding.false)
+
+pub returns-then-not-is_binding : goal.returns-then-not-is_binding
+returns-then-not-is_binding c =
+    sym (ap (list_all is_binding) c.in-Some.ensures.some ∙ c.loop-word.invariant
+    ∙ all-first is_binding 32 c.loop-word.rest.now _ _ _ c.in-Some-split_at_mark.ensures (sym c.is_binding.ensures ∙ c.if-not-is_binding.true))
+
+pub returns : goal.returns
+returns c =
+    c.is_binding-2.ensures ∙ sym (ap (list_all is_binding) c.in-Some.ensures.some ∙ c.loop-word.invariant
+    ∙ all-last is_binding 32 c.loop-word.rest.now c.in_default-split_at_mark.ensures)

@@ -1,13 +1,23 @@
-use Rattle.std.proofs.Common.{nat_eq, refl, rules, sym, ap, ◌∙◌, tests}
+use Rattle.std.proofs.Common.{sym, ap, ◌∙◌}
 use Rattle.std.specs.List.{list_any}
-use Rattle.std.proofs.lemmas.Iterator.Search.{any_from_yields_List}
-use Rattle.std.proofs.lemmas.Iterator.Splits.{YieldsList-from_slice_split}
 use Rattle.fb_expect.specs.Patterns.{is_named_by}
+use Rattle.fb_expect.proofs.Parts.{any-first, any-last, part_shorter}
 use Rattle.fb_expect.proofs.meeting.is_named.Goals as goal
 
-pub returns-in-Some : goal.returns-in-Some
-returns-in-Some c =
-    any_from_yields_List (is_named_by c.args.condition.now) _ _ c.any.result c.any.ensures.ran
-    (YieldsList-from_slice_split _ (nat_eq 32) c.in-Some.words.now c.split.ensures.rest c.split.ensures.done refl (λ x r q k. search (rules, tests)))
-    (λ x b q k. search (rules, tests))
-    ∙ sym (ap (list_any (is_named_by c.args.condition.now)) c.in-Some.ensures.some)
+pub loop-word-smaller : goal.loop-word-smaller
+loop-word-smaller c = part_shorter 32 c.loop-word.rest.now _ _ c.in-Some-split_at_mark.ensures
+
+pub loop-word-preserved : goal.loop-word-preserved
+loop-word-preserved c =
+    c.loop-word.invariant
+    ∙ any-first (is_named_by c.args.condition.now) 32 c.loop-word.rest.now _ _ _ c.in-Some-split_at_mark.ensures (sym c.is_named_by.ensures ∙ c.if-is_named_by.false)
+
+pub returns-then-is_named_by : goal.returns-then-is_named_by
+returns-then-is_named_by c =
+    sym (ap (list_any (is_named_by c.args.condition.now)) c.in-Some.ensures.some ∙ c.loop-word.invariant
+    ∙ any-first (is_named_by c.args.condition.now) 32 c.loop-word.rest.now _ _ _ c.in-Some-split_at_mark.ensures (sym c.is_named_by.ensures ∙ c.if-is_named_by.true))
+
+pub returns : goal.returns
+returns c =
+    c.is_named_by-2.ensures ∙ sym (ap (list_any (is_named_by c.args.condition.now)) c.in-Some.ensures.some ∙ c.loop-word.invariant
+    ∙ any-last (is_named_by c.args.condition.now) 32 c.loop-word.rest.now c.in_default-split_at_mark.ensures)

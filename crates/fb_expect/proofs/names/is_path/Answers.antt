@@ -1,11 +1,19 @@
-use Rattle.std.proofs.Common.{nat_eq, refl, rules, tests}
-use Rattle.std.proofs.lemmas.Iterator.Search.{all_from_yields_List}
-use Rattle.std.proofs.lemmas.Iterator.Splits.{YieldsList-from_slice_split}
+use Rattle.std.proofs.Common.{sym, ◌∙◌}
 use Rattle.fb_expect.specs.Words.{is_name}
+use Rattle.fb_expect.proofs.Parts.{all-first, all-last, part_shorter}
 use Rattle.fb_expect.proofs.names.is_path.Goals as goal
 
+pub loop-name-smaller : goal.loop-name-smaller
+loop-name-smaller c = part_shorter 46 c.loop-name.rest.now _ _ c.in-Some.ensures
+
+pub loop-name-preserved : goal.loop-name-preserved
+loop-name-preserved c =
+    c.loop-name.invariant
+    ∙ all-first is_name 46 c.loop-name.rest.now _ _ _ c.in-Some.ensures (sym c.is_name.ensures ∙ c.if-not-is_name.false)
+
+pub returns-then-not-is_name : goal.returns-then-not-is_name
+returns-then-not-is_name c =
+    sym (c.loop-name.invariant ∙ all-first is_name 46 c.loop-name.rest.now _ _ _ c.in-Some.ensures (sym c.is_name.ensures ∙ c.if-not-is_name.true))
+
 pub returns : goal.returns
-returns c =
-    all_from_yields_List is_name _ _ _ c.all.ensures.ran
-    (YieldsList-from_slice_split _ (nat_eq 46) c.args.text.now c.split.ensures.rest c.split.ensures.done refl (λ x r q k. search (rules, tests)))
-    (λ x b q k. search (rules, tests))
+returns c = c.is_name-2.ensures ∙ sym (c.loop-name.invariant ∙ all-last is_name 46 c.loop-name.rest.now c.in_default.ensures)

@@ -1,0 +1,10 @@
+use Rattle.std.proofs.Common.{◌≡◌, length, nat_eq}
+use Rattle.std.specs.List.{list_all, slice_split}
+use Rattle.fb_expect.specs.Words.{is_binding}
+use Rattle.fb_expect.proofs.event.are_values.Given as goal
+
+abbrev pub invariant-loop-word : goal.invariant-loop-word
+invariant-loop-word l = list_all is_binding (slice_split (nat_eq 32) l.initial.rest) ≡ list_all is_binding (slice_split (nat_eq 32) l.rest)
+
+abbrev pub decreases-loop-word : goal.decreases-loop-word
+decreases-loop-word l = length l.rest
