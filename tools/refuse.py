@@ -40,7 +40,10 @@ STOPPED = re.compile(rb"\ntest stopped at \S+\n")
 # The tests that are written for this, by their crates: each checks what the calls after one that ran out of memory do.
 TESTS = {
     "fb_parts_tests": ["tests::messages::messages_come_after_out_of_memory"],
-    "fb_sim_tests": ["tests::advances::after_out_of_memory_nothing_is_written", "tests::rounds::rounds_write_what_has_become_final"],
+    "fb_sim_tests": [
+        *(f"tests::advances::{it}_of_{by}_fails_for_good" for it in ("a_cycle", "an_arrival", "a_stop") for by in ("one_worker", "two_workers")),
+        *(f"tests::rounds::rounds_of_{it}_write_what_has_become_final" for it in ("one_worker", "two_workers", "64_workers")),
+    ],
 }
 # The number of runs that one call of refuse.c makes.
 AT_ONCE = 16

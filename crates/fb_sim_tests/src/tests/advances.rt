@@ -39,29 +39,31 @@ struct Pieces {
     trace: &'static str,
 }
 
-/// A tick that was advanced to before, or at which it has stopped, writes nothing again. A tick past the last is none.
-static PIECES: [Pieces; 4] = [
-    Pieces {
-        run: CYCLE_RUN,
-        ticks: &[1_000_000_000_001, 4, 4, 2, 8],
-        trace: CYCLE_TRACE,
-    },
-    Pieces {
-        run: CYCLE_RUN,
-        ticks: &[],
-        trace: "end 0\n",
-    },
-    Pieces {
-        run: BETWEEN_RUN,
-        ticks: &[9, 9],
-        trace: BETWEEN_TRACE,
-    },
-    Pieces {
-        run: RING_RUN,
-        ticks: &[7, 20, 50],
-        trace: RING_TRACE,
-    },
-];
+/// A tick that was advanced to before writes nothing again. A tick past the last is none.
+static CYCLE_PIECES: Pieces = Pieces {
+    run: CYCLE_RUN,
+    ticks: &[1_000_000_000_001, 4, 4, 2, 8],
+    trace: CYCLE_TRACE,
+};
+
+static NO_PIECES: Pieces = Pieces {
+    run: CYCLE_RUN,
+    ticks: &[],
+    trace: "end 0\n",
+};
+
+/// A tick at which it has stopped writes nothing again.
+static BETWEEN_PIECES: Pieces = Pieces {
+    run: BETWEEN_RUN,
+    ticks: &[9, 9],
+    trace: BETWEEN_TRACE,
+};
+
+static RING_PIECES: Pieces = Pieces {
+    run: RING_RUN,
+    ticks: &[7, 20, 50],
+    trace: RING_TRACE,
+};
 
 /// How a run is at a tick.
 fn outcome_at(run: &Run, tick: u64) -> Outcome {
@@ -99,13 +101,18 @@ fn expect_pieces<R: Abort + Threads + Wait + Sync>(
     assert!(rt; out.got.as_slice() == pieces.trace.as_bytes());
 }
 
+fn expect_all_ways<R: Abort + Threads + Wait + Sync>(rt: &R, alloc: Global, pieces: &Pieces) {
+    for way in &WAYS {
+        expect_pieces(rt, alloc, *way, pieces);
+    }
+}
+
 #[test]
 fn pieces_make_the_whole(rt: HostRuntime) {
-    for pieces in &PIECES {
-        for way in &WAYS {
-            expect_pieces(&rt, rt.alloc(), *way, pieces);
-        }
-    }
+    expect_all_ways(&rt, rt.alloc(), &CYCLE_PIECES);
+    expect_all_ways(&rt, rt.alloc(), &NO_PIECES);
+    expect_all_ways(&rt, rt.alloc(), &BETWEEN_PIECES);
+    expect_all_ways(&rt, rt.alloc(), &RING_PIECES);
 }
 
 /// A horizon, steps and workers, of which one is out of its range.
@@ -223,24 +230,51 @@ fn try_pieces<R: Threads + Wait + Sync>(
 }
 
 /// One request was refused if the first try is not open, so the second one has its memory.
-fn expect_failed_for_good<R: Abort + Threads + Wait + Sync>(rt: &R, alloc: Global, case: &Case) {
-    for workers in [1, 2] {
-        let mut out = page(alloc);
-        let mut tried = try_pieces(rt, alloc, &case.run, workers, &mut out);
-        if !tried.is_open {
-            tried = try_pieces(rt, alloc, &case.run, workers, &mut out);
-        }
-        let (trace, got) = (case.trace.as_bytes(), out.got.as_slice());
-        assert!(rt; tried.is_open && tried.stays_failed);
-        assert!(rt; trace.starts_with(got) && (tried.has_failed || got == trace));
+fn expect_failed_for_good<R: Abort + Threads + Wait + Sync>(
+    rt: &R,
+    alloc: Global,
+    case: &Case,
+    workers: u64,
+) {
+    let mut out = page(alloc);
+    let mut tried = try_pieces(rt, alloc, &case.run, workers, &mut out);
+    if !tried.is_open {
+        tried = try_pieces(rt, alloc, &case.run, workers, &mut out);
     }
+    let (trace, got) = (case.trace.as_bytes(), out.got.as_slice());
+    assert!(rt; tried.is_open && tried.stays_failed);
+    assert!(rt; trace.starts_with(got) && (tried.has_failed || got == trace));
 }
 
-/// A simulation that was once out of memory has failed for good. `tools/refuse.py` runs this with each request refused
-/// in turn. Without that no call fails.
+// A simulation that was once out of memory has failed for good. `tools/refuse.py` runs each of these with each request
+// refused in turn. Without that no call fails.
+
 #[test]
-fn after_out_of_memory_nothing_is_written(rt: HostRuntime) {
-    expect_failed_for_good(&rt, rt.alloc(), &CYCLE);
-    expect_failed_for_good(&rt, rt.alloc(), &ARRIVAL);
-    expect_failed_for_good(&rt, rt.alloc(), &BETWEEN);
+fn a_cycle_of_one_worker_fails_for_good(rt: HostRuntime) {
+    expect_failed_for_good(&rt, rt.alloc(), &CYCLE, 1);
+}
+
+#[test]
+fn a_cycle_of_two_workers_fails_for_good(rt: HostRuntime) {
+    expect_failed_for_good(&rt, rt.alloc(), &CYCLE, 2);
+}
+
+#[test]
+fn an_arrival_of_one_worker_fails_for_good(rt: HostRuntime) {
+    expect_failed_for_good(&rt, rt.alloc(), &ARRIVAL, 1);
+}
+
+#[test]
+fn an_arrival_of_two_workers_fails_for_good(rt: HostRuntime) {
+    expect_failed_for_good(&rt, rt.alloc(), &ARRIVAL, 2);
+}
+
+#[test]
+fn a_stop_of_one_worker_fails_for_good(rt: HostRuntime) {
+    expect_failed_for_good(&rt, rt.alloc(), &BETWEEN, 1);
+}
+
+#[test]
+fn a_stop_of_two_workers_fails_for_good(rt: HostRuntime) {
+    expect_failed_for_good(&rt, rt.alloc(), &BETWEEN, 2);
 }

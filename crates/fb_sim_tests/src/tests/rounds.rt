@@ -140,12 +140,21 @@ fn expect_rounds<R: Abort + Threads + Wait + Sync>(
     discard(system);
 }
 
-/// `tools/refuse.py` runs this with each request for memory refused in turn.
+// `tools/refuse.py` runs each of these with each request for memory refused in turn.
+
 #[test]
-fn rounds_write_what_has_become_final(rt: HostRuntime) {
-    for workers in [1, 2, 64] {
-        expect_rounds(&rt, rt.alloc(), (workers, ANY), &ARRIVAL_ROW);
-    }
+fn rounds_of_one_worker_write_what_has_become_final(rt: HostRuntime) {
+    expect_rounds(&rt, rt.alloc(), (1, ANY), &ARRIVAL_ROW);
+}
+
+#[test]
+fn rounds_of_two_workers_write_what_has_become_final(rt: HostRuntime) {
+    expect_rounds(&rt, rt.alloc(), (2, ANY), &ARRIVAL_ROW);
+}
+
+#[test]
+fn rounds_of_64_workers_write_what_has_become_final(rt: HostRuntime) {
+    expect_rounds(&rt, rt.alloc(), (64, ANY), &ARRIVAL_ROW);
 }
 
 pub static WAYS: [Way; 12] = [
