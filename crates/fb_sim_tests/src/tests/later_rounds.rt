@@ -114,105 +114,106 @@ struct Deployed {
     ways: &'static [Way],
 }
 
-// A resource gives 2 lines at tick 0; 1, 1, 60 and 1 at each of the 39 ticks from 1 on; and 2 for each message, which
-// were sent at the 34 ticks from 1 to 34: 2 + 39 * 63 + 34 * 2 = 2,527. Four of them, and the last line: 10,109. A round
-// of five ticks writes more than 20,000 bytes.
-static DEPLOYED: [Deployed; 4] = [
-    Deployed {
-        deploy: FIVE,
-        lines: 10_109,
-        // Eight rounds of some 1,280 lines. A run begins with three that are not timed, and two that are.
-        ways: &[
-            // One agenda goes on.
-            Way {
-                workers: &[2, 3, 64],
-                pace: Some(QUICK),
-                passes: Some(20),
-            },
-            // One agenda takes a second for 64 lines: rounds go on.
-            Way {
-                workers: &[2, 3, 64],
-                pace: Some(Pace {
-                    by_thread: 1_000_000_000,
-                    ..QUICK
-                }),
-                passes: Some(32),
-            },
-            // No round takes any time, so the trial does not end before the run.
-            Way {
-                workers: &[2, 3, 64],
-                pace: Some(Pace {
-                    by_wall: 0,
-                    ..QUICK
-                }),
-                passes: Some(32),
-            },
-            // Without a clock rounds go on.
-            Way {
-                workers: &[2, 3, 7, 64],
-                pace: None,
-                passes: Some(32),
-            },
-            // One agenda takes twice as long as a round for as many lines, or half as long: that is read after the
-            // lines that are not timed, and before all others.
-            Way {
-                workers: &[2],
-                pace: Some(SLOWER),
-                passes: Some(32),
-            },
-            Way {
-                workers: &[2],
-                pace: Some(Pace {
-                    by_thread: 50_000,
-                    ..SLOWER
-                }),
-                passes: Some(20),
-            },
-            // Another program takes ten seconds from the fourth round. Only the fifth counts.
-            Way {
-                workers: &[2],
-                pace: Some(Pace {
-                    late_from: 7,
-                    ..SLOWER
-                }),
-                passes: Some(32),
-            },
-        ],
-    },
-    // It is one round, whose text threads make. Its lines are those above without two for each message:
-    // 4 * (2 + 39 * 63) = 9,836, and the last line.
-    Deployed {
-        deploy: FIFTY,
-        lines: 9_837,
-        ways: &[Way {
+/// A resource gives 2 lines at tick 0; 1, 1, 60 and 1 at each of the 39 ticks from 1 on; and 2 for each message, which
+/// were sent at the 34 ticks from 1 to 34: 2 + 39 * 63 + 34 * 2 = 2,527. Four of them, and the last line: 10,109. A round
+/// of five ticks writes more than 20,000 bytes.
+static WITH_FIVE: Deployed = Deployed {
+    deploy: FIVE,
+    lines: 10_109,
+    // Eight rounds of some 1,280 lines. A run begins with three that are not timed, and two that are.
+    ways: &[
+        // One agenda goes on.
+        Way {
             workers: &[2, 3, 64],
-            pace: None,
-            passes: None,
-        }],
-    },
-    // CELL1 runs less far than the others, and the last lines of these are kept for a round. Three messages more arrive
-    // than above, of two lines each: 10,109 + 6 = 10,115.
-    Deployed {
-        deploy: TWO,
-        lines: 10_115,
-        ways: &[Way {
-            workers: &[4],
-            pace: None,
-            passes: None,
-        }],
-    },
-    // One resource leaves nothing to do for a second worker, so nobody passes the gate. Each message arrives in its
-    // tick: 4 * (2 + 39 * 65) = 10,148, and the last line.
-    Deployed {
-        deploy: "",
-        lines: 10_149,
-        ways: &[Way {
-            workers: &[2],
             pace: Some(QUICK),
-            passes: Some(0),
-        }],
-    },
-];
+            passes: Some(20),
+        },
+        // One agenda takes a second for 64 lines: rounds go on.
+        Way {
+            workers: &[2, 3, 64],
+            pace: Some(Pace {
+                by_thread: 1_000_000_000,
+                ..QUICK
+            }),
+            passes: Some(32),
+        },
+        // No round takes any time, so the trial does not end before the run.
+        Way {
+            workers: &[2, 3, 64],
+            pace: Some(Pace {
+                by_wall: 0,
+                ..QUICK
+            }),
+            passes: Some(32),
+        },
+        // Without a clock rounds go on.
+        Way {
+            workers: &[2, 3, 7, 64],
+            pace: None,
+            passes: Some(32),
+        },
+        // One agenda takes twice as long as a round for as many lines, or half as long: that is read after the
+        // lines that are not timed, and before all others.
+        Way {
+            workers: &[2],
+            pace: Some(SLOWER),
+            passes: Some(32),
+        },
+        Way {
+            workers: &[2],
+            pace: Some(Pace {
+                by_thread: 50_000,
+                ..SLOWER
+            }),
+            passes: Some(20),
+        },
+        // Another program takes ten seconds from the fourth round. Only the fifth counts.
+        Way {
+            workers: &[2],
+            pace: Some(Pace {
+                late_from: 7,
+                ..SLOWER
+            }),
+            passes: Some(32),
+        },
+    ],
+};
+
+/// It is one round, whose text threads make. Its lines are those above without two for each message:
+/// 4 * (2 + 39 * 63) = 9,836, and the last line.
+static WITH_FIFTY: Deployed = Deployed {
+    deploy: FIFTY,
+    lines: 9_837,
+    ways: &[Way {
+        workers: &[2, 3, 64],
+        pace: None,
+        passes: None,
+    }],
+};
+
+/// CELL1 runs less far than the others, and the last lines of these are kept for a round. Three messages more arrive
+/// than above, of two lines each: 10,109 + 6 = 10,115.
+static WITH_TWO: Deployed = Deployed {
+    deploy: TWO,
+    lines: 10_115,
+    ways: &[Way {
+        workers: &[4],
+        pace: None,
+        passes: None,
+    }],
+};
+
+/// One resource leaves nothing to do for a second worker, so nobody passes the gate. Each message arrives in its
+/// tick: 4 * (2 + 39 * 65) = 10,148, and the last line.
+static ALONE: Deployed = Deployed {
+    deploy: "",
+    lines: 10_149,
+    ways: &[Way {
+        workers: &[2],
+        pace: Some(QUICK),
+        passes: Some(0),
+    }],
+};
 
 /// How many lines a trace has.
 pub fn lines_in(trace: &[u8]) -> u32 {
@@ -223,6 +224,10 @@ pub fn lines_in(trace: &[u8]) -> u32 {
         }
     }
     lines
+}
+
+fn deployed_by(deploy: &str) -> Inputs<'_> {
+    inputs_of(DECLARATION, deploy, "")
 }
 
 /// What one agenda writes.
@@ -257,7 +262,7 @@ fn passes_of<R: Abort + Threads + Wait + Sync>(
 }
 
 fn expect_ways<R: Abort + Threads + Wait + Sync>(rt: &R, alloc: Global, deployed: &Deployed) {
-    let inputs = inputs_of(DECLARATION, deployed.deploy, "");
+    let inputs = deployed_by(deployed.deploy);
     let trace = serial(rt, alloc, &inputs);
     let trace = trace.got.as_slice();
     assert!(rt; lines_in(trace) == deployed.lines);
@@ -271,15 +276,16 @@ fn expect_ways<R: Abort + Threads + Wait + Sync>(rt: &R, alloc: Global, deployed
 
 #[test]
 fn clocks_choose_how_a_run_goes_on(rt: HostRuntime) {
-    for deployed in &DEPLOYED {
-        expect_ways(&rt, rt.alloc(), deployed);
-    }
+    expect_ways(&rt, rt.alloc(), &WITH_FIVE);
+    expect_ways(&rt, rt.alloc(), &WITH_FIFTY);
+    expect_ways(&rt, rt.alloc(), &WITH_TWO);
+    expect_ways(&rt, rt.alloc(), &ALONE);
 }
 
 /// They meet in the fourth round.
 #[test]
 fn workers_meet_in_a_later_round(rt: HostRuntime) {
-    let inputs = inputs_of(DECLARATION, FIVE, "");
+    let inputs = deployed_by(WITH_FIVE.deploy);
     let trace = serial(&rt, rt.alloc(), &inputs);
     let trace = trace.got.as_slice();
     assert!(rt; trace.ends_with(LAST_LINES.as_bytes()));
