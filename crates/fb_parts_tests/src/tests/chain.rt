@@ -151,7 +151,8 @@ pub fn expect_text(
 /// Marks, each with its tick and where that ends.
 fn expect_marks(rt: &impl Abort, found: &[Mark], marks: &[(u64, usize)]) {
     assert!(rt; found.len() == marks.len());
-    for (mark, (tick, end)) in found.iter().zip(marks) {
+    for (index, (tick, end)) in marks.iter().enumerate() {
+        let mark = &found[index];
         assert!(rt; mark.tick == *tick && mark.end == *end);
     }
 }

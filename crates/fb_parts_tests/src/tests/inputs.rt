@@ -1,11 +1,26 @@
 //! What stimuli are read as, where no trace shows it: values that no type holds.
 
 use fb_inputs::read_stimuli;
-use fb_types::{Name, Value};
+use fb_types::{Name, Setting, Value};
 use std::mem::forget;
+use std::process::Abort;
 
 fn is(name: &Name, text: &[u8]) -> bool {
     name.as_bytes() == text
+}
+
+fn expect_setting(rt: &impl Abort, setting: &Setting, letter: u8, value: Value) {
+    assert!(rt; is(&setting.variable, &[letter]) && setting.value == value);
+}
+
+/// The variables are called by the letters from A on.
+fn expect_settings(rt: &impl Abort, settings: &[Setting]) {
+    assert!(rt; settings.len() == VALUES.len());
+    let mut letter = b'A';
+    for (index, value) in VALUES.iter().enumerate() {
+        expect_setting(rt, &settings[index], letter, *value);
+        letter = letter.wrapping_add(1);
+    }
 }
 
 const STIMULI: &[u8] = b"tick,event,values\n\
@@ -28,7 +43,6 @@ static VALUES: [Value; 12] = [
     Value::Whole(i128::MIN),
 ];
 
-/// The variables are called by the letters from A on.
 #[test]
 fn a_row_has_its_values(rt: HostRuntime) {
     let stimuli = read_stimuli(rt.alloc(), STIMULI).expect(&rt, "no stimuli");
@@ -36,11 +50,6 @@ fn a_row_has_its_values(rt: HostRuntime) {
         panic!(rt; "one row");
     };
     assert!(rt; row.tick == 0 && is(&row.instance, b"D") && is(&row.event, b"START"));
-    assert!(rt; row.settings.len() == VALUES.len());
-    let mut letter = b'A';
-    for (setting, value) in row.settings.as_slice().iter().zip(VALUES.iter()) {
-        assert!(rt; is(&setting.variable, &[letter]) && setting.value == *value);
-        letter = letter.wrapping_add(1);
-    }
+    expect_settings(&rt, row.settings.as_slice());
     forget(stimuli);
 }
