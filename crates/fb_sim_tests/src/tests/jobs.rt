@@ -129,11 +129,9 @@ fn expect_texts<R: Abort>(rt: &R, alloc: Global, run: &Run, given: &[Given]) {
     let mut texts = Vec::new(alloc);
     let finals = first_round(rt, alloc, &system, core, run.horizon, &mut texts);
     assert!(rt; texts.len() == given.len() && finals.len() == given.len());
-    for (text, row) in texts.iter().zip(given.iter()) {
-        expect_text(rt, text, row);
-    }
-    for (lines, row) in finals.iter().zip(given.iter()) {
-        assert!(rt; lines.len() == row.finals);
+    for (index, row) in given.iter().enumerate() {
+        expect_text(rt, &texts[index], row);
+        assert!(rt; finals[index].len() == row.finals);
     }
     forget(texts);
     forget(finals);

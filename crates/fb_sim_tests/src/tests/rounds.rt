@@ -32,19 +32,17 @@ fn expect_bounds(rt: &impl Abort, core: &Core, horizon: u64, expected: &[u64])
     requires early { horizon ≤ 10 ^ 12 }
 {
     let bounds = core.bounds(horizon, CAP);
-    let mut expected = expected.iter();
-    for (resource, bound) in core.state().resources.iter().zip(bounds.all.iter()) {
-        let found = if resource.stopped().is_some() {
+    let resources = core.state().resources.as_slice();
+    assert!(rt; resources.len() == expected.len(), "another resource");
+    assert!(rt; expected.len() <= bounds.all.len());
+    for (index, wanted) in expected.iter().enumerate() {
+        let found = if resources[index].stopped().is_some() {
             0
         } else {
-            *bound
+            bounds.all[index]
         };
-        match expected.next() {
-            Some(wanted) => assert!(rt; found == *wanted),
-            None => panic!(rt; "another resource"),
-        }
+        assert!(rt; found == *wanted);
     }
-    assert!(rt; expected.next().is_none());
 }
 
 /// The round wrote these lines, and nothing else, after the bytes that were there.
