@@ -3,6 +3,7 @@ pub mod Apart
 pub mod Timers
 pub mod Placing
 pub mod Moments
+pub mod Sooner
 pub mod Calendars
 pub mod Clear
 pub mod Timing
