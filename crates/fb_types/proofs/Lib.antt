@@ -5,6 +5,8 @@ pub mod Words
 pub mod NameOrders
 pub mod Positions
 pub mod ByIndex
+pub mod Emitting
+pub mod RowTypes
 pub mod ListTests
 pub mod Options
 pub mod LoopSteps

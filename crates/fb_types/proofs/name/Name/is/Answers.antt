@@ -12,3 +12,6 @@ returns-then-self-ne0 c =
     let same : c.args.self.now ≡ c.args.other.now = sym c.self.view_is ∙ one ∙ c.other.view_is in
     let shown : same_name c.args.self.now c.args.other.now ≡ true = ap (λ n. same_name n c.args.other.now) same ∙ same_name-itself c.args.other.now in
     rw shown (grind (arith, nat_tests, c.if-self-ne0.true))
+
+pub returns-else-self-ne0 : goal.returns-else-self-ne0
+returns-else-self-ne0 c = c.is_spelt_as.ensures
