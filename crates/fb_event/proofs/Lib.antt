@@ -1,3 +1,5 @@
 pub mod Events
 pub mod Emissions
 pub mod Inputs
+pub mod Performing
+pub mod Arms

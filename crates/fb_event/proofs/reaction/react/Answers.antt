@@ -1,4 +1,4 @@
-use Rattle.std.proofs.Common.{◌≡◌, [], arith}
+use Rattle.std.proofs.Common.{◌≡◌, [], refl, arith}
 use Rattle.fb_event.proofs.Emissions.{silent-Performs, step_emissions}
 use Rattle.fb_event.proofs.Inputs.{inputs, silent_inputs}
 use Rattle.fb_event.proofs.reaction.react.Goals as goal
@@ -21,3 +21,9 @@ returns-in_err-emit_all-clause-silent c none =
     let quiet : c.reaction-step.result.emits.now ≡ [] =
     silent-Performs _ _ _ c.reaction-step.result c.reaction-step.ensures (grind (arith, silent)) in
     grind (arith, quiet)
+
+pub returns-clause-only_memory : goal.returns-clause-only_memory
+returns-clause-only_memory c = tt
+
+pub returns-clause-silent : goal.returns-clause-silent
+returns-clause-silent c = λ none. refl
