@@ -1,4 +1,7 @@
-use Rattle.fb_agenda.specs.Arrivals.{KeepsOthers, LacksKeys, arrivals_at}
+use Rattle.std.proofs.Common.{◌≡◌, false, true, Result, Ok, Err, is_err, sym, ◌∙◌}
+use Rattle.std.specs.Prelude.{OnOk}
+use Rattle.std.proofs.lemmas.Bool.{true≢false}
+use Rattle.fb_agenda.specs.Arrivals.{HasKeys, KeepsOthers, LacksKeys, arrivals_at}
 use Rattle.fb_agenda.proofs.Placing.{filled_keeps, filled_waits, freed_keeps, freed_waits, kept_apart}
 use Rattle.fb_agenda.specs.Inside.{contents_of}
 use Rattle.fb_agenda.proofs.agenda.Agenda.receive.Goals as goal
@@ -45,3 +48,14 @@ returns-clause-put c =
     let new = c.fill_indexes.new.events in
     let kept : KeepsOthers (arrivals_at r ms) v.later held = rw c.deref.ensures.value at c.hold_indexes.ensures.kept in
     rw (← c.self.view_is) (filled_waits r ms v c.self.inside.later.has_local c.self.invariant held new kept c.fill_indexes.ensures.filled)
+
+-- what holds of a result that is no error
+when_ok : {T E P : Type 0} (r : Result T E) → OnOk r P → is_err r ≡ false → P
+when_ok (Ok x) holds none = holds
+when_ok (Err e) holds none = absurd (true≢false none)
+
+pub fill_indexes-requires : goal.fill_indexes-requires
+fill_indexes-requires c =
+    let held : HasKeys (arrivals_at c.args.receiver c.deref.result.now) c.hold_indexes.new.events =
+    when_ok c.hold_indexes.result c.hold_indexes.ensures.held (sym c.is_err.ensures.value ∙ c.if-is_err.false) in
+    record { held = rw c.deref.ensures.value at held }
