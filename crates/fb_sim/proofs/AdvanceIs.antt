@@ -1,5 +1,5 @@
 -- What advancing a simulation has written, and what it answers.
-use Rattle.std.proofs.Common.{◌≡◌, ℕ, ◌<◌, List, ◌++◌, Option, Result, Ok, Err, refl, sym, ap, ◌∙◌, subst, arith, append_assoc, append-nil}
+use Rattle.std.proofs.Common.{◌≡◌, ℕ, ◌^◌, ◌<◌, ◌≤◌, inl, List, ◌++◌, Option, Result, Ok, Err, refl, sym, ap, ◌∙◌, subst, arith, append_assoc, append-nil}
 use Rattle.std.specs.Result.{IsErrAnd}
 use Rattle.std.specs.Io.KnownBytes.{Appends}
 use Rattle.std.proofs.KnownBytes.{Appends-trans}
@@ -10,7 +10,7 @@ use Rattle.fb_types.specs.Text.{lines_text, last_line}
 use Rattle.fb_types.specs.declared.run.StopMark.{StopMark}
 use Rattle.fb_trace.specs.Progress.{IsPartWritten}
 use Rattle.fb_window.specs.declared.cores.CoreState.{CoreState}
-use Rattle.fb_sim.specs.Advances.{AdvancesOn, Finishes, FinishesBy, FinishesOn, IsNext, RunsTo, stop_line}
+use Rattle.fb_sim.specs.Advances.{Advances, AdvancesBy, AdvancesOn, Finishes, FinishesBy, FinishesOn, HasAdvanced, IsNext, RunsTo, stop_line}
 use Rattle.fb_sim.specs.Rounds.{AreAll, Begin, IsShort, RunsOn, text_of}
 use Rattle.fb_sim.specs.Sessions.{Session}
 use Rattle.fb_sim.specs.declared.drive.Finish.TheVariants.{AtEnd, AtMark}
@@ -173,3 +173,18 @@ unfinished v s same running old new e h r is =
     given : (q : Result Outcome RunError) → IsErrAnd q (λ f. f ≡ e) → FinishesOn v old new q
     given (Ok x) bad = absurd bad
     given (Err f) is = subst (λ (x : RunError). FinishesOn v old new (Err x)) (sym is) (short_end v old new e h)
+
+-- A later tick.
+pub gets_there : (s t : Session) → s.stage ≡ going.Running → (to : ℕ) → to ≤ 10 ^ 12 → (old new : Option (List ℕ)) (o : Outcome) → HasAdvanced s t to old new o → Advances s t to old new (Ok o)
+gets_there s t running to early old new o h = record {
+  bad = λ late. absurd (omega (arith, early, late));
+  by = λ _. subst (λ (p : Stage). AdvancesBy p s t to old new (Ok o)) (sym running) (inl h);
+}
+
+-- A later tick that it does not come to.
+pub fails_there : (s t : Session) → s.stage ≡ going.Running → (to : ℕ) → to ≤ 10 ^ 12 → (old new : Option (List ℕ)) (e : RunError) → RunsTo s t to old new (Err e)
+    → Advances s t to old new (Err e)
+fails_there s t running to early old new e h = record {
+  bad = λ late. absurd (omega (arith, early, late));
+  by = λ _. subst (λ (p : Stage). AdvancesBy p s t to old new (Err e)) (sym running) h;
+}

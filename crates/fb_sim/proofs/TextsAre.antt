@@ -3,6 +3,7 @@ use Rattle.std.proofs.Common.{◌≡◌, ℕ, zero, suc, ◌+◌, ◌≤◌, Boo
 use Rattle.std.specs.Prelude.{IfSome, slice_get, slice_index_or}
 use Rattle.std.specs.Global.{Vec}
 use Rattle.std.specs.List.{AllZip}
+use Rattle.std.proofs.lemmas.List.{length-append, nil_from_length}
 use Rattle.fb_types.specs.Headline.{Inputs}
 use Rattle.fb_types.specs.Machines.{Each}
 use Rattle.fb_types.specs.declared.run.Form.{Form}
@@ -63,6 +64,16 @@ one_from : (i : Inputs) (p : Vec Line) (d : WindowDone) (t : Option MarkedText) 
 one_from i p (Ran x lines sent stop) (Some m) f h = (f.0, subst (λ (xs : List Line). IsMarkedText i m.form xs m) f.1 h)
 one_from i p (Ran x lines sent stop) None f h = tt
 one_from i p NoMemory t f h = absurd f
+
+-- a text of as many lines as these is that of these alone
+pub text_whole : (i : Inputs) (form : Form) (xs : List Line) (t : Option MarkedText) (m : MarkedText) → IsTextFrom i xs t → t ≡ Some m → m.form ≡ form → m.lines ≡ length xs → IsMarkedText i form xs m
+text_whole i form xs t m h is in_form lines =
+    let f = subst (IsTextFrom i xs) is h in
+    let all = f.1.lines in
+    let long = length-append xs f.0 in
+    let none : f.0 ≡ [] = nil_from_length f.0 (omega (arith, all, lines, long)) in
+    let same : xs ++ f.0 ≡ xs = ap (λ z. xs ++ z) none ∙ append-nil xs in
+    subst (λ (g : Form). IsMarkedText i g xs m) in_form (subst (λ (ys : List Line). IsMarkedText i m.form ys m) same f.1)
 
 -- where they are the first lines of the jobs, the texts begin with theirs
 pub texts_from : (i : Inputs) (ps : List (Vec Line)) (ds : List WindowDone) (ts : List (Option MarkedText)) → AllZip IsFrontOf ps ds → AllZip (HasText i) ds ts → AreTextsFrom i ps ts

@@ -1,7 +1,7 @@
 -- Lists whose lines are taken tick by tick, and lists that are cut in two.
-use Rattle.std.proofs.Common.{◌≡◌, ℕ, zero, suc, ◌+◌, ◌<◌, ◌≤◌, Bool, true, false, Some, List, [], ◌∷◌, ◌++◌, length, get_or, take, drop, map, filter, refl, sym, ap, ap₂, ◌∙◌, subst, ⊎_elim, arith, All, Bor, Vec, IsPermutation, append-nil, append_assoc}
+use Rattle.std.proofs.Common.{◌≡◌, ℕ, zero, suc, ◌+◌, ◌<◌, ◌≤◌, nat_le, Bool, true, false, Some, List, [], ◌∷◌, ◌++◌, length, get_or, take, drop, map, filter, refl, sym, ap, ap₂, ◌∙◌, subst, ⊎_elim, arith, All, Bor, Vec, IsPermutation, append-nil, append_assoc}
 use Rattle.std.specs.Prelude.{nat_lt, slice_get, if◌then◌else◌}
-use Rattle.std.proofs.lemmas.Bool.{cases_lt, cond-true, cond-false, lt-ltb, le-ltb, ltb-true, ltb-false}
+use Rattle.std.proofs.lemmas.Bool.{cases_lt, cond-true, cond-false, le-leb, lt-leb, lt-ltb, le-ltb, ltb-true, ltb-false}
 use Rattle.std.proofs.lemmas.List.Elements.{All-nil, All-cons, All-head, All-tail, All-from_recursion, recursion_from_All}
 use Rattle.std.specs.List.Sorted.{IsPartitionedBy, IsPartitionPoint}
 use Rattle.std.proofs.lemmas.List.Sorted.{All-permutation, IsPartitionedBy-ltb, IsPermutation-refl, IsPermutation-trans, IsPermutation-append, IsPermutation-append_left, IsPermutation-append_right, IsPermutation-append_comm}
@@ -377,3 +377,17 @@ taken_each P qs ps first left it h =
     let last = joint (map (λ (q : Bor (List Line)). q.now) ps) in
     let all = moved_each P (joint (map (λ (q : Bor (List Line)). q.now) qs)) ((first ++ last) ++ joint left) it.whole (each_of_all P qs h) in
     all_of_each P ps (each_right P first last (each_left P (first ++ last) (joint left) all))
+
+-- ---- Whether a line is before a cut
+
+most_less : (t n : ℕ) → nat_le t n ≡ nat_lt t (n + 1)
+most_less t n =
+    ⊎_elim (λ (l : t < n + 1). le-leb t n (omega (arith, l)) ∙ sym (lt-ltb t (n + 1) l)) (λ (l : n + 1 ≤ t). lt-leb t n (omega (arith, l)) ∙ sym (le-ltb t (n + 1) l)) (cases_lt t (n + 1))
+
+-- in a list before that of the cut
+pub cut_after : (p : Cut) (n t : ℕ) → n < p.list → nat_le t p.tick ≡ nat_lt t (until p n)
+cut_after p n t b = most_less t p.tick ∙ ap (nat_lt t) (sym (cond-true (nat_lt n p.list) (p.tick + 1) p.tick (lt-ltb n p.list b)))
+
+-- in another one
+pub cut_at : (p : Cut) (n t : ℕ) → p.list ≤ n → nat_lt t p.tick ≡ nat_lt t (until p n)
+cut_at p n t b = ap (nat_lt t) (sym (cond-false (nat_lt n p.list) (p.tick + 1) p.tick (le-ltb n p.list b)))

@@ -1,4 +1,5 @@
 use Rattle.std.proofs.Common.{[], subst, Err}
+use Rattle.std.proofs.lemmas.Result.{IfOk-from_err}
 use Rattle.fb_laws.specs.Sound.{AreGood}
 use Rattle.fb_sim.specs.Pauses.{Pauses}
 use Rattle.fb_sim.specs.Rounds.{RunsOn}
@@ -13,6 +14,24 @@ loop-pause-init g c = record {
   none = c.requires.none;
   gone = gone_first c.args.system.now c.args.options c.args.machine.now (g.W.Write.contents c.args.out.now) c.requires.at;
 }
+
+pub go_on-requires-clause-ready : goal.go_on-requires-clause-ready
+go_on-requires-clause-ready g c = c.loop-pause.invariant.ready
+
+pub go_on-requires-clause-represents : goal.go_on-requires-clause-represents
+go_on-requires-clause-represents g c = (c.loop-pause.invariant.gone.at, c.loop-pause.invariant.gone.is)
+
+pub go_on-requires-clause-early : goal.go_on-requires-clause-early
+go_on-requires-clause-early g c = c.requires.options.horizon_most
+
+pub go_on-requires-clause-few : goal.go_on-requires-clause-few
+go_on-requires-clause-few g c = c.requires.options.steps_most
+
+pub returns-in_err-pause-clause-ends : goal.returns-in_err-pause-clause-ends
+returns-in_err-pause-clause-ends g c = IfOk-from_err _ _ c.from_residual.ensures.0
+
+pub returns-in_err-pause-clause-ran : goal.returns-in_err-pause-clause-ran
+returns-in_err-pause-clause-ran g c = IfOk-from_err _ _ c.from_residual.ensures.0
 
 pub returns-in_err-pause-clause-failed : goal.returns-in_err-pause-clause-failed
 returns-in_err-pause-clause-failed g c =

@@ -3,6 +3,9 @@ use Rattle.fb_sim.specs.Serial.{IsReadFault}
 use Rattle.fb_sim.proofs.Refused.{read_fault}
 use Rattle.fb_sim.proofs.reading.library_of.Goals as goal
 
+pub returns-in-Memory-clause-refused : goal.returns-in-Memory-clause-refused
+returns-in-Memory-clause-refused c = tt
+
 pub returns-in_default : goal.returns-in_default
 returns-in_default c = record {
   read = tt;

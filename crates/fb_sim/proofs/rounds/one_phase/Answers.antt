@@ -1,4 +1,5 @@
-use Rattle.std.proofs.Common.{ℕ, subst, sym, ◌∙◌}
+use Rattle.std.proofs.Common.{◌≡◌, ℕ, ◌^◌, ◌≤◌, vec_len, refl, subst, sym, ◌∙◌, arith}
+use Rattle.std.proofs.lemmas.Result.{IfOk-from_err}
 use denote.Param.Send.{sendable}
 use Rattle.fb_resource.proofs.Sends.{done_send}
 use Rattle.fb_window.proofs.Sends.{job_send}
@@ -6,6 +7,8 @@ use Rattle.fb_window.specs.Leaving.{AreLegal}
 use Rattle.fb_window.specs.Reached.{KeepHorizon}
 use Rattle.fb_window.specs.Reaching.{OfEachCore}
 use Rattle.fb_sim.proofs.OnePhase.{all_done, out_belongs}
+use Rattle.fb_sim.specs.declared.outcome.RunError.TheVariants.{Memory}
+use Rattle.fb_sim.proofs.RunIs.{err_is}
 use Rattle.fb_sim.proofs.WindowIs.{is_home_once}
 use Rattle.fb_sim.proofs.rounds.one_phase.Goals as goal
 
@@ -47,3 +50,47 @@ run_all-requires-send-W-Job g c κs within = search (sendable, job_send) depth 4
 
 pub run_all-requires-send-W-Done : goal.run_all-requires-send-W-Done
 run_all-requires-send-W-Done g c κs within = search (sendable, done_send) depth 40
+
+pub bounds-bounds-requires-clause-clocks : goal.bounds-bounds-requires-clause-clocks
+bounds-bounds-requires-clause-clocks g c = c.requires.clocks
+
+pub bounds-bounds-requires-clause-early : goal.bounds-bounds-requires-clause-early
+bounds-bounds-requires-clause-early g c = c.requires.options.horizon_most
+
+pub jobs-requires-clause-early : goal.jobs-requires-clause-early
+jobs-requires-clause-early g c = subst (λ (n : ℕ). n ≤ 10 ^ 12) (sym c.bounds-bounds.ensures.horizon) c.requires.options.horizon_most
+
+pub run_all-requires-clause-few_jobs : goal.run_all-requires-clause-few_jobs
+run_all-requires-clause-few_jobs g c κs w =
+    let few : vec_len c.in_ok-away.jobs ≤ 1024 = omega (arith, c.in_ok-away.ensures.few) in
+    few
+
+pub run_all-requires-clause-few_workers : goal.run_all-requires-clause-few_workers
+run_all-requires-clause-few_workers g c κs w = (c.requires.options.workers_least, c.requires.options.workers_most)
+
+pub returns-in_err-away-clause-home : goal.returns-in_err-away-clause-home
+returns-in_err-away-clause-home g c ls h = IfOk-from_err _ _ c.from_residual.ensures.0
+
+pub returns-in_err-away-clause-belong : goal.returns-in_err-away-clause-belong
+returns-in_err-away-clause-belong g c = IfOk-from_err _ _ c.from_residual.ensures.0
+
+pub returns-in_err-away-clause-memory : goal.returns-in_err-away-clause-memory
+returns-in_err-away-clause-memory g c = err_is (λ e. e ≡ Memory) c.from_residual.result Memory c.from_residual.ensures.1 refl
+
+pub returns-in_err-dones-clause-home : goal.returns-in_err-dones-clause-home
+returns-in_err-dones-clause-home g c ls h = IfOk-from_err _ _ c.from_residual-in_err-dones.ensures.0
+
+pub returns-in_err-dones-clause-belong : goal.returns-in_err-dones-clause-belong
+returns-in_err-dones-clause-belong g c = IfOk-from_err _ _ c.from_residual-in_err-dones.ensures.0
+
+pub returns-in_err-dones-clause-memory : goal.returns-in_err-dones-clause-memory
+returns-in_err-dones-clause-memory g c = err_is (λ e. e ≡ Memory) c.from_residual-in_err-dones.result Memory c.from_residual-in_err-dones.ensures.1 refl
+
+pub returns-in_err-settle-clause-home : goal.returns-in_err-settle-clause-home
+returns-in_err-settle-clause-home g c ls h = IfOk-from_err _ _ c.from_residual-in_err-settle.ensures.0
+
+pub returns-in_err-settle-clause-belong : goal.returns-in_err-settle-clause-belong
+returns-in_err-settle-clause-belong g c = IfOk-from_err _ _ c.from_residual-in_err-settle.ensures.0
+
+pub returns-in_err-settle-clause-memory : goal.returns-in_err-settle-clause-memory
+returns-in_err-settle-clause-memory g c = err_is (λ e. e ≡ Memory) c.from_residual-in_err-settle.result Memory c.from_residual-in_err-settle.ensures.1 refl

@@ -11,6 +11,20 @@ use Rattle.fb_resource.proofs.PostLaws.{next_of, order_put}
 use Rattle.fb_sim.proofs.DeliverIs.{delivered_more, message_waits, none_first, only_first}
 use Rattle.fb_sim.proofs.one_agenda.deliver.deliver.Goals as goal
 
+-- ---- The resource stops
+
+pub returns-then-stops-clause-put : goal.returns-then-stops-clause-put
+returns-then-stops-clause-put c = c.deliver_each.ensures.put
+
+pub returns-then-stops-clause-order : goal.returns-then-stops-clause-order
+returns-then-stops-clause-order c = c.deliver_each.ensures.order
+
+pub returns-then-stops-clause-due : goal.returns-then-stops-clause-due
+returns-then-stops-clause-due c = c.deliver_each.ensures.due
+
+pub returns-then-stops-clause-none : goal.returns-then-stops-clause-none
+returns-then-stops-clause-none c = c.deliver_each.ensures.none
+
 -- ---- One message
 
 pub key_of_message-requires : goal.key_of_message-requires
