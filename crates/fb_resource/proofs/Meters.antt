@@ -1,12 +1,13 @@
 -- The counts of a resource, from a tick on.
-use Rattle.std.proofs.Common.{◌≡◌, ℕ, ◌<◌, ◌≤◌, Bool, true, false, cond, refl, sym, ap, subst, ◌∙◌, Some, None, arith}
-use Rattle.std.proofs.lemmas.Bool.{ne_eqb}
+use Rattle.std.proofs.Common.{◌≡◌, ◌≢◌, ℕ, suc, ◌-◌, ◌<◌, ◌≤◌, Bool, true, false, not, eqb, cond, refl, sym, ap, subst, ◌∙◌, Option, Some, None, arith}
+use Rattle.std.specs.Option.{option_eq}
+use Rattle.std.proofs.lemmas.Bool.{ne_eqb, not-true}
 use Rattle.std.specs.Prelude.{unwrap_or}
 use Rattle.fb_types.specs.Headline.{Inputs}
 use Rattle.fb_types.specs.States.{Meter, State}
-use Rattle.fb_types.specs.Takes.{is_tick}
+use Rattle.fb_types.specs.Takes.{begun, is_tick}
 use Rattle.fb_net.specs.declared.resource.Forest.{Forest}
-use Rattle.fb_resource.specs.Counts.{BeginAlike, IsMetered, IsUnused, meter_of}
+use Rattle.fb_resource.specs.Counts.{BeginAlike, IsMetered, IsUnused, before_step, meter_of}
 use Rattle.fb_resource.specs.Takings.{IsHere}
 use Rattle.fb_resource.specs.declared.tick_counts.TickCounts.{TickCounts}
 
@@ -17,6 +18,18 @@ alike_same from a b same limit t late = ap (λ (m : Meter). cond (is_tick m.tick
 
 pub alike_later : (from to : ℕ) (a b : Meter) → from ≤ to → BeginAlike from a b → BeginAlike to a b
 alike_later from to a b le alike limit t late = alike limit t (omega (arith, le, late))
+
+pub other_tick : (o : Option ℕ) (t : ℕ) → true ≡ not (option_eq eqb o (Some t)) → is_tick o t ≡ false
+other_tick None t e = refl
+other_tick (Some s) t e = not-true (eqb s t) (sym e)
+
+-- the first step of a tick
+pub step_afresh : (limit tick : ℕ) (m : TickCounts) → is_tick m.tick tick ≡ false → limit ≢ 0
+    → meter_of (before_step (record { tick = Some tick; meter = record { left = limit - 1 }; locals = 0 })) ≡ begun limit tick (meter_of m)
+step_afresh limit tick m other some =
+    let with_left : ℕ → Meter = λ n. record { tick = Some tick; left = n; locals = 0 } in
+    let whole : suc (limit - 1) ≡ limit = omega (arith, some) in
+    ap with_left whole ∙ sym (ap (λ (z : Bool). cond z (meter_of m) (with_left limit)) other)
 
 -- where neither has counted a step, a tick begins afresh
 pub alike_unused : (from : ℕ) (a b : Meter) → IsUnused from a → IsUnused from b → BeginAlike from a b
