@@ -1,7 +1,30 @@
-use Rattle.std.proofs.Common.{◌≡◌, ◌∙◌, suc, sym}
+use Rattle.std.proofs.Common.{◌≡◌, ◌≢◌, ◌-◌, ◌∙◌, ℕ, suc, None, sym, ap, subst, arith}
+use Rattle.fb_types.specs.Bodies.{Point}
+use Rattle.fb_types.specs.Syntax.{body_of}
+use Rattle.fb_st.specs.Flows.{point}
 use Rattle.fb_st.specs.Frames.{declared_in, types_in, values_of}
+use Rattle.fb_stop.specs.Blamed.{End, RunsAll, Stopped}
+use Rattle.fb_stop.specs.Ends.{end_of}
 use Rattle.fb_stop.proofs.Unsaid.{goes_otherwise, stops_otherwise}
 use Rattle.fb_stop.proofs.before.inside_body.Goals as goal
+
+one_less : (n : ℕ) → n ≢ 0 → n ≡ suc (n - 1)
+one_less n h = omega arith
+
+pub returns-in_ok-statement-in-Err-clause-found : goal.returns-in_ok-statement-in-Err-clause-found
+returns-in_ok-statement-in-Err-clause-found c =
+    let types = types_in (declared_in c.args.frame.now) in
+    let body = c.args.body.now in
+    let start : Point = record { vars = values_of c.args.frame.now; left = c.args.left - 1 } in
+    let end : Point = point c.run_body.new.frame c.run_body.new.meter in
+    record {
+      rest = c.args.left - 1;
+      counted = one_less c.args.left c.if-left-eq0.false;
+      end = end;
+      runs = subst (λ (e : End). RunsAll types None 0 (body_of body) start e end) (ap end_of c.in-Err.is ∙ ap Stopped c.in_ok-statement-in-Err.ensures.found) c.in_ok-run_body.ensures.run;
+      operation = c.operation_of-operation.ensures.found;
+      otherwise = c.operation_of-operation.ensures.none;
+    }
 
 pub returns-then-left-eq0-clause-none : goal.returns-then-left-eq0-clause-none
 returns-then-left-eq0-clause-none c = λ rest q more run. let e : 0 ≡ suc rest = sym c.if-left-eq0.true ∙ more in cc

@@ -1,4 +1,4 @@
-use Rattle.std.proofs.Common.{◌≡◌, ◌<◌, ◌∷◌, ◌∙◌, [], ℕ, List, length, Some, Err, sym, ap, subst, arith}
+use Rattle.std.proofs.Common.{◌≡◌, ◌<◌, ◌∷◌, ◌∙◌, [], ℕ, List, length, Some, Err, refl, sym, ap, subst, arith}
 use Rattle.std.specs.Prelude.{IfSome, slice_get}
 use Rattle.fb_types.specs.Values.{Values}
 use Rattle.fb_types.specs.Charts.{Acts, Moving, Position, actions_of}
@@ -51,6 +51,9 @@ returns-in-Err-Stop-clause-performed c =
             (rw c.in-Err-Stop.field-0-is at (c.inside_action-inside.ensures.none a.0 there));
       },
     )
+
+pub loop-action-init : goal.loop-action-init
+loop-action-init c = record { performed = (refl, refl); state = refl; block = c.requires.block; fewer = omega arith }
 
 pub loop-action-preserved : goal.loop-action-preserved
 loop-action-preserved c =

@@ -1,0 +1,18 @@
+use Rattle.std.proofs.Common.{List, subst}
+use Rattle.fb_types.specs.Bodies.{RunsAll}
+use Rattle.fb_types.specs.declared.text.Stmt as read
+use Rattle.fb_st.specs.Frames.{declared_in, types_in}
+use Rattle.fb_st.specs.Flows.{all_of, end_of, point}
+use Rattle.fb_st.proofs.execution.exec.Goals as goal
+
+pub returns-clause-run : goal.returns-clause-run
+returns-clause-run c =
+    subst
+    (λ (l : List read.Stmt). RunsAll (types_in (declared_in c.args.frame.now)) (all_of l) (point c.args.frame.now c.args.meter.now) (end_of c.run_all.result) (point c.run_all.new.frame c.run_all.new.meter))
+    c.as_slice.ensures c.run_all.ensures.run
+
+pub returns-clause-declared : goal.returns-clause-declared
+returns-clause-declared c = c.run_all.ensures.declared
+
+pub returns-clause-fewer : goal.returns-clause-fewer
+returns-clause-fewer c = c.run_all.ensures.fewer
