@@ -156,6 +156,12 @@ step_used false limit key old new own after stood used tick least is = tt
 same_steps : (a b : TickSteps) → Some a ≡ Some b → a ≡ b
 same_steps a b e = cc
 
+pub step_none :
+    (r : Bool) (limit : ℕ) (key : Key) (old : List TickSteps) (own : TickSteps) → slice_get old key.resource ≡ Some own
+    → OnFalse r (left_at limit key.tick (left_of own) ≡ 0) → OnFalse r ((other : TickSteps) → slice_get old key.resource ≡ Some other → left_at limit key.tick (left_of other) ≡ 0)
+step_none true limit key old own stood none = tt
+step_none false limit key old own stood none = λ other at. ap (λ (s : TickSteps). left_at limit key.tick (left_of s)) (same_steps other own (sym at ∙ stood)) ∙ none
+
 pub limit_left :
     (r : Bool) (steps : ℕ) (key : Key) (old new : List TickSteps) (own after : TickSteps) → slice_get old key.resource ≡ Some own
     → OnTrue r (most ≤ left_at most key.tick (left_of own) + steps)

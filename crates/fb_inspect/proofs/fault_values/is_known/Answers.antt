@@ -1,5 +1,5 @@
 use Rattle.std.proofs.Common.{◌≡◌, ◌<◌, ℕ, below_more, get_or, length, sym, ap, ◌∙◌, arith}
-use Rattle.std.proofs.lemmas.Bool.{both_ways}
+use Rattle.std.proofs.lemmas.Bool.{both_ways, true≢false}
 use Rattle.std.proofs.lemmas.Bool.Decides.{Decides-eqb}
 use Rattle.std.proofs.lemmas.List.{get_or_default}
 use Rattle.std.proofs.lemmas.Slice.Eq.{slice_eq-Decides}
@@ -22,3 +22,6 @@ loop-index-preserved c = λ i d below.
     (same_variable us k c.index-variables-index.result c.as_bytes.result.now (c.requires at 0 within) c.as_bytes.ensures
     ∙ ap (name_at us) (sym (get_or_default ks at e 0 within)) ∙ same)))
     i below d
+
+pub returns-then-eq : goal.returns-then-eq
+returns-then-eq c = λ no. absurd (true≢false no)

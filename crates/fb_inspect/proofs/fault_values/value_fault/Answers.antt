@@ -1,4 +1,4 @@
-use Rattle.std.proofs.Common.{◌≡◌, ◌+◌, ◌<◌, [], ◌∷◌, ◌++◌, length, get_or, refl, sym, subst, ◌∙◌, arith, rules}
+use Rattle.std.proofs.Common.{◌≡◌, ◌+◌, ◌<◌, [], ◌∷◌, ◌++◌, length, get_or, refl, sym, subst, ◌∙◌, arith}
 use Rattle.std.proofs.lemmas.Bool.{both_ways}
 use Rattle.std.proofs.lemmas.Bool.Decides.{Decides-eqb}
 use Rattle.std.proofs.lemmas.List.{get_or_default}
@@ -45,7 +45,7 @@ pub returns-then-eq : goal.returns-then-eq
 returns-then-eq c =
     let ks = c.args.indexes.now in
     let end : c.loop-place.place ≡ length ks = omega arith in
-    let feed : c.as_slice.result.now ≡ 10 ∷ [] = search rules in (
+    let feed : c.as_slice.result.now ≡ 10 ∷ [] = c.as_slice.ensures in (
       c.loop-place.invariant.0,
       all_read c.args.variables.now ks c.args.text.now c.loop-place.place c.loop-place.invariant.0 c.loop-place.rest.now c.loop-place.invariant.1 end
           ((slice_eq-Decides Decides-eqb c.loop-place.rest.now c.as_slice.result.now c.eq.result c.eq.ensures).0 c.if-eq.true ∙ feed),
@@ -55,7 +55,7 @@ pub returns-else-eq : goal.returns-else-eq
 returns-else-eq c =
     let ks = c.args.indexes.now in
     let end : c.loop-place.place ≡ length ks = omega arith in
-    let feed : c.as_slice.result.now ≡ 10 ∷ [] = search rules in (
+    let feed : c.as_slice.result.now ≡ 10 ∷ [] = c.as_slice.ensures in (
       has_first c.args.variables.now ks c.args.text.now c.loop-place.place (length ks) c.loop-place.invariant.0 c.loop-place.rest.now end c.loop-place.invariant.1,
       λ e. both_ways _ c.if-eq.false ((slice_eq-Decides Decides-eqb c.loop-place.rest.now c.as_slice.result.now c.eq.result c.eq.ensures).1 (e ∙ sym feed)),
     )

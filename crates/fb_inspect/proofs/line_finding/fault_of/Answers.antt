@@ -1,4 +1,5 @@
 use Rattle.std.proofs.Common.{List, ℕ, inr, subst, ◌∙◌}
+use Rattle.std.proofs.lemmas.Bool.{both_ways}
 use Rattle.fb_types.specs.Headline.{system_of}
 use Rattle.fb_wave.specs.Lines.{IsLast}
 use Rattle.fb_inspect.proofs.line_finding.fault_of.Goals as goal
@@ -15,3 +16,8 @@ returns-then-can_end c = record {
     after = c.can_end.ensures.0 c.if-can_end.true;
   });
 }
+
+pub returns-else-can_end : goal.returns-else-can_end
+returns-else-can_end c =
+    let last = subst (λ (t : List ℕ). IsLast (system_of c.args.system.now) t c.in-Some.end) c.as_slice-text.ensures.value c.in-Some.ensures.last in
+    (last, λ after. both_ways _ c.if-can_end.false (c.can_end.ensures.1 after))
