@@ -1,4 +1,4 @@
-use Rattle.std.proofs.Common.{◌≡◌, ◌+◌, ◌<◌, [], ◌∷◌, length, get_or, sym, subst, ◌∙◌, arith, rules}
+use Rattle.std.proofs.Common.{◌≡◌, ◌+◌, ◌<◌, [], ◌∷◌, length, get_or, sym, subst, ◌∙◌, arith}
 use Rattle.std.proofs.lemmas.Bool.{both_ways}
 use Rattle.std.proofs.lemmas.Bool.Decides.{Decides-eqb}
 use Rattle.std.proofs.lemmas.List.{get_or_default}
@@ -36,7 +36,7 @@ pub returns-then-eq : goal.returns-then-eq
 returns-then-eq c =
     let ks = c.args.indexes.now in
     let end : c.loop-index.index-index ≡ length ks = omega arith in
-    let feed : c.as_slice.result.now ≡ 10 ∷ [] = search rules in
+    let feed : c.as_slice.result.now ≡ 10 ∷ [] = c.as_slice.ensures in
     all_read c.args.variables.now ks c.args.text.now c.loop-index.index-index c.loop-index.values c.loop-index.rest.now c.loop-index.invariant end
     ((slice_eq-Decides Decides-eqb c.loop-index.rest.now c.as_slice.result.now c.eq.result c.eq.ensures).0 c.if-eq.true ∙ feed)
 
@@ -44,6 +44,6 @@ pub returns-else-eq : goal.returns-else-eq
 returns-else-eq c =
     let ks = c.args.indexes.now in
     let end : c.loop-index.index-index ≡ length ks = omega arith in
-    let feed : c.as_slice.result.now ≡ 10 ∷ [] = search rules in
+    let feed : c.as_slice.result.now ≡ 10 ∷ [] = c.as_slice.ensures in
     more_left c.args.variables.now ks c.args.text.now c.loop-index.index-index c.loop-index.values c.loop-index.rest.now c.loop-index.invariant end
     (λ e. both_ways _ c.if-eq.false ((slice_eq-Decides Decides-eqb c.loop-index.rest.now c.as_slice.result.now c.eq.result c.eq.ensures).1 (e ∙ sym feed)))

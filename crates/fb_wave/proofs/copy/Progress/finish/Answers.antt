@@ -1,4 +1,4 @@
-use Rattle.std.proofs.Common.{refl}
+use Rattle.std.proofs.Common.{inr, refl}
 use Rattle.fb_types.specs.Headline.{system_of}
 use Rattle.fb_wave.proofs.Copied.{unfinished_part}
 use Rattle.fb_wave.proofs.Handing.{on_fault, on_ok, on_passed}
@@ -35,3 +35,9 @@ returns-clause-part g c =
     on_fault c.flush.result _ _ c.flush.ensures.part
     (unfinished_part (system_of c.args.system.now) c.args.self.now (record c.args.self.now.page { text = c.end.new.text }) c.args.end _ _ refl
     c.in_ok-end.ensures)
+
+pub returns-then-not-branch-clause-refused : goal.returns-then-not-branch-clause-refused
+returns-then-not-branch-clause-refused g c = inr (refl, c.if-not-can_end.ensures.0 refl, c.in_ok-is_over.ensures.more c.if-not-branch.true)
+
+pub returns-then-not-branch-clause-current : goal.returns-then-not-branch-clause-current
+returns-then-not-branch-clause-current g c = inr (refl, c.if-not-can_end.ensures.0 refl, c.in_ok-is_over.ensures.line)
