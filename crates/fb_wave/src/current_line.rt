@@ -1,5 +1,7 @@
 //! The line of a trace that was read last.
 
+ghost use Rattle.std.specs.Prelude.{◌≡◌};
+
 use fb_types::Form;
 use std::alloc::Global;
 
@@ -25,5 +27,12 @@ impl CurrentLine {
             tick: 0,
             after_end: false,
         }
+    }
+
+    /// Notes the tick of the line before it.
+    pub(crate) fn follow(&mut self, tick: u64)
+        ensures { self.new ≡ record self.old { tick = tick } }
+    {
+        self.tick = tick;
     }
 }

@@ -94,6 +94,6 @@ pub fn write_wave_with<R: BufRead, W: Write>(
     };
     current.after_end = false;
     let written = progress.copy(alloc, &table, cut, current, input, out);
-    current.tick = progress.tick;
+    current.follow(progress.tick);
     written
 }

@@ -2,6 +2,7 @@ use Rattle.std.proofs.Common.{◌≡◌, Bool, true, [], Option, Some, None, sym
 use Rattle.std.specs.Prelude.{IfErr, IfSome, IsSome, IsTrue, OnOk}
 use Rattle.fb_types.specs.Headline.{Inputs, system_of}
 use Rattle.fb_wave.specs.Writing.{HasShown, IsDump}
+use Rattle.fb_wave.specs.declared.current_line.CurrentLine.{CurrentLine}
 use Rattle.fb_wave.specs.declared.error.WaveError.TheVariants.{Names}
 use Rattle.fb_wave.specs.declared.table.PortTable.{PortTable}
 use Rattle.fb_wave.specs.Named.{HasNames}
@@ -92,11 +93,12 @@ unreachable-requires g c =
 
 pub returns-clause-current : goal.returns-clause-current
 returns-clause-current g c =
-    subst
+    subst (λ (x : CurrentLine). IfErr c.copy-written.result (IsRefusedLine (system_of c.args.system.now) (g.R.Read.remaining c.args.input.now) x)) (sym c.follow.ensures)
+    (subst
     (λ (s : Inputs).
     HasNames (system_of s) → IfErr c.copy-written.result (IsRefusedLine (system_of s) (g.R.Read.remaining c.args.input.now) (record c.copy-written.new.current { tick = c.copy-written.new.self.tick })))
     (of_table _ c.in-Some.table _ c.in-Some.is c.in_ok-table.ensures.system ∙ c.in_ok-ports.ensures) c.copy-written.ensures.current
-    (names_so c.has_names.result c.if-not-has_names.false c.has_names.ensures.named)
+    (names_so c.has_names.result c.if-not-has_names.false c.has_names.ensures.named))
 
 pub returns-in_err-ports-clause-current : goal.returns-in_err-ports-clause-current
 returns-in_err-ports-clause-current g c = on_passed _ _ (IsRefusedLine (system_of c.args.system.now) (g.R.Read.remaining c.args.input.now) _) c.from_residual.ensures.1 tt
