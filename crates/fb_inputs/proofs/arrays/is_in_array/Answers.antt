@@ -1,0 +1,6 @@
+use Rattle.std.proofs.Common.{◌+◌}
+use Rattle.std.specs.Prelude.{◌==◌}
+use Rattle.fb_inputs.proofs.arrays.is_in_array.Goals as goal
+
+pub returns : goal.returns
+returns c = λ i. c.requires.passed.opened i == c.requires.passed.closed i + 1

@@ -1,0 +1,12 @@
+use Rattle.std.proofs.Common.{◌≡◌, ℕ, Err, None, refl}
+use Rattle.fb_inputs.specs.Places.{value_at}
+use Rattle.fb_inputs.specs.Refusals.{or_refuse}
+use Rattle.fb_inputs.specs.Rows.{setting}
+use Rattle.fb_inputs.specs.declared.row.Word.{Word}
+use Rattle.fb_inputs.proofs.row.setting_of.Goals as goal
+
+no_value : (w : Word) (k : ℕ) → w.value ≡ None → or_refuse (value_at k) (setting w) ≡ Err (value_at k)
+no_value w k none = rw none refl
+
+pub returns-in-None : goal.returns-in-None
+returns-in-None c = no_value c.args.word c.args.index c.in-None.is
