@@ -1,0 +1,8 @@
+use Rattle.std.proofs.Common.{sym, subst}
+use Rattle.std.proofs.lemmas.Bool.{ltb-true}
+use Rattle.fb_expect.specs.Traces.{EndsAfter}
+use Rattle.fb_expect.specs.declared.ending.End.{End}
+use Rattle.fb_expect.proofs.ending.can_end.Goals as goal
+
+pub returns-in-Horizon : goal.returns-in-Horizon
+returns-in-Horizon c = λ yes. subst (λ (e : End). EndsAfter c.args.tick e) (sym c.in-Horizon.is) (ltb-true c.args.tick c.in-Horizon.horizon yes)

@@ -1,0 +1,6 @@
+use Rattle.std.proofs.Common.{arith}
+use Rattle.std.proofs.lemmas.Bool.{ltb-true, lt-ltb}
+use Rattle.fb_expect.proofs.watch.is_past.Goals as goal
+
+pub returns : goal.returns
+returns c = (λ yes. omega (arith, ltb-true _ _ yes), λ past. lt-ltb _ _ (omega (arith, past)))
