@@ -1,12 +1,13 @@
 -- The stimuli that a refusal is about, and refusals of a text.
 use Rattle.std.proofs.Common.{◌≡◌, ℕ, Bool, true, false, List, [], Option, Some, None, Result, Ok, Err, Vec, Global, refl, sym, subst, ◌∙◌, inl, inr}
 use Rattle.std.specs.Prelude.{IfOk, IfSome, MatchOption}
+use Rattle.std.proofs.lemmas.Option.{MatchOption-at_none, MatchOption-at_some}
 use Rattle.fb_types.specs.declared.deploy.Stimulus.{Stimulus}
 use Rattle.fb_read.specs.Errors.{fault_number}
 use Rattle.fb_why.proofs.TextReadings.{finds-numbered}
 use Rattle.fb_why.specs.Faults.{IsTextRefusal}
 use Rattle.fb_why.specs.declared.find.TextRefusal.{TextRefusal}
-use Rattle.fb_why.specs.Findings.{AreFedIf, AreNoStimuli, AreNotFedIf, AreStimuli, IsFoundAt, IsSilentOfText, FindsInText}
+use Rattle.fb_why.specs.Findings.{AreFedIf, AreNoStimuli, AreNotFedIf, AreStimuli, IsFoundAt, IsSilentOfBytes, IsSilentOfDeployment, IsSilentOfStimuli, IsSilentOfText, FindsInBytes, FindsInDeployment, FindsInStimuli, FindsInText}
 use Rattle.fb_why.specs.Places.{IsPlaceOf, IsPlacedFinding}
 use Rattle.fb_why.specs.declared.place.PlacedFinding.{PlacedFinding}
 use Rattle.fb_read_positions.specs.declared.text_locations.TextLocation.{TextLocation}
@@ -50,3 +51,20 @@ text_unfound number text r h n =
   where
     same-number : (a b : ℕ) → some_number a ≡ some_number b → a ≡ b
     same-number a b e = cc
+
+-- what is found in the deployment
+pub deployment_found :
+    (n : ℕ) (plan rows : Option (List ℕ)) (o : Option PlacedFinding) (r : PlacedFinding) → o ≡ Some r
+    → MatchOption o (IfSome plan (IsSilentOfDeployment n)) (λ r. FindsInDeployment n plan r.finding.location) → FindsInBytes n plan rows r.finding.location
+deployment_found n plan rows o r is finds = inl (MatchOption-at_some (IfSome plan (IsSilentOfDeployment n)) (λ (r : PlacedFinding). FindsInDeployment n plan r.finding.location) r is finds)
+
+-- what is found in the stimuli, where nothing is in the deployment
+pub stimuli_found :
+    {E : Type 0} (n : ℕ) (plan rows : Option (List ℕ)) (o : Option PlacedFinding) (made : Result (Option PlacedFinding) E) → o ≡ None
+    → MatchOption o (IfSome plan (IsSilentOfDeployment n)) (λ r. FindsInDeployment n plan r.finding.location)
+    → IfOk made (λ o. MatchOption o (IfSome rows (IsSilentOfStimuli n)) (λ r. FindsInStimuli n rows r.finding.location))
+    → IfOk made (λ o. MatchOption o (IsSilentOfBytes n plan rows) (λ r. FindsInBytes n plan rows r.finding.location))
+stimuli_found n plan rows o (Err e) none silent finds = tt
+stimuli_found n plan rows o (Ok (Some r)) none silent finds = inr finds
+stimuli_found n plan rows o (Ok None) none silent finds =
+    (MatchOption-at_none (IfSome plan (IsSilentOfDeployment n)) (λ (r : PlacedFinding). FindsInDeployment n plan r.finding.location) none silent, finds)

@@ -1,4 +1,4 @@
-use Rattle.std.proofs.Common.{◌≡◌, Option, Some, refl, sym, ap, ◌∙◌, subst}
+use Rattle.std.proofs.Common.{◌≡◌, Bor, List, ℕ, Option, Some, refl, sym, ap, ◌∙◌, subst}
 use Rattle.std.specs.Option.{option_map}
 use Rattle.fb_read.specs.Blank.{Text}
 use Rattle.fb_read.specs.declared.token.Span.{Span}
@@ -21,5 +21,8 @@ place_in_rows deploy stimuli position row bytes span location is given near ther
     (bytes, given, refl, record { span = span; near = nearest; there = there; located = located })
 
 pub returns-in_ok-at-in-Stimuli : goal.returns-in_ok-at-in-Stimuli
-returns-in_ok-at-in-Stimuli c = place_in_rows _ _ _ _ _ _ _ (c.in_ok-position.was ∙ ap (λ p. Some p) c.in-Stimuli.is)
-    (ap (option_map (λ b. b.now)) c.in_ok-stimuli-in-Stimuli.was) c.requires c.in_ok-at-in-Stimuli.ensures.there c.in_ok-at-in-Stimuli.ensures.location
+returns-in_ok-at-in-Stimuli c =
+    let deploy = option_map (λ (b : Bor (List ℕ)). b.now) c.args.deploy in
+    let stimuli = option_map (λ (b : Bor (List ℕ)). b.now) c.args.stimuli in
+    place_in_rows deploy stimuli c.args.position c.in-Stimuli.field-0 c.in_ok-stimuli-in-Stimuli.field-0.now c.args.span c.in_ok-at-in-Stimuli.at (c.in_ok-position.was ∙ ap (λ (p : InputPosition). Some p) c.in-Stimuli.is)
+    (ap (λ (o : Option (Bor (List ℕ))). option_map (λ (b : Bor (List ℕ)). b.now) o) c.in_ok-stimuli-in-Stimuli.was) c.requires c.in_ok-at-in-Stimuli.ensures.there c.in_ok-at-in-Stimuli.ensures.location
