@@ -4,6 +4,7 @@ pub mod Named
 mod ClauseSteps
 mod StatementSteps
 mod Leaving
+mod Left
 mod Resuming
 mod TypePorts
 mod Placed

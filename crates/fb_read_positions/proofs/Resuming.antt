@@ -1,10 +1,9 @@
 -- Walks that go on where an earlier one has been.
-use Rattle.std.proofs.Common.{◌≡◌, ◌-◌, ◌+◌, ℕ, zero, suc, Bool, true, false, cond, List, [], ◌∷◌, ◌++◌, map, length, drop, Option, Some, None, Result, Ok, Err, refl, sym, ◌∙◌, ap, subst, arith}
-use Rattle.std.specs.Prelude.{◌&&◌, IfOk, IfSome}
+use Rattle.std.proofs.Common.{◌≡◌, ◌-◌, ◌+◌, ℕ, zero, suc, Bool, true, false, cond, List, [], ◌∷◌, ◌++◌, map, length, drop, Some, Ok, refl, sym, ◌∙◌, ap, subst, arith}
+use Rattle.std.specs.Prelude.{◌&&◌}
 use Rattle.std.proofs.lemmas.List.{length-append, length-map}
-use Rattle.fb_read.specs.Parser.{Outcome, Reads, ◌>>◌, pure}
+use Rattle.fb_read.specs.Parser.{◌>>◌, pure}
 use Rattle.fb_read.specs.Statements.{begins_statement}
-use Rattle.fb_read.specs.declared.fault.ParseFault.{ParseFault}
 use Rattle.fb_read.specs.Tokens.{Tokens, tokens_of}
 use Rattle.fb_read.specs.declared.token.Located.{Located}
 use Rattle.fb_read.specs.declared.token.Token.{Token}
@@ -53,10 +52,6 @@ last_tokens w ps mid ends e =
 from_left : (w : Walk) (ps : List Located) (n : ℕ) (ts : Tokens) → Ends w → (there : Leaves w ps n) → ts ≡ tokens_of (drop (length ps - n) ps) → ts ≡ there.0
 from_left w ps n ts ends there is =
     is ∙ ap (λ m. tokens_of (drop (length ps - m) ps)) (sym there.2) ∙ last_tokens w ps there.0 ends there.1
-
--- a walk that read
-pub was_read : (o : Outcome (Unit {0})) (new : Tokens) (r : Result (Unit {0}) ParseFault) → Reads o r new → r ≡ Ok tt → o ≡ Ok (tt, new)
-was_read o new r reads ok = subst (λ (x : Result (Unit {0}) ParseFault). Reads o x new) ok reads
 
 -- ---- Some items, and then others
 
@@ -187,19 +182,6 @@ item_within ps here rest i owner n mid there given first left passed =
     ∙ then_on (to_first i.list there.0) (λ x. pass_items i.list i.index) tt mid (ap (to_first i.list) (sym same) ∙ first)
     ∙ ap (pass_items i.list i.index) (sym begins) ∙ passed.1 in
     (passed.0, e, passed.2)
-
--- what holds where a number of tokens is left, of another such walk
-pub left_as : {E : Type 0} (P Q : ℕ → Type 0) (r : Result (Option ℕ) E) → ((n : ℕ) → P n → Q n) → IfOk r (λ o. IfSome o P) → IfOk r (λ o. IfSome o Q)
-left_as P Q (Err e) f h = tt
-left_as P Q (Ok None) f h = tt
-left_as P Q (Ok (Some n)) f h = f n h
-
--- a walk from all these tokens, and what is left after it
-pub leaves_if :
-    {E : Type 0} (w : Walk) (ps : List Located) (ts new : Tokens) (r : Result (Unit {0}) ParseFault) (left : ℕ) (found : Result (Option ℕ) E) → ts ≡ tokens_of ps
-    → Reads (w ts) r new → left ≡ length new → IfOk found (λ o. IfSome o (λ n. (r ≡ Ok tt) × (n ≡ left))) → IfOk found (λ o. IfSome o (Leaves w ps))
-leaves_if w ps ts new r left found all reads is h =
-    left_as (λ n. (r ≡ Ok tt) × (n ≡ left)) (Leaves w ps) found (λ n read. (new, ap w (sym all) ∙ was_read (w ts) new r reads read.0, sym (read.1 ∙ is))) h
 
 -- what has a list, in place of the walk up to it
 pub stop_as : (ps : List Located) (v w : Walk) (s : Stop) → v ≡ w → IsStop ps w s → IsStop ps v s

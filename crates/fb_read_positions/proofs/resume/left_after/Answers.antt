@@ -1,7 +1,8 @@
 use Rattle.std.proofs.Common.{◌-◌}
 use Rattle.fb_read_positions.specs.Resumed.{Leaves}
 use Rattle.fb_read_positions.specs.Walks.{pass_items, to_item}
-use Rattle.fb_read_positions.proofs.Resuming.{item_after, left_as}
+use Rattle.fb_read_positions.proofs.Left.{left_as}
+use Rattle.fb_read_positions.proofs.Resuming.{item_after}
 use Rattle.fb_read_positions.proofs.resume.left_after.Goals as goal
 
 pub returns : goal.returns

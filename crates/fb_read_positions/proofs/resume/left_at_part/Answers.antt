@@ -2,7 +2,7 @@ use Rattle.std.proofs.Common.{List, subst}
 use Rattle.fb_read.specs.Parser.{Reads}
 use Rattle.fb_read_positions.specs.Walks.{take_all, to_part}
 use Rattle.fb_read_positions.specs.declared.step.Step.{Step}
-use Rattle.fb_read_positions.proofs.Resuming.{leaves_if}
+use Rattle.fb_read_positions.proofs.Left.{leaves_if}
 use Rattle.fb_read_positions.proofs.resume.left_at_part.Goals as goal
 
 pub returns : goal.returns

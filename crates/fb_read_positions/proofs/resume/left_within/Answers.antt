@@ -2,7 +2,8 @@ use Rattle.std.proofs.Common.{◌-◌, length, drop, sym, ◌∙◌, ap}
 use Rattle.fb_read_positions.specs.Resumed.{Leaves}
 use Rattle.fb_read_positions.specs.Walks.{pass_items, to_first, to_item}
 use Rattle.fb_read_positions.proofs.Placed.{of_some}
-use Rattle.fb_read_positions.proofs.Resuming.{item_within, left_as}
+use Rattle.fb_read_positions.proofs.Left.{left_as}
+use Rattle.fb_read_positions.proofs.Resuming.{item_within}
 use Rattle.fb_read_positions.proofs.resume.left_within.Goals as goal
 
 pub returns-in-Some : goal.returns-in-Some
