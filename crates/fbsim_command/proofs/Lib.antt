@@ -17,6 +17,7 @@ mod Declaring
 mod Parting
 mod Drawing
 mod Explaining
+mod Checking
 mod NotedLines
 mod Showing
 mod Noting

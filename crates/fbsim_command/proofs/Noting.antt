@@ -1,10 +1,10 @@
 -- A note that is given only where it is asked for.
-use Rattle.std.proofs.Common.{◌≡◌, ◌+◌, ◌<◌, ◌&&◌, ℕ, zero, suc, List, [], ◌∷◌, ◌++◌, append_assoc, length, take, get_or, Bool, true, false, Option, Some, None, option_map, String, string_bytes, refl, sym, ◌∙◌, ap, subst, inl, inr, arith}
+use Rattle.std.proofs.Common.{◌≡◌, ◌+◌, ◌<◌, ◌&&◌, ℕ, zero, suc, List, [], ◌∷◌, ◌++◌, append_assoc, length, take, get_or, Bool, true, false, Option, Some, None, option_map, String, string_bytes, refl, sym, ◌∙◌, ap, subst, inl, inr, Err, arith}
 use Rattle.std.specs.Prelude.{All, IfSome, nat_eq}
 use Rattle.std.proofs.lemmas.Bool.Decides.{nat_tests}
 use Rattle.std.proofs.lemmas.List.{append-nil, take_more}
 use Rattle.fb_sim.specs.Given.{Given}
-use Rattle.fbsim_command.specs.Expecting.{IsNoteAt, input_names_of, own_of, types_of}
+use Rattle.fbsim_command.specs.Expecting.{IsNoteAt, NotesRules, input_names_of, own_of, types_of}
 use Rattle.fbsim_command.specs.Texts.{given_of, lines_of, may_lines_of}
 use Rattle.fbsim_command.specs.declared.bench_line.Expect.{Expect}
 use Rattle.fbsim_command.specs.declared.texts.Texts.{Texts}
@@ -19,6 +19,7 @@ use Rattle.fb_why.specs.declared.listing.Findings.{Findings}
 use Rattle.fb_why.specs.declared.place.PlacedFinding.{PlacedFinding}
 use Rattle.fb_why.specs.Places.{IsPlacedFinding}
 use Rattle.fb_read_positions.specs.declared.text_locations.TextLocation.{TextLocation}
+use Rattle.fbsim_command.specs.Outcomes.{End}
 use Rattle.fbsim_command.specs.declared.failure.Failure.{Failure}
 
 pub noted :
@@ -120,3 +121,12 @@ place-at given [] os i f d all within is = absurd (omega (arith, within))
 place-at given (g ∷ fs) [] i f d all within is = absurd all
 place-at given (g ∷ fs) (p ∷ os) zero f d all within is = subst (λ (h : PlacedFinding). IsPlaceOf given.deploy given.stimuli h p) (sym is) all.0
 place-at given (g ∷ fs) (p ∷ os) (suc i) f d all within is = place-at given fs os i f d all.1 (omega (arith, within)) is
+
+-- the note to rules that are refused with this number
+pub rules-noted :
+    {S : Type 0} (bytes : S → List ℕ) (x : Expect) (text : List ℕ) (lines : List ℕ) (declared : Option Given) (end : End) (failure : Failure) (number : ℕ) (note : Option S)
+    → end ≡ Err failure → number_of failure ≡ Some number → x.why ≡ true → IfSome note (λ n. IsNoteAt x text lines declared number (bytes n))
+    → NotesRules x text lines declared end (option_map bytes note)
+rules-noted {S} bytes x text lines declared end failure number None is same asked noted = subst (λ (e : End). NotesRules x text lines declared e None) (sym is) tt
+rules-noted {S} bytes x text lines declared end failure number (Some n) is same asked noted =
+    subst (λ (e : End). NotesRules x text lines declared e (Some (bytes n))) (sym is) (asked, (number, same, noted))

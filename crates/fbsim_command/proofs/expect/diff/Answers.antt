@@ -12,3 +12,7 @@ returns-in_err-second g c =
     unopened g.S.Streams.opens c.args.source.now c.open-2.new.self c.args.diff.now (g.W.Write.contents c.args.out.now) c.in_err-second.field-0.0 c.from_residual-in_err-second.result
     (inr (record { between = c.open.new.self; first = _; first_opened = c.in_ok-first.ensures; unopened = c.in_err-second.ensures }))
     c.from_residual-in_err-second.ensures.1
+
+pub returns : goal.returns
+returns g c =
+    inl (record { between = c.open.new.self; first = _; second = _; first_opened = c.in_ok-first.ensures; second_opened = c.in_ok-second.ensures; done = c.compare.ensures })

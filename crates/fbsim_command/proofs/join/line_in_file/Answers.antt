@@ -7,3 +7,7 @@ loop-i-preserved c = left-more c.args.lines.now c.args.whole c.loop-i.i c.loop-i
 
 pub returns-clause-none : goal.returns-clause-none
 returns-clause-none c = inr (left-none c.args.lines.now c.args.whole c.loop-i.i c.loop-i.left c.loop-i-test.false c.loop-i.invariant)
+
+pub returns-then-left-lines-clause-found : goal.returns-then-left-lines-clause-found
+returns-then-left-lines-clause-found c =
+    record { there = c.loop-i-test.true; first = c.loop-i.invariant.0; last = c.if-left-lines.true; sum_is = c.loop-i.invariant.1 }
