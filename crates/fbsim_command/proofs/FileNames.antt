@@ -1,5 +1,5 @@
 -- Refusals and notes that name a file of a declaration and the line in it.
-use Rattle.std.proofs.Common.{◌≡◌, ℕ, List, Option, Some, None, String, Ok, Err, refl, sym, ap, ◌∙◌, subst, inl, inr, string_bytes}
+use Rattle.std.proofs.Common.{◌≡◌, ◌<◌, ℕ, zero, suc, Bor, List, [], ◌∷◌, length, get_or, map, arith, Option, Some, None, String, Ok, Err, refl, sym, ap, ◌∙◌, subst, inl, inr, string_bytes}
 use Rattle.std.specs.Prelude.{IfSome}
 use Rattle.clap.specs.Words.{Text}
 use Rattle.fbsim_command.specs.Joining.{IsLineOf, name_at}
@@ -36,3 +36,9 @@ module _ (types : List Text) (own : Text) (lines : List ℕ) where
       → IfSome note (λ n. IsPlaced types own lines whole column (string_bytes n))
   placed-alone whole column None none is = tt
   placed-alone whole column (Some note) none is = inr (none, is)
+
+-- the name of one of the files of block types
+pub named_here : (ts : List (Bor Text)) (own : Text) (file : ℕ) (d : Bor Text) → file < length ts → (get_or ts file d).now ≡ name_at (map (λ t. t.now) ts) own file
+named_here [] own file d there = absurd (omega (arith, there))
+named_here (t ∷ ts) own zero d there = refl
+named_here (t ∷ ts) own (suc file) d there = named_here ts own file d (omega (arith, there))

@@ -1,6 +1,6 @@
 -- A note that is given only where it is asked for.
-use Rattle.std.proofs.Common.{◌≡◌, ◌+◌, ◌<◌, ◌&&◌, ℕ, zero, suc, List, [], ◌∷◌, ◌++◌, append_assoc, length, take, get_or, Bool, true, false, Option, Some, None, option_map, String, string_bytes, refl, sym, ◌∙◌, ap, subst, inl, inr, Err, arith}
-use Rattle.std.specs.Prelude.{All, IfSome, nat_eq}
+use Rattle.std.proofs.Common.{◌≡◌, ◌+◌, ◌<◌, ◌&&◌, ℕ, zero, suc, List, [], ◌∷◌, ◌++◌, append_assoc, length, take, get_or, Bool, true, false, Option, Some, None, option_map, String, string_bytes, refl, sym, ◌∙◌, ap, subst, inl, inr, Ok, Err, arith}
+use Rattle.std.specs.Prelude.{All, IfOk, IfSome, Result, if◌then◌else◌, is_ok, nat_eq}
 use Rattle.std.proofs.lemmas.Bool.Decides.{nat_tests}
 use Rattle.std.proofs.lemmas.List.{append-nil, take_more}
 use Rattle.fb_sim.specs.Given.{Given}
@@ -130,3 +130,9 @@ pub rules-noted :
 rules-noted {S} bytes x text lines declared end failure number None is same asked noted = subst (λ (e : End). NotesRules x text lines declared e None) (sym is) tt
 rules-noted {S} bytes x text lines declared end failure number (Some n) is same asked noted =
     subst (λ (e : End). NotesRules x text lines declared e (Some (bytes n))) (sym is) (asked, (number, same, noted))
+
+-- a note after what was there
+pub pushed :
+    {A E : Type 0} (r : Result A E) (mid note new rest all : List ℕ) → mid ++ note ≡ all → new ≡ (if is_ok r then mid ++ note else rest) → IfOk r (λ x. new ≡ all)
+pushed (Ok x) mid note new rest all same put = put ∙ same
+pushed (Err e) mid note new rest all same put = tt

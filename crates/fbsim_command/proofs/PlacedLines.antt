@@ -12,7 +12,10 @@ use Rattle.fb_read_positions.specs.Locations.{IsPlaceFor}
 use Rattle.fb_read_positions.specs.declared.position.Position.{Position}
 use Rattle.fb_read_positions.specs.declared.text_locations.TextLocation.{TextLocation}
 use Rattle.fb_sim.specs.Given.{Given}
-use Rattle.fbsim_command.specs.WarningLines.{AreLines, IsAdded, IsLinkPlace, IsPlace, IsPlaceText, IsPlacedLine, Naming}
+use Rattle.fb_inputs.specs.declared.deploy_location.TableLocation.TheVariants as table
+use Rattle.fb_inputs.specs.declared.position.DeployPosition.TheVariants as position
+use Rattle.fb_why.specs.InputStretches.{IsDeployPlace}
+use Rattle.fbsim_command.specs.WarningLines.{AreLines, IsAdded, IsLinkPlace, IsPlace, IsPlaceText, IsPlacedLine, Naming, place_text}
 
 module _ (n : Naming) (given : Given) (library : Library) where
   -- the text of a location is that of the warning at whose position it is
@@ -70,3 +73,12 @@ module _ (n : Naming) (given : Given) (library : Library) where
 
   pub lines_all : (ws : List Warning) (i : ℕ) (text : List ℕ) → length ws ≤ i → AreLines n given library (take i ws) text → AreLines n given library ws text
   lines_all ws i text past are = subst (λ (vs : List Warning). AreLines n given library vs text) (take_all i ws past) are
+
+-- the text of the place of a link
+pub link_placed :
+    {S E : Type 0} (n : Naming) (deploy : Option (List ℕ)) (link : ℕ) (bytes : S → List ℕ) (r : Result S E) (name text : List ℕ) (at : TextLocation) → n.deploy ≡ Some name → deploy ≡ Some text
+    → IsDeployPlace text (position.Table (table.Link link)) at → IfOk r (λ s. bytes s ≡ place_text name at.line at.column)
+    → IfOk r (λ s. IsLinkPlace n deploy link (bytes s) ⊎ (bytes s ≡ []))
+link_placed n deploy link bytes (Ok s) name text at named given placed shown =
+    inl (record { name = name; named = named; bytes = text; given = given; place = at; placed = placed; shown = shown })
+link_placed n deploy link bytes (Err e) name text at named given placed shown = tt
