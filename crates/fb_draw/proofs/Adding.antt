@@ -63,6 +63,11 @@ pub put_as : {A E : Type 0} (r : Result A E) (new old a b : List ℕ) → a ≡ 
 put_as (Ok x) new old a b same put = put ∙ ap (λ (l : List ℕ). old ++ l) same
 put_as (Err e) new old a b same put = tt
 
+-- one call that adds a piece, by another name
+pub put_piece : {A E : Type 0} (r : Result A E) (old a b new : List ℕ) → a ≡ b → new ≡ (if is_ok r then old ++ a else old) → OnOk r (new ≡ old ++ b)
+put_piece (Ok x) old a b new same put = put ∙ ap (λ (l : List ℕ). old ++ l) same
+put_piece (Err e) old a b new same put = tt
+
 pub put_two :
     {A E : Type 0} (r : Result A E) (old a z one new : List ℕ) → one ≡ old ++ a → OnOk r (new ≡ one ++ z) → OnOk r (new ≡ old ++ (a ++ z))
 put_two (Ok x) old a z one new first put = put ∙ ap (λ (l : List ℕ). l ++ z) first ∙ append_assoc old a z
