@@ -17,31 +17,39 @@ enum Step {
     PutLocal(u64, u128),
     /// The least tick that there is.
     Next(Option<u64>),
-    /// What is taken below a tick, if anything is.
-    Take(u64, Option<(u64, u128)>),
+    /// Nothing is taken below a tick.
+    TakeNone(u64),
+    /// What is taken below a tick.
+    Take(u64, u64, u128),
 }
 
-/// The key of the event that is taken, if there is one.
-fn take(agenda: &mut Agenda, horizon: u64) -> Option<Key> {
+/// This is the least tick that there is.
+fn expect_next(rt: &impl Abort, agenda: &Agenda, tick: Option<u64>) {
+    assert!(rt; agenda.next() == tick);
+}
+
+/// The event of this key is taken below the horizon, or none.
+fn expect_taken(rt: &impl Abort, agenda: &mut Agenda, horizon: u64, expected: Option<Key>) {
     let mut least = Least::new();
     let is_taken = agenda.take_least_into(horizon, &mut least);
     let Least { key, event } = least;
     forget(event);
-    if is_taken { Some(key) } else { None }
+    let found = if is_taken { Some(key) } else { None };
+    assert!(rt; found == expected);
 }
 
 fn expect_step(rt: &impl Abort, agenda: &mut Agenda, step: &Step) {
-    match step {
+    match *step {
         Step::Put(tick, number) => agenda
-            .put(Key::local(*tick, 0, *number), Event::Local(TARGET))
+            .put(Key::local(tick, 0, number), Event::Local(TARGET))
             .expect(rt, "memory"),
         Step::PutLocal(tick, number) => agenda
-            .put_local(*tick, 0, *number, TARGET)
+            .put_local(tick, 0, number, TARGET)
             .expect(rt, "memory"),
-        Step::Next(tick) => assert!(rt; agenda.next() == *tick),
-        Step::Take(horizon, None) => assert!(rt; take(agenda, *horizon) == None),
-        Step::Take(horizon, Some((tick, number))) => {
-            assert!(rt; take(agenda, *horizon) == Some(Key::local(*tick, 0, *number)))
+        Step::Next(tick) => expect_next(rt, agenda, tick),
+        Step::TakeNone(horizon) => expect_taken(rt, agenda, horizon, None),
+        Step::Take(horizon, tick, number) => {
+            expect_taken(rt, agenda, horizon, Some(Key::local(tick, 0, number)))
         }
     }
 }
@@ -52,10 +60,10 @@ static STEPS: [Step; 24] = [
     Step::Put(2, 1),
     Step::Put(2, 0),
     Step::Put(2, 1),
-    Step::Take(2, None),
-    Step::Take(3, Some((2, 0))),
-    Step::Take(3, Some((2, 1))),
-    Step::Take(10, None),
+    Step::TakeNone(2),
+    Step::Take(3, 2, 0),
+    Step::Take(3, 2, 1),
+    Step::TakeNone(10),
     Step::PutLocal(7, 0),
     Step::PutLocal(7, 1),
     Step::PutLocal(9, 0),
@@ -64,14 +72,14 @@ static STEPS: [Step; 24] = [
     Step::PutLocal(7, 4),
     Step::PutLocal(7, 1),
     Step::Next(Some(7)),
-    Step::Take(10, Some((7, 0))),
+    Step::Take(10, 7, 0),
     Step::Next(Some(7)),
-    Step::Take(10, Some((7, 1))),
-    Step::Take(10, Some((7, 3))),
+    Step::Take(10, 7, 1),
+    Step::Take(10, 7, 3),
     Step::Next(Some(7)),
-    Step::Take(10, Some((7, 4))),
+    Step::Take(10, 7, 4),
     Step::Next(Some(9)),
-    Step::Take(10, Some((9, 0))),
+    Step::Take(10, 9, 0),
     Step::Next(None),
 ];
 
@@ -93,8 +101,8 @@ fn a_timer_that_is_set_anew_goes_off_once(rt: HostRuntime) {
     agenda
         .set_timer(0, 0, TimerAsk::At(3))
         .expect(&rt, "memory");
-    assert!(rt; agenda.next() == Some(3));
-    assert!(rt; take(&mut agenda, 10) == Some(Key::timer(3, 0, 0)));
-    assert!(rt; agenda.next() == None);
+    expect_next(&rt, &agenda, Some(3));
+    expect_taken(&rt, &mut agenda, 10, Some(Key::timer(3, 0, 0)));
+    expect_next(&rt, &agenda, None);
     forget(agenda);
 }

@@ -95,7 +95,7 @@ fn expect_rows(rt: &impl Abort, alloc: Global, algorithms: &[Algorithm]) {
 fn bodies_leave_what_they_did_before_a_stop(rt: HostRuntime) {
     let library = read_library(rt.alloc(), BODIES.as_bytes()).expect(&rt, "no library");
     let [BlockType::Basic(block)] = library.blocks.as_slice() else {
-        panic!(rt; "a basic type");
+        rt.panic("a basic type")
     };
     expect_rows(&rt, rt.alloc(), block.algorithms.as_slice());
     forget(library);

@@ -56,7 +56,7 @@ pub fn opened(rt: &impl Abort, alloc: Global, system: &System, number: u32) -> R
     assert!(rt; (number as usize) < system.resources());
     system.facts();
     let Ok(resource) = Resource::open(alloc, system, number) else {
-        panic!(rt; "memory");
+        rt.panic("memory")
     };
     resource
 }
@@ -70,13 +70,12 @@ pub fn built(rt: &impl Abort, alloc: Global, system: &System, number: u32) -> Tr
     assert!(rt; (number as usize) < system.resources());
     system.facts();
     let Ok(tree) = Tree::build(alloc, system, number) else {
-        panic!(rt; "memory");
+        rt.panic("memory")
     };
     tree
 }
 
 /// What a run gave.
-#[derive(Drop)]
 pub struct Ran {
     pub lines: Vec<Line>,
     pub sent: Vec<Message>,
@@ -102,24 +101,23 @@ pub fn run(
 {
     assert!(rt; resource.stopped().is_none() && to >= resource.clock());
     assert!(rt; to <= 1_000_000_000_000 && steps <= 10_000_000);
-    match resource.run_over(alloc, system, to, steps, spent) {
-        WindowDone::Ran {
-            resource,
-            lines,
-            sent,
-            stop,
-        } => {
-            assert!(rt; stop.is_some() || resource.clock() == to);
-            let next = resource.next();
-            drop(resource);
-            Ran {
-                lines,
-                sent,
-                stop,
-                next,
-            }
-        }
-        WindowDone::NoMemory => panic!(rt; "memory"),
+    let WindowDone::Ran {
+        resource,
+        lines,
+        sent,
+        stop,
+    } = resource.run_over(alloc, system, to, steps, spent)
+    else {
+        rt.panic("memory")
+    };
+    assert!(rt; stop.is_some() || resource.clock() == to);
+    let next = resource.next();
+    drop(resource);
+    Ran {
+        lines,
+        sent,
+        stop,
+        next,
     }
 }
 
@@ -138,8 +136,8 @@ pub fn expect_text(
     marks: &[(u64, usize)],
 ) {
     assert!(rt; all_belong(system, lines));
-    for step in &TAKEN {
-        let mut out = Narrow::new(alloc, *step);
+    for index in 0..TAKEN.len() {
+        let mut out = Narrow::new(alloc, TAKEN[index]);
         write_lines(&mut out, system, form, lines).expect(rt, "written");
         assert!(rt; out.got.as_slice() == text);
     }
@@ -151,9 +149,9 @@ pub fn expect_text(
 /// Marks, each with its tick and where that ends.
 fn expect_marks(rt: &impl Abort, found: &[Mark], marks: &[(u64, usize)]) {
     assert!(rt; found.len() == marks.len());
-    for (index, (tick, end)) in marks.iter().enumerate() {
-        let mark = &found[index];
-        assert!(rt; mark.tick == *tick && mark.end == *end);
+    for index in 0..marks.len() {
+        let (tick, end) = marks[index];
+        assert!(rt; found[index].tick == tick && found[index].end == end);
     }
 }
 
@@ -173,26 +171,17 @@ pub fn handed(rt: &impl Abort, alloc: Global, system: &System, sent: Vec<Message
     ensures { All (IsMessage system.now) result.items }
 {
     let Ok(outboxes) = vec![in alloc; sent] else {
-        panic!(rt; "memory");
+        rt.panic("memory")
     };
     let Ok(mut inboxes) = exchange(alloc, system, outboxes) else {
-        panic!(rt; "memory");
+        rt.panic("memory")
     };
     let Some(inbox) = inboxes.pop() else {
-        panic!(rt; "no inbox");
+        rt.panic("no inbox")
     };
     assert!(rt; inboxes.len() == 1 && inboxes[0].is_empty());
     forget(inboxes);
     inbox
-}
-
-/// Whether a message goes to the resource of this number, and not before its clock.
-fn is_for(resource: &Resource, number: usize, system: &System, message: &Message) -> bool
-    requires number { resource.now.tree.resource ≡ number }
-    requires message { IsMessage system.now message.now }
-    ensures { IsTrue result → IsFor system.now resource.now message.now }
-{
-    system.resource(message.target.instance) == number && resource.clock() <= message.arrives
 }
 
 /// Whether all messages go to the resource of this number, none before its clock.
@@ -202,7 +191,9 @@ fn are_for(resource: &Resource, number: usize, system: &System, messages: &[Mess
     ensures { IsTrue result → All (IsFor system.now resource.now) messages.now }
 {
     for message in messages {
-        if !is_for(resource, number, system, message) {
+        if system.resource(message.target.instance) != number
+            || message.arrives < resource.clock()
+        {
             return false;
         }
     }
@@ -225,13 +216,13 @@ pub fn deliver_first(
     ensures { IsOf system.now result }
 {
     if !are_for(&resource, number, system, messages.as_slice()) {
-        panic!(rt; "messages for another resource");
+        rt.panic("messages for another resource");
     }
     match resource.receive(messages) {
         Ok(()) => resource,
         Err((_, back)) => match resource.receive(back) {
             Ok(()) => resource,
-            Err(_) => panic!(rt; "memory"),
+            Err(_) => rt.panic("memory"),
         },
     }
 }

@@ -12,13 +12,13 @@ static GUARDS: &str = "FUNCTION_BLOCK F EC_STATES S; END_STATES\n\
 /// The operator of the left operand of the guard at an index, and that of the guard itself.
 fn operators(rt: &impl Abort, block: &BasicType, index: usize) -> (BinaryOperator, BinaryOperator) {
     let Some(transition) = block.transitions.get(index) else {
-        panic!(rt; "a transition");
+        rt.panic("a transition")
     };
     let Some(Expr::Binary(outer, left, _)) = &transition.condition.guard else {
-        panic!(rt; "a guard");
+        rt.panic("a guard")
     };
     let Expr::Binary(inner, _, _) = left.get() else {
-        panic!(rt; "two operators");
+        rt.panic("two operators")
     };
     (*inner, *outer)
 }
@@ -27,7 +27,7 @@ fn operators(rt: &impl Abort, block: &BasicType, index: usize) -> (BinaryOperato
 fn comparisons_are_grouped_to_the_left(rt: HostRuntime) {
     let library = read_library(rt.alloc(), GUARDS.as_bytes()).expect(&rt, "no library");
     let [BlockType::Basic(block)] = library.blocks.as_slice() else {
-        panic!(rt; "a basic type");
+        rt.panic("a basic type")
     };
     assert!(rt;
         matches!(

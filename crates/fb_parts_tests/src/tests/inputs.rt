@@ -47,7 +47,7 @@ static VALUES: [Value; 12] = [
 fn a_row_has_its_values(rt: HostRuntime) {
     let stimuli = read_stimuli(rt.alloc(), STIMULI).expect(&rt, "no stimuli");
     let [row] = stimuli.as_slice() else {
-        panic!(rt; "one row");
+        rt.panic("one row")
     };
     assert!(rt; row.tick == 0 && is(&row.instance, b"D") && is(&row.event, b"START"));
     expect_settings(&rt, row.settings.as_slice());

@@ -4,6 +4,7 @@
 use fb_link::earliest;
 use fb_types::{Entry, Items, Latency};
 use std::mem::forget;
+use std::process::Abort;
 
 /// What is sent before tick 10 takes 5 ticks, and what is sent from then on takes 1.
 static FALLING: [Entry; 2] = [
@@ -20,7 +21,7 @@ static FALLING: [Entry; 2] = [
 #[test]
 fn the_earliest_arrival_may_be_that_of_a_later_message(rt: HostRuntime) {
     let Ok(entries) = Items::from_slice(rt.alloc(), &FALLING) else {
-        panic!(rt; "memory");
+        rt.panic("memory")
     };
     let latency = Latency::new(entries);
     assert!(rt; earliest(&latency, 0) == 5 && earliest(&latency, 5) == 10);
@@ -28,7 +29,7 @@ fn the_earliest_arrival_may_be_that_of_a_later_message(rt: HostRuntime) {
     assert!(rt; earliest(&latency, 7) == 11 && earliest(&latency, 10) == 11);
     forget(latency);
     let Ok(steady) = Latency::constant(rt.alloc(), 2) else {
-        panic!(rt; "memory");
+        rt.panic("memory")
     };
     assert!(rt; earliest(&steady, 3) == 5);
     forget(steady);

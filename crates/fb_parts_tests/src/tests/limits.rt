@@ -4,6 +4,7 @@
 use fb_check::accept;
 use fb_read::read_library;
 use fb_types::{Deploy, Items, Name, Stimulus};
+use std::process::Abort;
 
 #[test]
 fn there_may_be_no_100001_stimuli(rt: HostRuntime) {
@@ -22,7 +23,7 @@ fn there_may_be_no_100001_stimuli(rt: HostRuntime) {
         stimuli.push(stimulus).expect(&rt, "memory");
     }
     let Err(error) = accept(alloc, library, deploy, stimuli) else {
-        panic!(rt; "too many are accepted");
+        rt.panic("too many are accepted")
     };
     assert!(rt; error.number() == Some(30));
 }

@@ -1,6 +1,8 @@
 //! Messages that one resource sends and another takes.
 
-use super::chain::{ENOUGH, accepted, deliver_first, expect_text, handed, opened, run, turned};
+use super::chain::{
+    ENOUGH, Ran, accepted, deliver_first, expect_text, handed, opened, run, turned,
+};
 use fb_types::{Form, Reason, StopMark};
 use std::alloc::Global;
 use std::mem::forget;
@@ -100,34 +102,31 @@ fn expect_received(rt: &impl Abort, alloc: Global, talk: &Talk) {
     let owned = accepted(rt, alloc, talk.declaration, talk.deploy, talk.stimuli);
     let system = &owned;
     let sender = opened(rt, alloc, system, 0);
-    let first = run(
-        rt,
-        sender,
-        alloc,
-        system,
-        talk.sent_below,
-        ENOUGH,
-        Vec::new(alloc),
-    );
-    assert!(rt; first.stop.is_none() && !first.lines.is_empty());
-    let inbox = handed(rt, alloc, system, turned(system, first.sent));
+    let below = talk.sent_below;
+    let Ran {
+        lines,
+        sent,
+        stop,
+        next: _,
+    } = run(rt, sender, alloc, system, below, ENOUGH, Vec::new(alloc));
+    assert!(rt; stop.is_none() && !lines.is_empty());
+    let inbox = handed(rt, alloc, system, turned(system, sent));
     let receiver = opened(rt, alloc, system, 1);
     assert!(rt; receiver.next() == talk.alone);
     let receiver = deliver_first(rt, receiver, 1, system, inbox);
     assert!(rt; receiver.next() == talk.with_messages);
-    let ran = run(
-        rt,
-        receiver,
-        alloc,
-        system,
-        talk.taken_below,
-        ENOUGH,
-        first.lines,
-    );
-    assert!(rt; ran.stop.is_none() && ran.sent.is_empty() && ran.next.is_none());
-    let (lines, text) = (ran.lines.as_slice(), talk.trace.as_bytes());
-    expect_text(rt, alloc, system, Form::One, lines, text, talk.marks);
-    forget(ran);
+    let below = talk.taken_below;
+    let Ran {
+        lines,
+        sent,
+        stop,
+        next,
+    } = run(rt, receiver, alloc, system, below, ENOUGH, lines);
+    assert!(rt; stop.is_none() && sent.is_empty() && next.is_none());
+    let text = talk.trace.as_bytes();
+    expect_text(rt, alloc, system, Form::One, &lines, text, talk.marks);
+    forget(lines);
+    forget(sent);
     drop(owned);
 }
 
@@ -155,8 +154,8 @@ static IN_THREE: &str = "resource = [\n\
     { device = 'D', name = 'R3', instances = ['C'] },\n\
     ]\n";
 
-static LOOPER_LINES: &[u8] =
-    b"7 R2 > L.GO\n7 R2 < L.TICKED\n7 R2 < L.TICKED\n7 R2 < L.TICKED\n7 R2 < L.TICKED\n";
+static LOOPER_LINES: &str =
+    "7 R2 > L.GO\n7 R2 < L.TICKED\n7 R2 < L.TICKED\n7 R2 < L.TICKED\n7 R2 < L.TICKED\n";
 
 static STOP: StopMark = StopMark {
     tick: 7,
@@ -171,18 +170,16 @@ fn a_resource_stops_by_itself(rt: HostRuntime) {
     let stimuli = "tick,event,values\n7,C.EI1,\n7,L.GO,\n7,A.EI1,\n";
     let system = accepted(&rt, alloc, LOOPER, IN_THREE, stimuli);
     let looper = opened(&rt, alloc, &system, 1);
-    let ran = run(&rt, looper, alloc, &system, 9, 10, Vec::new(alloc));
-    assert!(rt; ran.stop == Some(STOP) && ran.sent.is_empty());
-    let lines = ran.lines.as_slice();
-    expect_text(
-        &rt,
-        alloc,
-        &system,
-        Form::One,
+    let Ran {
         lines,
-        LOOPER_LINES,
-        &[(7, 76)],
-    );
-    forget(ran);
+        sent,
+        stop,
+        next: _,
+    } = run(&rt, looper, alloc, &system, 9, 10, Vec::new(alloc));
+    assert!(rt; stop == Some(STOP) && sent.is_empty());
+    let text = LOOPER_LINES.as_bytes();
+    expect_text(&rt, alloc, &system, Form::One, &lines, text, &[(7, 76)]);
+    forget(lines);
+    forget(sent);
     drop(system);
 }

@@ -1,10 +1,10 @@
 //! What is asked of the timers of a delay and of a cycle with the longest time, at the latest tick, which no trace
 //! shows.
 
+use super::emissions::{expect_first, expect_none};
 use fb_event::{EventState, expire, react};
 use fb_types::{Emits, EventKind, TimerAsk, Value};
 use std::alloc::Global;
-use std::mem::forget;
 use std::process::Abort;
 
 static LONGEST: [Value; 1] = [Value::Whole(9_223_372_036_854_775_807)];
@@ -28,8 +28,7 @@ fn asked(
     let mut ask = TimerAsk::At(77);
     assert!(rt; tick <= LATEST);
     let reacted = react(state, event, tick, &LONGEST, &mut emits, &mut ask);
-    assert!(rt; reacted.is_ok());
-    assert!(rt; emits.is_empty());
+    assert!(rt; reacted.is_ok() && emits.is_empty());
     ask
 }
 
@@ -41,16 +40,16 @@ fn the_longest_delay_fits(rt: HostRuntime) {
     assert!(rt; asked(&rt, rt.alloc(), &mut state, 1, LATEST) == TimerAsk::Clear);
 }
 
-/// Takes the first emission, which is of this event and has no values.
-fn expect_first(rt: &impl Abort, emits: &mut Emits, event: u32) {
-    let Some(first) = emits.pop_first() else {
-        panic!(rt; "an emission");
-    };
-    assert!(rt; first.event == event && first.values.is_empty());
-    forget(first);
+/// The timer of a cycle goes off at the latest tick, after something was emitted. The event of the cycle comes after it.
+fn expect_expiry(rt: &impl Abort, state: &mut EventState, emits: &mut Emits) {
+    let mut ask = TimerAsk::At(77);
+    let expired = expire(state, LATEST, emits, &mut ask);
+    assert!(rt; expired.is_ok() && ask == LAST);
+    expect_first(rt, emits, 77, None);
+    expect_first(rt, emits, 0, None);
+    expect_none(rt, emits);
 }
 
-/// The event of the cycle comes after what was emitted before it.
 #[test]
 fn the_longest_cycle_fits(rt: HostRuntime) {
     let mut state = EventState::new(EventKind::Cycle);
@@ -58,10 +57,5 @@ fn the_longest_cycle_fits(rt: HostRuntime) {
     assert!(rt; first == TimerAsk::At(9_223_372_036_854_775_807));
     let mut emits = Emits::new(rt.alloc());
     emits.push_bare(77).expect(&rt, "memory");
-    let mut ask = TimerAsk::At(77);
-    let expired = expire(&mut state, LATEST, &mut emits, &mut ask);
-    assert!(rt; expired.is_ok() && ask == LAST);
-    expect_first(&rt, &mut emits, 77);
-    expect_first(&rt, &mut emits, 0);
-    assert!(rt; emits.is_empty());
+    expect_expiry(&rt, &mut state, &mut emits);
 }
