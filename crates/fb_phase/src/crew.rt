@@ -65,7 +65,7 @@ impl<W: Work> Crew<W> {
     }
 
     /// Serves until the crew is dismissed.
-    fn stand_by<R: Wait, P: Gate>(&self, rt: &R, alloc: Global, work: &W, gate: &P) {
+    pub(crate) fn stand_by<R: Wait, P: Gate>(&self, rt: &R, alloc: Global, work: &W, gate: &P) {
         for _ in rt.forever() {
             // Read before the look at the shifts: if it rings after that look, the sleep ends at once.
             let rung = self.bell.load(SeqCst);
