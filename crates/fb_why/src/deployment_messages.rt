@@ -5,6 +5,10 @@ use fb_read_positions::Text;
 use std::alloc::{AllocError, Global};
 use toml::{Table, Value};
 
+/// What is wrong with an entry that is not the first.
+const NOT_LATER: &str =
+    " entry is not later than that of the entry before it, or is over 1,000,000,000,000";
+
 /// What is wrong at a location of a deployment, and what was expected there.
 pub fn deployment_message(
     alloc: Global,
@@ -28,8 +32,7 @@ pub fn deployment_message(
         }
         DeployLocation::Entry { link, entry } => {
             text.placed("", link, " link: the tick of the ");
-            text.placed("", entry, " entry is not later than that of the entry");
-            text.words(" before it, or is over 1,000,000,000,000");
+            text.placed("", entry, NOT_LATER);
         }
         DeployLocation::Resources => text.words("there are more than 256 resources"),
         DeployLocation::Links => text.words("there are more than 1,024 links"),
@@ -64,8 +67,12 @@ fn push_fault(
         TableFault::Missing(key) => text.phrase(&["there is no ", key.text()]),
         TableFault::Wrong(key) => text.phrase(&[key.text(), kind_of(key)]),
         TableFault::Element(key, element) => {
+            let kind = match key {
+                DeployKey::Instances => " element is not a name",
+                _ => " entry is not two whole numbers",
+            };
             text.words(key.text());
-            text.placed(": the ", element, kind_of_element(key));
+            text.placed(": the ", element, kind);
         }
         TableFault::Empty => text.words("there is no resource"),
         TableFault::Both => text.words("there are both latency and latencies"),
@@ -81,14 +88,6 @@ fn kind_of(key: DeployKey) -> &'static str {
         DeployKey::Device | DeployKey::Name | DeployKey::From | DeployKey::To => " is not a name",
         DeployKey::Instances | DeployKey::Latencies => " is not an array",
         DeployKey::Latency => " is not a whole number",
-    }
-}
-
-/// What an element of the array at a key must be.
-fn kind_of_element(key: DeployKey) -> &'static str {
-    match key {
-        DeployKey::Instances => " element is not a name",
-        _ => " entry is not two whole numbers",
     }
 }
 

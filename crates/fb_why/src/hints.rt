@@ -88,23 +88,24 @@ const UNITS: &[(&str, usize)] = &[
 
 /// A kind of bytes.
 #[derive(Clone, Copy)]
-enum Kind {
+pub(crate) enum Kind {
     Letters,
     Digits,
-}
-
-/// Whether a byte is of a kind.
-fn is_of_kind(byte: u8, kind: Kind) -> bool {
-    match kind {
-        Kind::Letters => byte.is_ascii_alphabetic(),
-        Kind::Digits => byte.is_ascii_digit(),
-    }
+    Spaces,
+    /// All bytes but spaces.
+    Others,
 }
 
 /// The bytes of a kind in front, and the others.
-fn split_front(bytes: &[u8], kind: Kind) -> (&[u8], &[u8]) {
+pub(crate) fn split_front(bytes: &[u8], kind: Kind) -> (&[u8], &[u8]) {
     for (index, byte) in bytes.iter().enumerate() {
-        if !is_of_kind(*byte, kind) {
+        let is_of_kind = match kind {
+            Kind::Letters => byte.is_ascii_alphabetic(),
+            Kind::Digits => byte.is_ascii_digit(),
+            Kind::Spaces => *byte == b' ',
+            Kind::Others => *byte != b' ',
+        };
+        if !is_of_kind {
             return (&bytes[..index], &bytes[index..]);
         }
     }
@@ -156,7 +157,7 @@ fn milliseconds(whole: &[u8], fraction: &[u8], unit: &[u8]) -> Option<usize> {
 /// The time with a fraction with which bytes begin, and its milliseconds, if they are a whole number.
 pub(crate) fn fraction_of(bytes: &[u8]) -> Option<(&[u8], usize)> {
     let (word, rest) = split_front(bytes, Kind::Letters);
-    if !(word.eq_ignore_ascii_case(b"T") || word.eq_ignore_ascii_case(b"TIME")) {
+    if !is_among(word, "T TIME") {
         return None;
     }
     let [b'#', rest @ ..] = rest else {

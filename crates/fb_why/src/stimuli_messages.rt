@@ -1,5 +1,6 @@
 //! The texts that say where stimuli are refused.
 
+use crate::hints::{Kind, split_front};
 use csv::ByteRecord;
 use fb_inputs::{RowFault, StimuliLocation, record_at};
 use fb_read_positions::Text;
@@ -7,6 +8,9 @@ use std::alloc::{AllocError, Global};
 
 /// The most fields of a record that are shown.
 const MOST_FIELDS: usize = 6;
+
+/// What is wrong with a value.
+const NO_VALUE: &str = ": its value is neither a number nor TRUE or FALSE";
 
 /// What is wrong at a location of stimuli, and what was expected there. Rows are counted from 0 after the heading, as
 /// in the keys of events.
@@ -55,36 +59,23 @@ fn push_fault(text: &mut Text, row: &ByteRecord, fault: RowFault) {
     match fault {
         RowFault::Fields => text.numbered("", row.len(), " instead of 3 fields"),
         RowFault::Event => push_field(text, "the event ", row.get(1), " is not INSTANCE.EVENT"),
-        RowFault::Word(word) => push_word(text, row, word, " is not NAME=VALUE"),
-        RowFault::Tick => push_field(text, "the tick ", row.get(0), " is not a number"),
-        RowFault::Value(word) => {
-            push_word(text, row, word, ": its value is neither a number nor TRUE");
-            text.words(" or FALSE");
+        RowFault::Word(word) => {
+            push_field(text, "the word ", word_at(row, word), " is not NAME=VALUE");
         }
+        RowFault::Tick => push_field(text, "the tick ", row.get(0), " is not a number"),
+        RowFault::Value(word) => push_field(text, "the word ", word_at(row, word), NO_VALUE),
         RowFault::Late => push_field(text, "the tick ", row.get(0), " is over 1,000,000,000,000"),
         RowFault::Crowded => text.words("100,000 rows are before it"),
     }
 }
 
-/// Adds a word of the last field, by its index among those between spaces, with what is wrong with it.
-fn push_word(text: &mut Text, row: &ByteRecord, word: usize, after: &str) {
-    let values = row.get(2).unwrap_or(&[]);
-    push_field(text, "the word ", word_at(values, word), after);
-}
-
-/// The word at an index among those between spaces.
-fn word_at(values: &[u8], index: usize) -> Option<&[u8]> {
-    let mut before = index;
-    for part in values.split(|b| *b == b' ') {
-        if part.is_empty() {
-            continue;
-        }
-        if before == 0 {
-            return Some(part);
-        }
-        before -= 1;
+/// The word of the last field at an index among those between spaces.
+fn word_at(row: &ByteRecord, index: usize) -> Option<&[u8]> {
+    let mut rest = row.get(2)?;
+    for _ in 0..index {
+        rest = split_front(split_front(rest, Kind::Spaces).1, Kind::Others).1;
     }
-    None
+    Some(split_front(split_front(rest, Kind::Spaces).1, Kind::Others).0)
 }
 
 /// Adds a field, between words.

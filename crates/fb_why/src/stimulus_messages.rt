@@ -4,7 +4,7 @@ use crate::kind_messages::ports_of_instance;
 use fb_check::{StimulusFault, StimulusLocation};
 use fb_check_types::variable_type;
 use fb_read_positions::{BlockTypes, Text};
-use fb_types::{Library, Name, Setting, Stimulus, Ty, instance_named};
+use fb_types::{Connection, Instance, Name, Setting, Stimulus, Ty, instance_named};
 
 /// Adds what is wrong with the stimulus at this location. Rows are counted from 0 after the heading, as in the keys of
 /// events.
@@ -19,14 +19,16 @@ pub(crate) fn push_stimulus(
         return;
     };
     match location.fault {
-        StimulusFault::Event => push_event(text, types.library, stimulus),
+        StimulusFault::Event => {
+            let instances = types.library.application.network.instances.as_slice();
+            push_event(text, instances, stimulus);
+        }
         StimulusFault::Setting(setting) => push_setting(text, types, stimulus, setting),
         StimulusFault::Twice => push_twice(text, stimulus.settings.as_slice()),
     }
 }
 
-fn push_event(text: &mut Text, library: &Library, stimulus: &Stimulus) {
-    let instances = library.application.network.instances.as_slice();
+fn push_event(text: &mut Text, instances: &[Instance], stimulus: &Stimulus) {
     match instance_named(instances, &stimulus.instance) {
         Some(instance) => {
             text.named("instance ", &instance.name);
@@ -38,8 +40,7 @@ fn push_event(text: &mut Text, library: &Library, stimulus: &Stimulus) {
 }
 
 /// Whether a data connection leads to the variable that a stimulus sets.
-fn is_connected(library: &Library, stimulus: &Stimulus, setting: &Setting) -> bool {
-    let connections = library.application.network.data_connections.as_slice();
+fn is_connected(connections: &[Connection], stimulus: &Stimulus, setting: &Setting) -> bool {
     for connection in connections {
         if let Some(component) = &connection.to.component {
             if component.is(&stimulus.instance) && connection.to.port.is(&setting.variable) {
@@ -50,11 +51,14 @@ fn is_connected(library: &Library, stimulus: &Stimulus, setting: &Setting) -> bo
     false
 }
 
-/// The type of the data input that a stimulus sets.
-fn input_type(types: &BlockTypes, stimulus: &Stimulus, setting: &Setting) -> Option<Ty> {
+/// The type of the data input that a stimulus sets, if it does not have the value.
+fn unfit_type(types: &BlockTypes, stimulus: &Stimulus, setting: &Setting) -> Option<Ty> {
     let instances = types.library.application.network.instances.as_slice();
     let ports = ports_of_instance(types, instances, &stimulus.instance)?;
-    variable_type(ports.inputs.as_slice(), &setting.variable)
+    match variable_type(ports.inputs.as_slice(), &setting.variable) {
+        Some(ty) if !ty.holds(setting.value) => Some(ty),
+        _ => None,
+    }
 }
 
 /// The values of a type.
@@ -80,16 +84,17 @@ fn push_setting(text: &mut Text, types: &BlockTypes, stimulus: &Stimulus, index:
     text.named("", &setting.variable);
     text.words("=");
     text.value(setting.value);
-    if is_connected(types.library, stimulus, setting) {
+    let network = &types.library.application.network;
+    if is_connected(network.data_connections.as_slice(), stimulus, setting) {
         text.words(": a data connection leads to the variable");
         return;
     }
-    match input_type(types, stimulus, setting) {
-        Some(ty) if !ty.holds(setting.value) => {
+    match unfit_type(types, stimulus, setting) {
+        Some(ty) => {
             text.named(": ", &setting.variable);
             text.phrase(&[" is ", values_of(ty)]);
         }
-        _ => {
+        None => {
             text.named(": no data input that goes WITH ", &stimulus.event);
             text.words(" has this name");
         }

@@ -83,10 +83,13 @@ fn push_expected(alloc: Global, message: &mut Text, before: &[u8], expected: Exp
         return;
     };
     let words = words.as_str();
-    if words.contains(" ") {
-        message.phrase(&[", expected one of ", words]);
-    } else if !words.is_empty() {
-        message.phrase(&[", expected ", words]);
+    let expected = if words.contains(" ") {
+        ", expected one of "
+    } else {
+        ", expected "
+    };
+    if !words.is_empty() {
+        message.phrase(&[expected, words]);
     }
     push_else_if(alloc, message, before, words);
 }
