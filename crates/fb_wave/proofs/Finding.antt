@@ -1,10 +1,10 @@
 -- How the port of a line is found by its text.
-use Rattle.std.proofs.Common.{◌≡◌, ℕ, zero, suc, ◌-◌, Bool, true, false, List, [], ◌∷◌, ◌++◌, length, map, take, get_or, codes, Contains, Some, None, refl, sym, ap, subst, ◌∙◌, inl, inr, arith, append_assoc, length-append}
+use Rattle.std.proofs.Common.{◌≡◌, ℕ, zero, suc, ◌-◌, ◌≤◌, Bool, true, false, List, [], ◌∷◌, ◌++◌, length, map, take, get_or, codes, Contains, Some, None, refl, sym, ap, subst, ◌∙◌, inl, inr, arith, append_assoc, length-append}
 use Rattle.std.specs.Prelude.{if◌then◌else◌, is_some, option_map, position, slice_get}
 use Rattle.std.proofs.Math.Seq.{take-append_seam}
 use Rattle.std.proofs.lemmas.Bool.{true≢false}
-use Rattle.std.proofs.lemmas.List.{append_cancel_left}
-use Rattle.std.proofs.lemmas.Option.{same_Some, slice_get-map}
+use Rattle.std.proofs.lemmas.List.{append_cancel_left, length-map}
+use Rattle.std.proofs.lemmas.Option.{same_Some, slice_get-map, slice_get_past}
 use Rattle.fb_types.specs.Headline.{system_of}
 use Rattle.fb_types.specs.Names.{Name, same_name}
 use Rattle.fb_types.specs.Numbers.{event_at, path_at}
@@ -185,6 +185,17 @@ pub unended_port : (sys : System) (text rest : List ℕ) (p : Port) (more : List
 unended_port sys text rest p more parts begins on =
     let same = append_cancel_left (port_text sys p) rest more (sym parts ∙ begins.parts) in
     true≢false (sym begins.ended ∙ ap is_ended (sym same) ∙ on)
+
+-- no element, and no text of one, past the end
+pub none_past : {A : Type 0} (xs : List A) (k : ℕ) (x : A) → length xs ≤ k → slice_get xs k ≡ Some x → ⊥
+none_past xs k x past at =
+    let none : slice_get xs k ≡ None = slice_get_past xs k past in
+    absurd (cc)
+
+pub no_text_past : (sys : System) (ports : List Port) (texts : List Name) (k : ℕ) (p : Port) → texts ≡ map (port_text sys) ports → length texts ≤ k → slice_get ports k ≡ Some p → ⊥
+no_text_past sys ports texts k p are past at =
+    let same : length texts ≡ length ports = ap length are ∙ length-map ports (port_text sys) in
+    none_past ports k p (subst (λ (n : ℕ). n ≤ k) same past) at
 
 -- ---- How the three words are found
 

@@ -27,6 +27,11 @@ pub on_passed : {A E : Type 0} (r : Result A E) (e : E) (P : E → Type 0) → I
 on_passed (Ok a) e P is p = tt
 on_passed (Err g) e P is p = subst P (sym is) p
 
+-- then nothing is said of what goes well
+pub ok_passed : {A E : Type 0} (r : Result A E) (e : E) (P : Type 0) → IsErrAnd r (λ g. g ≡ e) → OnOk r P
+ok_passed (Ok a) e P is = absurd is
+ok_passed (Err g) e P is = tt
+
 -- bytes were put after a text where the call goes well
 pub on_put :
     {A E : Type 0} (r : Result A E) (new put old : List ℕ) (P : Type 0) → new ≡ (if is_ok r then put else old) → (new ≡ put → P) → OnOk r P

@@ -9,7 +9,7 @@ use Rattle.fb_wave.specs.Named.{HasNames}
 use Rattle.fb_wave.specs.CutOff.{BlamesShown, FailsShown, IsShown}
 use Rattle.fb_wave.proofs.Copied.{front_none}
 use Rattle.fb_wave.proofs.Severed.{blames_memory, blames_names, fails_in}
-use Rattle.fb_wave.proofs.Handing.{on_passed}
+use Rattle.fb_wave.proofs.Handing.{ok_passed, on_passed}
 use Rattle.fb_wave.specs.CurrentLines.{IsRefusedLine}
 use Rattle.fb_wave.proofs.wave.write_wave_with.Goals as goal
 
@@ -46,6 +46,18 @@ returns-clause-part g c =
     subst
     (λ (s : Inputs). IfErr c.copy-written.result (FailsShown c.args.cut (system_of s) (g.W.Write.contents c.args.out.now) (g.W.Write.contents c.copy-written.new.out)))
     (of_table _ c.in-Some.table _ c.in-Some.is c.in_ok-table.ensures.system ∙ c.in_ok-ports.ensures) c.copy-written.ensures.part
+
+pub returns-in_err-ports-clause-whole : goal.returns-in_err-ports-clause-whole
+returns-in_err-ports-clause-whole g c = ok_passed c.from_residual.result _ _ c.from_residual.ensures.1
+
+pub returns-in_err-table-clause-whole : goal.returns-in_err-table-clause-whole
+returns-in_err-table-clause-whole g c = ok_passed c.from_residual-in_err-table.result _ _ c.from_residual-in_err-table.ensures.1
+
+pub returns-in_err-guess-clause-whole : goal.returns-in_err-guess-clause-whole
+returns-in_err-guess-clause-whole g c = ok_passed c.from_residual-in_err-guess.result _ _ c.from_residual-in_err-guess.ensures.1
+
+pub returns-in_err-dump-clause-whole : goal.returns-in_err-dump-clause-whole
+returns-in_err-dump-clause-whole g c = ok_passed c.from_residual-in_err-dump.result _ _ c.from_residual-in_err-dump.ensures.1
 
 pub returns-in_err-ports-clause-part : goal.returns-in_err-ports-clause-part
 returns-in_err-ports-clause-part g c = on_passed _ _ _ c.from_residual.ensures.1 (fails_in c.args.cut (system_of c.args.system.now) _ _ _ (front_none _ _))

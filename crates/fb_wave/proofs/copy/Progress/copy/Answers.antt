@@ -6,7 +6,7 @@ use Rattle.fb_wave.specs.CutOff.{BlamesShown, FailsShown, is_cut, is_unended}
 use Rattle.fb_wave.proofs.Copied.{copied_all, copied_none, copied_one, fails_front, fails_taken, fails_unfinished, front_copied, front_flushed, front_none}
 use Rattle.fb_wave.proofs.Blaming.{end_blamed, line_blamed, some_resource}
 use Rattle.fb_wave.proofs.Forming.{ShowsForm, form_shown}
-use Rattle.fb_wave.proofs.Handing.{on_fault, on_ok, on_passed}
+use Rattle.fb_wave.proofs.Handing.{ok_passed, on_fault, on_ok, on_passed}
 use Rattle.fb_wave.proofs.Severed.{blames_in, cut_blames, cut_fails, cut_shown, end_no_cut, fails_in, line_no_cut, read_blames, shown_in, uncut_line, write_blames}
 use Rattle.fb_wave.specs.CurrentLines.{IsRefusedLine}
 use Rattle.fb_wave.proofs.Current.{cut_current, end_current, line_current, write_current}
@@ -50,6 +50,18 @@ returns-in-Some-clause-whole g c =
     shown_in c.args.cut sys _ _ _
     (copied_all sys c.form_of-form.result c.loop-number.number c.loop-number.self c.loop-number.current.text.items _ _ _ _ _ c.in-Some.end c.loop-number.invariant.copied
     (subst (λ (l : List ℕ). IsLast sys l c.in-Some.end) c.as_slice-in-loop-number.ensures.value c.in-Some.ensures.last) finished))
+
+pub returns-in_err-next_line-clause-whole : goal.returns-in_err-next_line-clause-whole
+returns-in_err-next_line-clause-whole g c = ok_passed c.from_residual.result _ _ c.from_residual.ensures.1
+
+pub returns-in_err-take-clause-whole : goal.returns-in_err-take-clause-whole
+returns-in_err-take-clause-whole g c = ok_passed c.from_residual-in_err-take.result _ _ c.from_residual-in_err-take.ensures.1
+
+pub returns-in_err-flush_much-clause-whole : goal.returns-in_err-flush_much-clause-whole
+returns-in_err-flush_much-clause-whole g c = ok_passed c.from_residual-in_err-flush_much.result _ _ c.from_residual-in_err-flush_much.ensures.1
+
+pub returns-in_err-next_line-2-clause-whole : goal.returns-in_err-next_line-2-clause-whole
+returns-in_err-next_line-2-clause-whole g c = ok_passed c.from_residual-in_err-next_line-2.result _ _ c.from_residual-in_err-next_line-2.ensures.1
 
 pub returns-in_err-next_line-clause-part : goal.returns-in_err-next_line-clause-part
 returns-in_err-next_line-clause-part g c =
