@@ -1,17 +1,20 @@
 -- Rules with a mark between two parts.
-use Rattle.std.proofs.Common.{◌≡◌, Ok, Err, refl, ◌∙◌}
+use Rattle.std.proofs.Common.{◌≡◌, false, List, Option, Ok, Err, refl, ◌∙◌}
+use Rattle.fb_types.specs.Names.{Name}
+use Rattle.fb_types.specs.declared.text.Branch.{Branch}
+use Rattle.fb_types.specs.declared.text.Expr.{Expr}
 use Rattle.fb_types.specs.declared.text.Stmt.{Stmt}
 use Rattle.fb_types.specs.declared.text.Stmt.TheVariants as s
 use Rattle.fb_read.specs.declared.token.Mark.{Mark}
 use Rattle.fb_read.specs.declared.token.Mark.TheVariants as mark
 use Rattle.fb_read.specs.Tokens.{Tokens}
 use Rattle.fb_read.specs.Nodes.{connection_of, parameter_of, instance_of, transition_of, declaration_of}
-use Rattle.fb_read.specs.Parser.{Parser, Outcome, and_then, ◌>>=◌, ◌>>◌, pure, expect, name, ty_name, separated, optional, then_read, pair}
+use Rattle.fb_read.specs.Parser.{Parser, Outcome, and_then, ◌>>=◌, ◌>>◌, pure, expect, name, ty_name, separated, optional, then_read, pair, ended, finished, sees, after}
 use Rattle.fb_read.specs.Network.{port, connection, constant, parameter, parameters, instance}
 use Rattle.fb_read.specs.Ports.{declaration, initial}
 use Rattle.fb_read.specs.Charts.{condition, transition}
 use Rattle.fb_read.specs.Expressions.{expression}
-use Rattle.fb_read.specs.Statements.{assignment, block, for_to, for_statement, repeat_statement}
+use Rattle.fb_read.specs.Statements.{assignment, block, bounds, branches, case_body, case_statement, cases, for_end, for_to, for_statement, loop_body, others, repeat_statement, simple, step}
 
 -- a mark and a rule after what was found, and what continues with both
 after_then : {A B C : Type 0} (x : A) (k : Mark) (q : Parser B) (go : A → B → Parser C) (ts : Tokens)
@@ -76,9 +79,79 @@ pub assignment_is : (ts : Tokens) → assignment ts ≡ (pair name mark.Assign e
 unfolding assignment
 assignment_is ts = pair_then name mark.Assign expression (λ target value. expect mark.Semicolon >> pure (s.Assign target value)) ts
 
-pub for_statement_is : (inner : Parser Stmt) (ts : Tokens) → for_statement inner ts ≡ (pair name mark.Assign expression >>= (λ both. for_to inner both.0 both.1)) ts
+-- FOR from its TO on, after its first part
+for_to_is : (inner : Parser Stmt) (first : Name × Expr) (ts : Tokens)
+    → for_to inner first.0 first.1 ts ≡ (then_read first mark.To expression >>= (λ all. optional expression mark.By >>= (λ by. loop_body inner mark.EndFor >>= (λ body. pure (s.For all.0.0 all.0.1 all.1 by body))))) ts
+unfolding for_to for_end step optional then_read
+for_to_is inner first ts = after_to (expect mark.To ts)
+  where
+    after_step : (end : Expr) (o : Outcome (Option Expr))
+        → and_then (and_then o (λ by. pure (bounds end by))) (λ until. loop_body inner mark.EndFor >>= (λ body. pure (s.For first.0 first.1 until.0 until.1 body)))
+        ≡ and_then o (λ by. loop_body inner mark.EndFor >>= (λ body. pure (s.For first.0 first.1 end by body)))
+    after_step end (Ok y) = refl
+    after_step end (Err e) = refl
+
+    after_end : (o : Outcome Expr)
+        → and_then (and_then o (λ end. optional expression mark.By >>= (λ by. pure (bounds end by)))) (λ until. loop_body inner mark.EndFor >>= (λ body. pure (s.For first.0 first.1 until.0 until.1 body)))
+        ≡ and_then {A = (Name × Expr) × Expr} (and_then o (λ end. pure (first, end))) (λ all. optional expression mark.By >>= (λ by. loop_body inner mark.EndFor >>= (λ body. pure (s.For all.0.0 all.0.1 all.1 by body))))
+    after_end (Ok y) = after_step y.0 (optional expression mark.By y.1)
+    after_end (Err e) = refl
+
+    after_to : (o : Outcome (Unit {0}))
+        → and_then (and_then o (λ u. expression >>= (λ end. optional expression mark.By >>= (λ by. pure (bounds end by))))) (λ until. loop_body inner mark.EndFor >>= (λ body. pure (s.For first.0 first.1 until.0 until.1 body)))
+        ≡ and_then {A = (Name × Expr) × Expr} (and_then o (λ u. expression >>= (λ end. pure (first, end)))) (λ all. optional expression mark.By >>= (λ by. loop_body inner mark.EndFor >>= (λ body. pure (s.For all.0.0 all.0.1 all.1 by body))))
+    after_to (Ok u) = after_end (expression u.1)
+    after_to (Err e) = refl
+
+pub for_statement_is : (inner : Parser Stmt) (ts : Tokens)
+    → for_statement inner ts ≡ (pair name mark.Assign expression >>= (λ first. then_read first mark.To expression >>= (λ all. optional expression mark.By >>= (λ by. loop_body inner mark.EndFor >>= (λ body. pure (s.For all.0.0 all.0.1 all.1 by body)))))) ts
 unfolding for_statement
-for_statement_is inner ts = pair_then name mark.Assign expression (λ variable start. for_to inner variable start) ts
+for_statement_is inner ts =
+    pair_then name mark.Assign expression (λ variable start. for_to inner variable start) ts
+    ∙ alike (pair name mark.Assign expression ts) (λ first. for_to inner first.0 first.1)
+    (λ first. then_read first mark.To expression >>= (λ all. optional expression mark.By >>= (λ by. loop_body inner mark.EndFor >>= (λ body. pure (s.For all.0.0 all.0.1 all.1 by body)))))
+    (for_to_is inner)
+
+-- the branches of a CASE and its ELSE, after what selects one
+case_body_is : (inner : Parser Stmt) (x : Expr) (ts : Tokens)
+    → (case_body inner >>= (λ inside. pure (s.Case x inside.0 inside.1))) ts ≡ (expect mark.Of >> (branches inner >>= (λ found. others inner >>= (λ other. finished mark.EndCase (s.Case x found other))))) ts
+unfolding case_body
+case_body_is inner x ts = after_of (expect mark.Of ts)
+  where
+    after_both : (found : List Branch) (other : List Stmt) (o : Outcome (Unit {0}))
+        → and_then (and_then o (λ u. pure (cases found other))) (λ inside. pure (s.Case x inside.0 inside.1)) ≡ and_then o (λ u. pure (s.Case x found other))
+    after_both found other (Ok u) = refl
+    after_both found other (Err e) = refl
+
+    after_end : (found : List Branch) (other : List Stmt) (o : Outcome (Unit {0}))
+        → and_then (and_then o (λ u. expect mark.Semicolon >> pure (cases found other))) (λ inside. pure (s.Case x inside.0 inside.1)) ≡ and_then o (λ u. expect mark.Semicolon >> pure (s.Case x found other))
+    after_end found other (Ok u) = after_both found other (expect mark.Semicolon u.1)
+    after_end found other (Err e) = refl
+
+    after_others : (found : List Branch) (o : Outcome (List Stmt))
+        → and_then (and_then o (λ other. finished mark.EndCase (cases found other))) (λ inside. pure (s.Case x inside.0 inside.1)) ≡ and_then o (λ other. finished mark.EndCase (s.Case x found other))
+    after_others found (Ok y) = after_end found y.0 (expect mark.EndCase y.1)
+    after_others found (Err e) = refl
+
+    after_branches : (o : Outcome (List Branch))
+        → and_then (and_then o (λ found. others inner >>= (λ other. finished mark.EndCase (cases found other)))) (λ inside. pure (s.Case x inside.0 inside.1))
+        ≡ and_then o (λ found. others inner >>= (λ other. finished mark.EndCase (s.Case x found other)))
+    after_branches (Ok y) = after_others y.0 (others inner y.1)
+    after_branches (Err e) = refl
+
+    after_of : (o : Outcome (Unit {0}))
+        → and_then (and_then o (λ u. branches inner >>= (λ found. others inner >>= (λ other. finished mark.EndCase (cases found other))))) (λ inside. pure (s.Case x inside.0 inside.1))
+        ≡ and_then o (λ u. branches inner >>= (λ found. others inner >>= (λ other. finished mark.EndCase (s.Case x found other))))
+    after_of (Ok u) = after_branches (branches inner u.1)
+    after_of (Err e) = refl
+
+pub case_is : (inner : Parser Stmt) (ts : Tokens)
+    → case_statement inner ts ≡ (expression >>= (λ x. expect mark.Of >> (branches inner >>= (λ found. others inner >>= (λ other. finished mark.EndCase (s.Case x found other)))))) ts
+unfolding case_statement
+case_is inner ts =
+    alike (expression ts) (λ x. case_body inner >>= (λ inside. pure (s.Case x inside.0 inside.1)))
+    (λ x. expect mark.Of >> (branches inner >>= (λ found. others inner >>= (λ other. finished mark.EndCase (s.Case x found other)))))
+    (case_body_is inner)
 
 pub repeat_is : (inner : Parser Stmt) (ts : Tokens)
     → repeat_statement inner ts ≡ (block inner >>= (λ body. then_read body mark.Until expression >>= (λ both. expect mark.EndRepeat >> (expect mark.Semicolon >> pure (s.Repeat both.0 both.1))))) ts
@@ -87,3 +160,9 @@ repeat_is inner ts =
     alike (block inner ts) (λ body. expect mark.Until >> (expression >>= (λ x. expect mark.EndRepeat >> (expect mark.Semicolon >> pure (s.Repeat body x)))))
     (λ body. then_read body mark.Until expression >>= (λ both. expect mark.EndRepeat >> (expect mark.Semicolon >> pure (s.Repeat both.0 both.1))))
     (λ body mid. after_then body mark.Until expression (λ all x. expect mark.EndRepeat >> (expect mark.Semicolon >> pure (s.Repeat all x))) mid)
+
+-- a statement that begins with none of the three marks
+pub simple_is : (ts a b c : Tokens) → sees mark.Semicolon ts ≡ false → after mark.Semicolon ts ≡ a → sees mark.Exit a ≡ false → after mark.Exit a ≡ b
+    → sees mark.Return b ≡ false → after mark.Return b ≡ c → simple ts ≡ (pair name mark.Assign expression >>= (λ both. ended mark.Semicolon (s.Assign both.0 both.1))) c
+unfolding simple
+simple_is ts a b c no_semicolon after_a no_exit after_b no_return after_c = rw (no_semicolon, after_a, no_exit, after_b, no_return, after_c) (assignment_is c)

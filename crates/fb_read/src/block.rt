@@ -3,25 +3,27 @@
 ghost use Rattle.fb_read.specs.Parser.{Reads};
 ghost use Rattle.fb_read.specs.Blocks as spec;
 
-use crate::chart::{algorithms, states, transitions};
+use crate::chart::{states, transitions};
 use crate::cursor::Cursor;
 use crate::fault::ParseFault;
 use crate::ports::variables;
 use crate::rule::{Rule, ended, run_after};
 use crate::token::Mark;
 use fb_types::{
-    Application, BasicType, BlockType, CompositeType, Items, Library, Name, Network, Ports,
+    Algorithm, Application, BasicType, BlockType, CompositeType, Items, Library, Name, Network,
+    Ports,
 };
 
 /// What follows the name and the ports of a basic type.
-#[tactic(auto, unfolding(crate::specs::Blocks::basic))]
+#[tactic(auto, unfolding(crate::specs::Blocks::basic, crate::specs::Charts::algorithms))]
 fn basic(cursor: &mut Cursor<'_>, name: Name, ports: Ports) -> Result<BlockType, ParseFault>
     ensures { Reads (spec.basic name ports cursor.old) result cursor.new }
 {
     let internals = variables(cursor, Mark::Var)?;
     let states = states(cursor)?;
     let transitions = transitions(cursor)?;
-    let algorithms = algorithms(cursor)?;
+    let none = cursor.no_items();
+    let algorithms = run_after::<Algorithm>(cursor, Mark::Algorithm, none)?;
     Ok(BlockType::Basic(BasicType {
         name,
         ports,
@@ -32,31 +34,22 @@ fn basic(cursor: &mut Cursor<'_>, name: Name, ports: Ports) -> Result<BlockType,
     }))
 }
 
-/// What follows the name and the ports of a composite type.
-#[tactic(auto, unfolding(crate::specs::Blocks::composite))]
-fn composite(cursor: &mut Cursor<'_>, name: Name, ports: Ports) -> Result<BlockType, ParseFault>
-    ensures { Reads (spec.composite name ports cursor.old) result cursor.new }
+/// What is between the marks of a type: its name, its ports, and the rest. A network begins with FBS.
+#[tactic(auto, unfolding(crate::specs::Blocks::inside, crate::specs::Blocks::body, crate::specs::Blocks::composite))]
+fn inside(cursor: &mut Cursor<'_>) -> Result<BlockType, ParseFault>
+    ensures { Reads (spec.inside cursor.old) result cursor.new }
 {
+    let name = Name::read(cursor)?;
+    let ports = Ports::read(cursor)?;
+    if !cursor.sees(Mark::Fbs) {
+        return basic(cursor, name, ports);
+    }
     let network = Network::read(cursor)?;
     Ok(BlockType::Composite(CompositeType {
         name,
         ports,
         network,
     }))
-}
-
-/// What is between the marks of a type: its name, its ports, and the rest. A network begins with FBS.
-#[tactic(auto, unfolding(crate::specs::Blocks::inside, crate::specs::Blocks::body))]
-fn inside(cursor: &mut Cursor<'_>) -> Result<BlockType, ParseFault>
-    ensures { Reads (spec.inside cursor.old) result cursor.new }
-{
-    let name = Name::read(cursor)?;
-    let ports = Ports::read(cursor)?;
-    if cursor.sees(Mark::Fbs) {
-        composite(cursor, name, ports)
-    } else {
-        basic(cursor, name, ports)
-    }
 }
 
 impl Rule for BlockType {

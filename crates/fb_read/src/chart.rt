@@ -5,7 +5,7 @@ ghost use Rattle.fb_read.specs.Charts as spec;
 
 use crate::cursor::Cursor;
 use crate::fault::ParseFault;
-use crate::rule::{Rule, added, ended, listed, many_after, pair, run_after, section, then_read};
+use crate::rule::{Rule, added, ended, listed, many_after, pair, section, then_read};
 use crate::statement::body;
 use crate::token::Mark;
 use fb_types::{Action, Algorithm, Body, Condition, Expr, Items, Name, State, Transition};
@@ -126,13 +126,4 @@ impl Rule for Algorithm {
         let body = structured_text(cursor)?;
         Ok(Algorithm { name, body })
     }
-}
-
-/// The algorithms of a basic type, as long as one is next.
-#[tactic(auto, unfolding(crate::specs::Charts::algorithms))]
-pub fn algorithms(cursor: &mut Cursor<'_>) -> Result<Items<Algorithm>, ParseFault>
-    ensures { Reads (spec.algorithms cursor.old) result cursor.new }
-{
-    let none = cursor.no_items();
-    run_after(cursor, Mark::Algorithm, none)
 }

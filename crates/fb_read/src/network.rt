@@ -1,9 +1,8 @@
 //! Networks and the application.
 
 ghost use Rattle.std.specs.Prelude.{◌≡◌, [], IfOk};
-ghost use Rattle.fb_read.specs.Parser.{Reads, many};
+ghost use Rattle.fb_read.specs.Parser.{Reads};
 ghost use Rattle.fb_read.specs.Network as spec;
-ghost use Rattle.fb_read.specs.declared.token.Mark.TheVariants as mark;
 
 use crate::cursor::Cursor;
 use crate::fault::ParseFault;
@@ -97,22 +96,14 @@ impl Rule for Instance {
     }
 }
 
-/// The instances of a network, up to their last mark.
-fn numbered_instances(cursor: &mut Cursor<'_>) -> Result<Numbered<Instance>, ParseFault>
-    ensures { Reads (many spec.instance mark.EndFbs cursor.old) result cursor.new }
-{
-    cursor.bound();
-    let found = many::<Instance>(cursor, Mark::EndFbs)?;
-    Ok(Numbered::new(found))
-}
-
 impl Rule for Network {
     ghost parser = { spec.network };
 
     #[tactic(auto, unfolding(crate::specs::Network::network))]
     fn read(cursor: &mut Cursor<'_>) -> Result<Network, ParseFault> {
         cursor.expect(Mark::Fbs)?;
-        let instances = numbered_instances(cursor)?;
+        cursor.bound();
+        let instances = many::<Instance>(cursor, Mark::EndFbs)?;
         let event_connections = section::<Connection>(
             cursor,
             Mark::EventConnections,
@@ -124,7 +115,7 @@ impl Rule for Network {
             Mark::EndConnections,
         )?;
         Ok(Network {
-            instances,
+            instances: Numbered::new(instances),
             event_connections,
             data_connections,
         })

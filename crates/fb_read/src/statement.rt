@@ -40,25 +40,6 @@ impl Rule for Label {
     }
 }
 
-fn assignment(cursor: &mut Cursor<'_>) -> Result<Stmt, ParseFault>
-    ensures { Reads (spec.assignment cursor.old) result cursor.new }
-{
-    let (target, value) = pair::<Name, Expr>(cursor, Mark::Assign)?;
-    let found = Stmt::Assign(Reference::new(target), value);
-    ended(cursor, Mark::Semicolon, found)
-}
-
-/// The end of a FOR and its step, from TO on.
-#[tactic(auto, unfolding(crate::specs::Statements::for_end, crate::specs::Statements::step, crate::specs::Parser::optional))]
-fn for_end(cursor: &mut Cursor<'_>) -> Result<(Expr, Option<Expr>), ParseFault>
-    ensures { Reads (spec.for_end cursor.old) result cursor.new }
-{
-    cursor.expect(Mark::To)?;
-    let end = Expr::read(cursor)?;
-    let step = optional::<Expr>(cursor, Mark::By)?;
-    Ok((end, step))
-}
-
 /// A statement without inner statements.
 #[tactic(auto, unfolding(crate::specs::Statements::simple))]
 fn simple(cursor: &mut Cursor<'_>) -> Result<Stmt, ParseFault>
@@ -71,7 +52,9 @@ fn simple(cursor: &mut Cursor<'_>) -> Result<Stmt, ParseFault>
     } else if cursor.eat(Mark::Return) {
         ended(cursor, Mark::Semicolon, Stmt::Return)
     } else {
-        assignment(cursor)
+        let (target, value) = pair::<Name, Expr>(cursor, Mark::Assign)?;
+        let found = Stmt::Assign(Reference::new(target), value);
+        ended(cursor, Mark::Semicolon, found)
     }
 }
 
@@ -185,27 +168,17 @@ impl<F: Fn(&mut Cursor<'_>, u32) -> Result<Stmt, ParseFault>> StatementRules<F> 
         finished(cursor, Mark::EndIf, Stmt::If(choices, others))
     }
 
-    /// The branches of a CASE and its ELSE, from OF on.
-    #[tactic(auto, unfolding(crate::specs::Statements::case_body))]
-    fn case_body(&self, cursor: &mut Cursor<'_>) -> Result<(Items<Branch>, Items<Stmt>), ParseFault>
-        requires { StatementNests self.now.below (F.pre self.now.inner) (F.post self.now.inner) }
-        ensures { Reads (spec.case_body (spec.nested_statement self.now.below) cursor.old) result cursor.new }
-    {
-        cursor.expect(Mark::Of)?;
-        let branches = self.branches(cursor)?;
-        let others = self.others(cursor)?;
-        finished(cursor, Mark::EndCase, (branches, others))
-    }
-
     /// What follows CASE.
-    #[tactic(auto, unfolding(crate::specs::Statements::case_statement))]
     fn case_statement(&self, cursor: &mut Cursor<'_>) -> Result<Stmt, ParseFault>
         requires { StatementNests self.now.below (F.pre self.now.inner) (F.post self.now.inner) }
         ensures { Reads (spec.case_statement (spec.nested_statement self.now.below) cursor.old) result cursor.new }
     {
         let selector = Expr::read(cursor)?;
-        let (branches, others) = self.case_body(cursor)?;
-        Ok(Stmt::Case(selector, branches, others))
+        cursor.expect(Mark::Of)?;
+        let branches = self.branches(cursor)?;
+        let others = self.others(cursor)?;
+        let found = Stmt::Case(selector, branches, others);
+        finished(cursor, Mark::EndCase, found)
     }
 
     /// The statements of a loop, from DO on, up to this mark, including the end of the loop.
@@ -219,29 +192,17 @@ impl<F: Fn(&mut Cursor<'_>, u32) -> Result<Stmt, ParseFault>> StatementRules<F> 
         finished(cursor, end, body)
     }
 
-    /// A FOR from its TO on.
-    #[tactic(auto, unfolding(crate::specs::Statements::for_to))]
-    fn for_to(
-        &self,
-        cursor: &mut Cursor<'_>,
-        variable: Reference,
-        start: Expr,
-    ) -> Result<Stmt, ParseFault>
-        requires { StatementNests self.now.below (F.pre self.now.inner) (F.post self.now.inner) }
-        ensures { Reads (spec.for_to (spec.nested_statement self.now.below) variable start cursor.old) result cursor.new }
-    {
-        let (end, step) = for_end(cursor)?;
-        let body = self.loop_body(cursor, Mark::EndFor)?;
-        Ok(Stmt::For(variable, start, end, step, body))
-    }
-
     /// What follows FOR.
     fn for_statement(&self, cursor: &mut Cursor<'_>) -> Result<Stmt, ParseFault>
         requires { StatementNests self.now.below (F.pre self.now.inner) (F.post self.now.inner) }
         ensures { Reads (spec.for_statement (spec.nested_statement self.now.below) cursor.old) result cursor.new }
     {
-        let (variable, start) = pair::<Name, Expr>(cursor, Mark::Assign)?;
-        self.for_to(cursor, Reference::new(variable), start)
+        let first = pair::<Name, Expr>(cursor, Mark::Assign)?;
+        let (first, end) = then_read::<(Name, Expr), Expr>(cursor, first, Mark::To)?;
+        let step = optional::<Expr>(cursor, Mark::By)?;
+        let body = self.loop_body(cursor, Mark::EndFor)?;
+        let (variable, start) = first;
+        Ok(Stmt::For(Reference::new(variable), start, end, step, body))
     }
 
     /// What follows WHILE.

@@ -1,6 +1,9 @@
-use Rattle.std.proofs.Common.{refl}
+use Rattle.std.proofs.Common.{List, Ok, ap, sym, arith}
 use Rattle.std.proofs.lemmas.Result.{err_from_is_err_and}
+use Rattle.fb_types.specs.declared.library.Instance.{Instance}
 use Rattle.fb_read.specs.Network.{network}
+use Rattle.fb_read.specs.Nodes.{network_of}
+use Rattle.fb_read.proofs.Counts.{instances-count}
 use Rattle.fb_read.proofs.Reading.{stops, stops_later, went_on}
 use Rattle.fb_read.proofs.network.NetworkRule.read.Goals as goal
 
@@ -30,4 +33,7 @@ returns-in_err-data_connections c =
 
 pub returns : goal.returns
 unfolding network
-returns c = went_on _ _ _ _ _ c.in_ok-expect.ensures (went_on _ _ _ _ _ c.in_ok-instances.ensures (went_on _ _ _ _ _ c.in_ok-event_connections.ensures (went_on _ _ _ _ _ c.in_ok-data_connections.ensures refl)))
+returns c = went_on _ _ _ _ _ c.in_ok-expect.ensures (went_on _ _ _ _ _ c.in_ok-instances.ensures (went_on _ _ _ _ _ c.in_ok-event_connections.ensures (went_on _ _ _ _ _ c.in_ok-data_connections.ensures (ap (λ (l : List Instance). Ok (network_of l c.in_ok-event_connections.event_connections c.in_ok-data_connections.data_connections, c.section-2.new.cursor)) (sym c.new.ensures)))))
+
+pub new-requires : goal.new-requires
+new-requires c = omega (arith, instances-count c.in_ok-instances.instances c.expect.new.self _ c.in_ok-instances.ensures, c.bound.ensures)

@@ -1,18 +1,31 @@
-use Rattle.std.proofs.Common.{subst}
+use Rattle.std.proofs.Common.{Ok, ap, sym, ◌∙◌}
 use Rattle.std.proofs.lemmas.Result.{err_from_is_err_and}
 use Rattle.fb_types.specs.Names.{Name}
-use Rattle.fb_read.specs.Parser.{Reads}
-use Rattle.fb_read.specs.Statements.{for_to, nested_statement}
+use Rattle.fb_types.specs.declared.text.Stmt.TheVariants as s
+use Rattle.fb_read.specs.Statements.{nested_statement}
 use Rattle.fb_read.proofs.Pairs.{for_statement_is}
-use Rattle.fb_read.proofs.Reading.{goes_on, read_as, stops, stops_as}
+use Rattle.fb_read.proofs.Reading.{stops, stops_as, stops_later, went_on}
 use Rattle.fb_read.proofs.statement.StatementRules.for_statement.Goals as goal
 
-pub returns-in_err-variable : goal.returns-in_err-variable
-returns-in_err-variable g c =
+pub returns-in_err-first : goal.returns-in_err-first
+returns-in_err-first g c =
     let p = err_from_is_err_and c.from_residual.result c.from_residual.ensures.1 in
-    rw (p.1, p.2) (stops_as _ _ _ _ (for_statement_is (nested_statement c.args.self.now.below) c.args.cursor.now) (stops _ _ _ _ c.in_err-variable.ensures))
+    rw (p.1, p.2) (stops_as _ _ _ _ (for_statement_is (nested_statement c.args.self.now.below) c.args.cursor.now) (stops _ _ _ _ c.in_err-first.ensures))
+
+pub returns-in_err-first-2 : goal.returns-in_err-first-2
+returns-in_err-first-2 g c =
+    let p = err_from_is_err_and c.from_residual-in_err-first-2.result c.from_residual-in_err-first-2.ensures.1 in
+    rw (p.1, p.2) (stops_as _ _ _ _ (for_statement_is (nested_statement c.args.self.now.below) c.args.cursor.now) (stops_later _ _ _ _ _ _ c.in_ok-first.ensures (stops _ _ _ _ c.in_err-first-2.ensures)))
+
+pub returns-in_err-step : goal.returns-in_err-step
+returns-in_err-step g c =
+    let p = err_from_is_err_and c.from_residual-in_err-step.result c.from_residual-in_err-step.ensures.1 in
+    rw (p.1, p.2) (stops_as _ _ _ _ (for_statement_is (nested_statement c.args.self.now.below) c.args.cursor.now) (stops_later _ _ _ _ _ _ c.in_ok-first.ensures (stops_later _ _ _ _ _ _ c.in_ok-first-2.ensures (stops _ _ _ _ c.in_err-step.ensures))))
+
+pub returns-in_err-body : goal.returns-in_err-body
+returns-in_err-body g c =
+    let p = err_from_is_err_and c.from_residual-in_err-body.result c.from_residual-in_err-body.ensures.1 in
+    rw (p.1, p.2) (stops_as _ _ _ _ (for_statement_is (nested_statement c.args.self.now.below) c.args.cursor.now) (stops_later _ _ _ _ _ _ c.in_ok-first.ensures (stops_later _ _ _ _ _ _ c.in_ok-first-2.ensures (stops_later _ _ _ _ _ _ c.in_ok-step.ensures (stops _ _ _ _ c.in_err-body.ensures)))))
 
 pub returns : goal.returns
-returns g c =
-    let named = subst (λ (n : Name). Reads (for_to (nested_statement c.args.self.now.below) n c.in_ok-variable.start c.pair.new.cursor) c.for_to.result c.for_to.new.cursor) c.new.ensures c.for_to.ensures in
-    read_as _ _ _ _ (for_statement_is (nested_statement c.args.self.now.below) c.args.cursor.now) (goes_on _ _ _ _ _ _ c.in_ok-variable.ensures named)
+returns g c = for_statement_is (nested_statement c.args.self.now.below) c.args.cursor.now ∙ went_on _ _ _ _ _ c.in_ok-first.ensures (went_on _ _ _ _ _ c.in_ok-first-2.ensures (went_on _ _ _ _ _ c.in_ok-step.ensures (went_on _ _ _ _ _ c.in_ok-body.ensures (ap (λ (n : Name). Ok (s.For n c.in_ok-first-2.first.1 c.in_ok-first-2.end c.in_ok-step.step c.in_ok-body.body, c.loop_body.new.cursor)) (sym c.new.ensures)))))

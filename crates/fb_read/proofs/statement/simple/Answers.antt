@@ -1,0 +1,25 @@
+use Rattle.std.proofs.Common.{sym, subst, ◌∙◌}
+use Rattle.std.proofs.lemmas.Result.{err_from_is_err_and}
+use Rattle.fb_types.specs.Names.{Name}
+use Rattle.fb_types.specs.declared.text.Stmt.TheVariants as s
+use Rattle.fb_read.specs.declared.token.Mark.TheVariants as mark
+use Rattle.fb_read.specs.Parser.{Reads, ended}
+use Rattle.fb_read.proofs.Pairs.{simple_is}
+use Rattle.fb_read.proofs.Reading.{goes_on, read_as, stops, stops_as}
+use Rattle.fb_read.proofs.statement.simple.Goals as goal
+
+pub returns-in_err-target : goal.returns-in_err-target
+returns-in_err-target c =
+    let e =
+    simple_is c.args.cursor.now c.eat.new.self c.eat-else-eat.new.self c.eat-else-eat-2.new.self (sym c.eat.ensures.found ∙ c.if-eat.false) (sym c.eat.ensures.after)
+    (sym c.eat-else-eat.ensures.found ∙ c.if-eat-2.false) (sym c.eat-else-eat.ensures.after) (sym c.eat-else-eat-2.ensures.found ∙ c.if-eat-3.false) (sym c.eat-else-eat-2.ensures.after) in
+    let p = err_from_is_err_and c.from_residual.result c.from_residual.ensures.1 in
+    rw (p.1, p.2) (stops_as _ _ _ _ e (stops _ _ _ _ c.in_err-target.ensures))
+
+pub returns-in_ok-target : goal.returns-in_ok-target
+returns-in_ok-target c =
+    let e =
+    simple_is c.args.cursor.now c.eat.new.self c.eat-else-eat.new.self c.eat-else-eat-2.new.self (sym c.eat.ensures.found ∙ c.if-eat.false) (sym c.eat.ensures.after)
+    (sym c.eat-else-eat.ensures.found ∙ c.if-eat-2.false) (sym c.eat-else-eat.ensures.after) (sym c.eat-else-eat-2.ensures.found ∙ c.if-eat-3.false) (sym c.eat-else-eat-2.ensures.after) in
+    let named = subst (λ (n : Name). Reads (ended mark.Semicolon (s.Assign n c.in_ok-target.value) c.pair.new.cursor) c.ended-else-eat-3.result c.ended-else-eat-3.new.cursor) c.new.ensures c.ended-else-eat-3.ensures in
+    read_as _ _ _ _ e (goes_on _ _ _ _ _ _ c.in_ok-target.ensures named)
