@@ -125,38 +125,28 @@ impl<F: Fn(&mut Cursor<'_>, u32, u8) -> Result<Nested, ParseFault>> ExpressionRu
         Err(ParseFault::Syntax)
     }
 
-    /// What follows the opening parenthesis of a call, including the closing one.
-    #[tactic(auto, unfolding(crate::specs::Expressions::call))]
-    fn call(&self, cursor: &mut Cursor<'_>, function: Name) -> Result<Nested, ParseFault>
-        requires { Nests self.now.below (F.pre self.now.inner) (F.post self.now.inner) }
-        ensures { Reads (spec.call self.now.below (spec.nested_expression self.now.below) function cursor.old) result cursor.new }
-    {
-        if cursor.eat(Mark::Close) {
-            return Ok(Nested {
-                expr: Expr::Call(function, cursor.no_items()),
-                nesting: 1,
-            });
-        }
-        let found = self.arguments(cursor)?;
-        let (found, depth) = ended(cursor, Mark::Close, found)?;
-        around(self.below, depth, Expr::Call(function, found), cursor)
-    }
-
     /// A variable or a call.
-    #[tactic(auto, unfolding(crate::specs::Expressions::named))]
+    #[tactic(auto, unfolding(crate::specs::Expressions::named, crate::specs::Expressions::call))]
     fn named(&self, cursor: &mut Cursor<'_>) -> Result<Nested, ParseFault>
         requires { Nests self.now.below (F.pre self.now.inner) (F.post self.now.inner) }
         ensures { Reads (spec.named self.now.below (spec.nested_expression self.now.below) cursor.old) result cursor.new }
     {
         let first = Name::read(cursor)?;
-        if cursor.eat(Mark::Open) {
-            self.call(cursor, first)
-        } else {
-            Ok(Nested {
+        if !cursor.eat(Mark::Open) {
+            return Ok(Nested {
                 expr: Expr::Variable(Reference::new(first)),
                 nesting: 1,
-            })
+            });
         }
+        if cursor.eat(Mark::Close) {
+            return Ok(Nested {
+                expr: Expr::Call(first, cursor.no_items()),
+                nesting: 1,
+            });
+        }
+        let found = self.arguments(cursor)?;
+        let (found, depth) = ended(cursor, Mark::Close, found)?;
+        around(self.below, depth, Expr::Call(first, found), cursor)
     }
 
     #[tactic(auto, unfolding(crate::specs::Expressions::primary))]
