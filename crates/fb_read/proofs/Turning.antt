@@ -43,6 +43,14 @@ unfolding run_from
 run_fault item begin n found ts new read e b r shown =
     stops_as _ (and_then (item ts) (λ x. run_from item begin n (found ++ x ∷ []))) e new (rw b refl) (stops _ _ e new (fault_of (item ts) read new found e r shown))
 
+pub run_over : {A : Type 0} (item : Parser A) (begin : Mark) (n : ℕ) (found : List A) (ts : Tokens) → sees begin ts ≡ false → run_from item begin (suc n) found ts ≡ Ok (found, ts)
+unfolding run_from
+run_over item begin n found ts b = rw b refl
+
+pub many_over : {A : Type 0} (item : Parser A) (end : Mark) (n : ℕ) (found : List A) (ts : Tokens) → sees end ts ≡ true → many_from item end (suc n) found ts ≡ Ok (found, after end ts)
+unfolding many_from
+many_over item end n found ts b = rw b refl
+
 pub many_more :
     {A : Type 0} (item : Parser A) (end : Mark) (n : ℕ) (found all : List A) (ts mid new : Tokens) (read : Result A ParseFault)
     → sees end ts ≡ false → mid ≡ after end ts → Reads (item mid) read new → Adds found read (Ok all) → many_from item end (suc n) found ts ≡ many_from item end n all new

@@ -1,26 +1,28 @@
-use Rattle.std.proofs.Common.{◌≡◌, false, ◌∙◌, rules, arith}
-use Rattle.std.proofs.lemmas.Grind.{common_steps}
+use Rattle.std.proofs.Common.{◌≡◌, ◌-◌, ℕ, false, length, Ok, ap, sym, ◌∙◌, arith}
 use Rattle.std.proofs.lemmas.Result.{err_from_is_err_and}
+use Rattle.fb_read.specs.Tokens.{Tokens}
 use Rattle.fb_read.specs.Parser.{sees, after, many_after, many_from}
 use Rattle.fb_read.proofs.Turns.{one_more, no_more}
 use Rattle.fb_read.proofs.Reading.{stops_as}
-use Rattle.fb_read.proofs.Turning.{many_fault, many_more}
+use Rattle.fb_read.proofs.Turning.{many_fault, many_more, many_over}
 use Rattle.fb_read.proofs.rule.many_after.Goals as goal
 
 pub loop-turn-init : goal.loop-turn-init
 unfolding many_after
-loop-turn-init g c = grind (arith, common_steps)
+loop-turn-init g c =
+    let e : length c.args.cursor.now ≡ c.left-turn-end.result - 0 = omega (arith, c.left-turn-end.ensures) in
+    ap (λ (n : ℕ). many_from g.T.Rule.parser c.args.end n c.args.found c.args.cursor.now) e
 
 pub returns-then-eat : goal.returns-then-eat
-unfolding many_from
 returns-then-eat g c =
-    let e = one_more (λ n. many_from g.T.Rule.parser c.args.end n c.loop-turn.found c.loop-turn.cursor) _ c.loop-turn._turn c.loop-turn-test.true c.loop-turn.invariant in
-    grind (arith, common_steps)
+    one_more (λ n. many_from g.T.Rule.parser c.args.end n c.loop-turn.found c.loop-turn.cursor) _ c.loop-turn._turn c.loop-turn-test.true c.loop-turn.invariant
+    ∙ many_over g.T.Rule.parser c.args.end _ c.loop-turn.found c.loop-turn.cursor (sym c.eat.ensures.found ∙ c.if-eat.true)
+    ∙ ap (λ (t : Tokens). Ok (c.loop-turn.found, t)) (sym c.eat.ensures.after)
 
 pub returns-in_err-found : goal.returns-in_err-found
 returns-in_err-found g c =
-    let more : sees c.args.end c.loop-turn.cursor ≡ false = search rules in
-    let mid : c.eat.new.self ≡ after c.args.end c.loop-turn.cursor = search rules in
+    let more : sees c.args.end c.loop-turn.cursor ≡ false = sym c.eat.ensures.found ∙ c.if-eat.false in
+    let mid : c.eat.new.self ≡ after c.args.end c.loop-turn.cursor = c.eat.ensures.after in
     let p = err_from_is_err_and c.from_residual.result c.from_residual.ensures.1 in
     rw (p.1, p.2) (stops_as _ _ _ _
     (one_more (λ n. many_from g.T.Rule.parser c.args.end n c.loop-turn.found c.loop-turn.cursor) _ c.loop-turn._turn c.loop-turn-test.true c.loop-turn.invariant)
@@ -28,8 +30,8 @@ returns-in_err-found g c =
 
 pub loop-turn-preserved : goal.loop-turn-preserved
 loop-turn-preserved g c =
-    let more : sees c.args.end c.loop-turn.cursor ≡ false = search rules in
-    let mid : c.eat.new.self ≡ after c.args.end c.loop-turn.cursor = search rules in
+    let more : sees c.args.end c.loop-turn.cursor ≡ false = sym c.eat.ensures.found ∙ c.if-eat.false in
+    let mid : c.eat.new.self ≡ after c.args.end c.loop-turn.cursor = c.eat.ensures.after in
     one_more (λ n. many_from g.T.Rule.parser c.args.end n c.loop-turn.found c.loop-turn.cursor) _ c.loop-turn._turn c.loop-turn-test.true c.loop-turn.invariant
     ∙ many_more g.T.Rule.parser c.args.end _ c.loop-turn.found _ c.loop-turn.cursor _ _ _ more mid c.read.ensures c.in_ok-found.ensures
 

@@ -39,6 +39,4 @@ loop-turn-preserved g c =
 
 pub returns : goal.returns
 unfolding separated_from
-returns g c =
-    let e = no_more (λ n. separated_from g.T.Rule.parser n c.loop-turn.found c.loop-turn.cursor) _ c.loop-turn._turn c.loop-turn-test.false c.loop-turn.invariant in
-    grind (arith, common_steps)
+returns g c = no_more (λ n. separated_from g.T.Rule.parser n c.loop-turn.found c.loop-turn.cursor) _ c.loop-turn._turn c.loop-turn-test.false c.loop-turn.invariant

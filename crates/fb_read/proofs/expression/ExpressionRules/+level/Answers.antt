@@ -1,4 +1,4 @@
-use Rattle.std.proofs.Common.{◌≡◌, ◌<◌, ◌-◌, ℕ, suc, length, ap, ◌∙◌, Some, None, refl, rules, arith}
+use Rattle.std.proofs.Common.{◌≡◌, ◌<◌, ◌-◌, ℕ, suc, length, ap, sym, ◌∙◌, Some, None, refl, arith}
 use Rattle.std.proofs.lemmas.Grind.{common_steps}
 use Rattle.std.proofs.lemmas.Result.{err_from_is_err_and}
 use Rattle.fb_read.specs.Tokens.{Tokens}
@@ -35,20 +35,20 @@ loop-turn-init g t c =
 
 pub returns-in_default : goal.returns-in_default
 returns-in_default g t c =
-    let o : next_operator c.args.level c.loop-turn.cursor ≡ None = search rules in
+    let o : next_operator c.args.level c.loop-turn.cursor ≡ None = sym c.operator.ensures ∙ c.in_default.is in
     one_more (λ n. climb c.args.self.now.below (nested_expression c.args.self.now.below) c.args.level (nested_expression c.args.self.now.below (c.args.level - 1)) n c.loop-turn.left c.loop-turn.cursor) _ c.loop-turn._turn c.loop-turn-test.true c.loop-turn.invariant
-    ∙ climb_over _ _ _ _ _ c.loop-turn.left c.loop-turn.cursor o
+    ∙ climb_over c.args.self.now.below (nested_expression c.args.self.now.below) c.args.level (nested_expression c.args.self.now.below (c.args.level - 1)) _ c.loop-turn.left c.loop-turn.cursor o
 
 pub returns-in_err-left-2 : goal.returns-in_err-left-2
 returns-in_err-left-2 g t c =
-    let o : next_operator c.args.level c.loop-turn.cursor ≡ Some c.in-Some.operator = search rules in
+    let o : next_operator c.args.level c.loop-turn.cursor ≡ Some c.in-Some.operator = sym c.operator.ensures ∙ c.in-Some.is in
     let e = joined_more c.args.self.now.below (nested_expression c.args.self.now.below) c.args.level (nested_expression c.args.self.now.below (c.args.level - 1)) c.loop-turn.left c.in-Some.operator c.loop-turn.cursor _ c.loop-turn._turn c.loop-turn-test.true c.loop-turn.invariant o in
     let p = err_from_is_err_and c.from_residual-in_err-left-2.result c.from_residual-in_err-left-2.ensures.1 in
     rw (p.1, p.2) (stops_as _ _ _ _ e (stops _ _ _ _ c.in_err-left-2.ensures))
 
 pub loop-turn-preserved : goal.loop-turn-preserved
 loop-turn-preserved g t c =
-    let o : next_operator c.args.level c.loop-turn.cursor ≡ Some c.in-Some.operator = search rules in
+    let o : next_operator c.args.level c.loop-turn.cursor ≡ Some c.in-Some.operator = sym c.operator.ensures ∙ c.in-Some.is in
     let e = joined_more c.args.self.now.below (nested_expression c.args.self.now.below) c.args.level (nested_expression c.args.self.now.below (c.args.level - 1)) c.loop-turn.left c.in-Some.operator c.loop-turn.cursor _ c.loop-turn._turn c.loop-turn-test.true c.loop-turn.invariant o in
     e ∙ went_on _ _ _ _ _ c.in_ok-left-2.ensures refl
 

@@ -1,4 +1,4 @@
-use Rattle.std.proofs.Common.{rules, ◌≡◌, true, arith}
+use Rattle.std.proofs.Common.{◌≡◌, true, sym, ◌∙◌, arith}
 use Rattle.std.proofs.lemmas.Grind.{common_steps}
 use Rattle.fb_read.specs.Expressions.{nested_expression, arguments, arguments_from}
 use Rattle.fb_read.specs.Operators.{begins_expression}
@@ -12,7 +12,7 @@ returns-then-not-begins_expression g c = grind (arith, common_steps)
 
 pub returns-then-self-eq0 : goal.returns-then-self-eq0
 returns-then-self-eq0 g c =
-    let begins : begins_expression c.args.cursor.now ≡ true = search rules in
+    let begins : begins_expression c.args.cursor.now ≡ true = sym c.begins_expression.ensures ∙ c.if-not-begins_expression.false in
     arguments_at_limit c.args.self.now.below c.args.cursor.now c.if-self-eq0.true begins
 
 pub loop-turn-init : goal.loop-turn-init
@@ -40,5 +40,4 @@ loop-turn-preserved g c =
 pub returns : goal.returns
 unfolding arguments_from
 returns g c =
-    let e = no_more (λ n. arguments_from c.args.self.now.below (nested_expression c.args.self.now.below) n c.loop-turn.found c.loop-turn.depth c.loop-turn.cursor) _ c.loop-turn._turn c.loop-turn-test.false c.loop-turn.invariant in
-    grind (arith, common_steps)
+    no_more (λ n. arguments_from c.args.self.now.below (nested_expression c.args.self.now.below) n c.loop-turn.found c.loop-turn.depth c.loop-turn.cursor) _ c.loop-turn._turn c.loop-turn-test.false c.loop-turn.invariant

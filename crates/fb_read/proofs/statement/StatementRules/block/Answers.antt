@@ -1,4 +1,4 @@
-use Rattle.std.proofs.Common.{◌≡◌, true, false, ◌∙◌, rules, arith}
+use Rattle.std.proofs.Common.{◌≡◌, true, false, sym, ◌∙◌, arith}
 use Rattle.std.proofs.lemmas.Grind.{common_steps}
 use Rattle.std.proofs.lemmas.Result.{err_from_is_err_and}
 use Rattle.fb_read.specs.Statements.{nested_statement, block, begins_statement, several, several_from}
@@ -13,13 +13,13 @@ loop-turn-init g c = grind (arith, common_steps)
 
 pub returns-then-not-begins_statement : goal.returns-then-not-begins_statement
 returns-then-not-begins_statement g c =
-    let over : begins_statement c.loop-turn.cursor ≡ false = search rules in
+    let over : begins_statement c.loop-turn.cursor ≡ false = sym c.begins_statement.ensures ∙ c.if-not-begins_statement.true in
     one_more (λ n. several_from begins_statement (nested_statement c.args.self.now.below) n c.loop-turn.found c.loop-turn.cursor) _ c.loop-turn._turn c.loop-turn-test.true c.loop-turn.invariant
     ∙ several_over begins_statement (nested_statement c.args.self.now.below) _ c.loop-turn.found c.loop-turn.cursor over
 
 pub returns-in_err-found : goal.returns-in_err-found
 returns-in_err-found g c =
-    let begun : begins_statement c.loop-turn.cursor ≡ true = search rules in
+    let begun : begins_statement c.loop-turn.cursor ≡ true = sym c.begins_statement.ensures ∙ c.if-not-begins_statement.false in
     let p = err_from_is_err_and c.from_residual.result c.from_residual.ensures.1 in
     rw (p.1, p.2) (stops_as _ _ _ _
     (one_more (λ n. several_from begins_statement (nested_statement c.args.self.now.below) n c.loop-turn.found c.loop-turn.cursor) _ c.loop-turn._turn c.loop-turn-test.true c.loop-turn.invariant)
@@ -27,7 +27,7 @@ returns-in_err-found g c =
 
 pub loop-turn-preserved : goal.loop-turn-preserved
 loop-turn-preserved g c =
-    let begun : begins_statement c.loop-turn.cursor ≡ true = search rules in
+    let begun : begins_statement c.loop-turn.cursor ≡ true = sym c.begins_statement.ensures ∙ c.if-not-begins_statement.false in
     one_more (λ n. several_from begins_statement (nested_statement c.args.self.now.below) n c.loop-turn.found c.loop-turn.cursor) _ c.loop-turn._turn c.loop-turn-test.true c.loop-turn.invariant
     ∙ several_more begins_statement (nested_statement c.args.self.now.below) _ c.loop-turn.found _ c.loop-turn.cursor _ _ begun c.part.ensures c.in_ok-found.ensures
 

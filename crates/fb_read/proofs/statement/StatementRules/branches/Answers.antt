@@ -1,4 +1,4 @@
-use Rattle.std.proofs.Common.{◌≡◌, true, false, [], ◌∙◌, rules, arith}
+use Rattle.std.proofs.Common.{◌≡◌, true, false, [], sym, ◌∙◌, arith}
 use Rattle.std.proofs.lemmas.Grind.{common_steps}
 use Rattle.std.proofs.lemmas.Result.{err_from_is_err_and}
 use Rattle.fb_read.specs.Statements.{nested_statement, branches, branch, begins_label, several, several_from}
@@ -24,13 +24,13 @@ loop-turn-init g c =
 
 pub returns-then-not-begins_label : goal.returns-then-not-begins_label
 returns-then-not-begins_label g c =
-    let over : begins_label c.loop-turn.cursor ≡ false = search rules in
+    let over : begins_label c.loop-turn.cursor ≡ false = sym c.begins_label.ensures ∙ c.if-not-begins_label.true in
     one_more (λ n. several_from begins_label (branch (nested_statement c.args.self.now.below)) n c.loop-turn.found c.loop-turn.cursor) _ c.loop-turn._turn c.loop-turn-test.true c.loop-turn.invariant
     ∙ several_over begins_label (branch (nested_statement c.args.self.now.below)) _ c.loop-turn.found c.loop-turn.cursor over
 
 pub returns-in_err-found-2 : goal.returns-in_err-found-2
 returns-in_err-found-2 g c =
-    let begun : begins_label c.loop-turn.cursor ≡ true = search rules in
+    let begun : begins_label c.loop-turn.cursor ≡ true = sym c.begins_label.ensures ∙ c.if-not-begins_label.false in
     let p = err_from_is_err_and c.from_residual-in_err-found-2.result c.from_residual-in_err-found-2.ensures.1 in
     rw (p.1, p.2) (stops_as _ _ _ _
     (one_more (λ n. several_from begins_label (branch (nested_statement c.args.self.now.below)) n c.loop-turn.found c.loop-turn.cursor) _ c.loop-turn._turn c.loop-turn-test.true c.loop-turn.invariant)
@@ -38,7 +38,7 @@ returns-in_err-found-2 g c =
 
 pub loop-turn-preserved : goal.loop-turn-preserved
 loop-turn-preserved g c =
-    let begun : begins_label c.loop-turn.cursor ≡ true = search rules in
+    let begun : begins_label c.loop-turn.cursor ≡ true = sym c.begins_label.ensures ∙ c.if-not-begins_label.false in
     one_more (λ n. several_from begins_label (branch (nested_statement c.args.self.now.below)) n c.loop-turn.found c.loop-turn.cursor) _ c.loop-turn._turn c.loop-turn-test.true c.loop-turn.invariant
     ∙ several_more begins_label (branch (nested_statement c.args.self.now.below)) _ c.loop-turn.found _ c.loop-turn.cursor _ _ begun c.branch-self-in-loop-turn.ensures c.in_ok-found-2.ensures
 

@@ -1,4 +1,4 @@
-use Rattle.std.proofs.Common.{◌≡◌, true, false, [], Ok, ap, sym, ◌∙◌, rules, arith}
+use Rattle.std.proofs.Common.{◌≡◌, true, false, [], Ok, ap, sym, ◌∙◌, arith}
 use Rattle.std.proofs.lemmas.Grind.{common_steps}
 use Rattle.std.proofs.lemmas.Result.{err_from_is_err_and}
 use Rattle.fb_read.specs.declared.token.Mark.TheVariants as mark
@@ -27,14 +27,14 @@ loop-turn-init g c =
 
 pub returns-then-not-eat : goal.returns-then-not-eat
 returns-then-not-eat g c =
-    let over : sees mark.Elsif c.loop-turn.cursor ≡ false = search rules in
+    let over : sees mark.Elsif c.loop-turn.cursor ≡ false = sym c.eat.ensures.found ∙ c.if-not-eat.true in
     one_more (λ n. several_from (sees mark.Elsif) (elsif (nested_statement c.args.self.now.below)) n c.loop-turn.found c.loop-turn.cursor) _ c.loop-turn._turn c.loop-turn-test.true c.loop-turn.invariant
     ∙ several_over (sees mark.Elsif) (elsif (nested_statement c.args.self.now.below)) _ c.loop-turn.found c.loop-turn.cursor over
     ∙ ap (λ (t : Tokens). Ok (c.loop-turn.found, t)) (sym (c.eat.ensures.after ∙ after_none mark.Elsif c.loop-turn.cursor over))
 
 pub returns-in_err-found-2 : goal.returns-in_err-found-2
 returns-in_err-found-2 g c =
-    let begun : sees mark.Elsif c.loop-turn.cursor ≡ true = search rules in
+    let begun : sees mark.Elsif c.loop-turn.cursor ≡ true = sym c.eat.ensures.found ∙ c.if-not-eat.false in
     let p = err_from_is_err_and c.from_residual-in_err-found-2.result c.from_residual-in_err-found-2.ensures.1 in
     rw (p.1, p.2) (stops_as _ _ _ _
     (one_more (λ n. several_from (sees mark.Elsif) (elsif (nested_statement c.args.self.now.below)) n c.loop-turn.found c.loop-turn.cursor) _ c.loop-turn._turn c.loop-turn-test.true c.loop-turn.invariant)
@@ -43,7 +43,7 @@ returns-in_err-found-2 g c =
 
 pub loop-turn-preserved : goal.loop-turn-preserved
 loop-turn-preserved g c =
-    let begun : sees mark.Elsif c.loop-turn.cursor ≡ true = search rules in
+    let begun : sees mark.Elsif c.loop-turn.cursor ≡ true = sym c.eat.ensures.found ∙ c.if-not-eat.false in
     one_more (λ n. several_from (sees mark.Elsif) (elsif (nested_statement c.args.self.now.below)) n c.loop-turn.found c.loop-turn.cursor) _ c.loop-turn._turn c.loop-turn-test.true c.loop-turn.invariant
     ∙ several_more (sees mark.Elsif) (elsif (nested_statement c.args.self.now.below)) _ c.loop-turn.found _ c.loop-turn.cursor _ _ begun (elsif_reads _ c.loop-turn.cursor _ _ _ begun c.eat.ensures.after c.choice-in-loop-turn.ensures) c.in_ok-found-2.ensures
 
