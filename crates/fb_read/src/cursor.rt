@@ -1,11 +1,11 @@
 //! A cursor in a list of tokens.
 
-ghost use Rattle.std.specs.Prelude.{◌≡◌, ◌<◌, ◌^◌, [], length};
+ghost use Rattle.std.specs.Prelude.{◌≡◌, ◌<◌, ◌^◌, [], ◌∷◌, length, IfNone, IfSome};
 ghost use Rattle.fb_read.specs.Parser as spec;
 ghost use Rattle.fb_read.specs.Parser.{Reads};
 ghost use Rattle.fb_read.specs.Tokens.{tokens_of};
 ghost use Rattle.fb_read.specs.Operators.{next_operator, begins_expression};
-ghost use Rattle.fb_read.specs.Statements.{begins_statement, begins_label, sees_whole};
+ghost use Rattle.fb_read.specs.Statements.{begins_statement, begins_label};
 
 use crate::expected::{Expected, Sought, begins_expression, begins_statement};
 use crate::fault::ParseFault;
@@ -138,13 +138,23 @@ impl<'a> Cursor<'a> {
         self.rest.len()
     }
 
+    /// The token that is next, if there is one.
+    fn next(&self) -> Option<&'a Token>
+        ensures some { IfSome result (λ t. self.now ≡ t.now ∷ spec.rest_of self.now) }
+        ensures none { IfNone result (self.now ≡ []) }
+    {
+        match self.rest {
+            [first, ..] => Some(&first.token),
+            [] => None,
+        }
+    }
+
     /// Whether this mark is next.
     #[tactic(auto, unfolding(crate::specs::Parser::same_mark))]
     pub fn sees(&self, mark: Mark) -> bool
         ensures { result ≡ spec.sees mark self.now }
     {
-        if let [first, ..] = self.rest
-            && let Token::Mark(other) = &first.token
+        if let Some(Token::Mark(other)) = self.next()
             && *other == mark
         {
             return true;
@@ -193,11 +203,9 @@ impl<'a> Cursor<'a> {
     pub fn name_if(&mut self) -> Result<Option<Name>, ParseFault>
         ensures { Reads (spec.name_if self.old) result self.new }
     {
-        if let [first, rest @ ..] = self.rest
-            && let Token::Name(name) = &first.token
-        {
+        if let Some(Token::Name(name)) = self.next() {
             let name = name.try_clone(self.alloc)?;
-            self.rest = rest;
+            self.take();
             return Ok(Some(name));
         }
         self.miss(Sought::Name);
@@ -209,11 +217,10 @@ impl<'a> Cursor<'a> {
     pub fn word(&mut self, text: &[u8]) -> Result<(), ParseFault>
         ensures { Reads (spec.word text.now self.old) result self.new }
     {
-        if let [first, rest @ ..] = self.rest
-            && let Token::Name(name) = &first.token
+        if let Some(Token::Name(name)) = self.next()
             && name.as_bytes() == text
         {
-            self.rest = rest;
+            self.take();
             return Ok(());
         }
         Err(self.refusal(sought_word(text)))
@@ -224,10 +231,8 @@ impl<'a> Cursor<'a> {
     pub fn whole(&mut self) -> Result<Magnitude, ParseFault>
         ensures { Reads (spec.whole self.old) result self.new }
     {
-        if let [first, rest @ ..] = self.rest
-            && let Token::Whole(value) = &first.token
-        {
-            self.rest = rest;
+        if let Some(Token::Whole(value)) = self.next() {
+            self.take();
             return Ok(value.copied());
         }
         Err(self.refusal(Sought::Whole))
@@ -238,11 +243,10 @@ impl<'a> Cursor<'a> {
     pub fn one(&mut self) -> Result<(), ParseFault>
         ensures { Reads (spec.one self.old) result self.new }
     {
-        if let [first, rest @ ..] = self.rest
-            && let Token::Whole(value) = &first.token
+        if let Some(Token::Whole(value)) = self.next()
             && value.positive() == 1
         {
-            self.rest = rest;
+            self.take();
             return Ok(());
         }
         Err(self.refusal(Sought::Whole))
@@ -253,29 +257,20 @@ impl<'a> Cursor<'a> {
     pub fn literal(&mut self) -> Result<i128, ParseFault>
         ensures { Reads (spec.literal self.old) result self.new }
     {
-        if let [first, rest @ ..] = self.rest {
-            match &first.token {
-                Token::Whole(value) => {
-                    self.rest = rest;
-                    return Ok(value.positive());
-                }
-                Token::Time(ticks) => {
-                    self.rest = rest;
-                    return Ok(*ticks);
-                }
-                _ => {}
-            }
-        }
-        Err(self.refusal(Sought::Literal))
+        let value = match self.next() {
+            Some(Token::Whole(value)) => value.positive(),
+            Some(Token::Time(ticks)) => *ticks,
+            _ => return Err(self.refusal(Sought::Literal)),
+        };
+        self.take();
+        Ok(value)
     }
 
     /// Whether a name is next.
     pub fn sees_name(&self) -> bool
         ensures { result ≡ spec.sees_name self.now }
     {
-        if let [first, ..] = self.rest
-            && let Token::Name(_) = &first.token
-        {
+        if let Some(Token::Name(_)) = self.next() {
             return true;
         }
         self.miss(Sought::Name);
@@ -286,26 +281,22 @@ impl<'a> Cursor<'a> {
     pub fn begins_expression(&self) -> bool
         ensures { result ≡ begins_expression self.now }
     {
-        if let [first, ..] = self.rest {
-            match &first.token {
-                Token::Mark(mark) => {
-                    if begins_expression(*mark) {
-                        return true;
-                    }
-                }
-                _ => return true,
-            }
+        let begins = match self.next() {
+            Some(Token::Mark(mark)) => begins_expression(*mark),
+            Some(_) => true,
+            None => false,
+        };
+        if !begins {
+            self.miss(Sought::Expression);
         }
-        self.miss(Sought::Expression);
-        false
+        begins
     }
 
     /// The operator of this level, if it is next.
     pub fn operator(&self, level: u8) -> Option<BinaryOperator>
         ensures { result ≡ next_operator level self.now }
     {
-        if let [first, ..] = self.rest
-            && let Token::Mark(mark) = &first.token
+        if let Some(Token::Mark(mark)) = self.next()
             && let Some((found, operator)) = operator_of(*mark)
             && found == level
         {
@@ -319,38 +310,29 @@ impl<'a> Cursor<'a> {
     pub fn begins_statement(&self) -> bool
         ensures { result ≡ begins_statement self.now }
     {
-        if let [first, ..] = self.rest {
-            match &first.token {
-                Token::Mark(mark) => {
-                    if begins_statement(*mark) {
-                        return true;
-                    }
-                }
-                Token::Name(_) => return true,
-                _ => {}
-            }
+        let begins = match self.next() {
+            Some(Token::Mark(mark)) => begins_statement(*mark),
+            Some(Token::Name(_)) => true,
+            _ => false,
+        };
+        if !begins {
+            self.miss(Sought::Statement);
         }
-        self.miss(Sought::Statement);
-        false
-    }
-
-    fn sees_whole(&self) -> bool
-        ensures { result ≡ sees_whole self.now }
-    {
-        if let [first, ..] = self.rest
-            && let Token::Whole(_) = &first.token
-        {
-            return true;
-        }
-        self.miss(Sought::Whole);
-        false
+        begins
     }
 
     /// Whether the next token may begin a label.
     pub fn begins_label(&self) -> bool
         ensures { result ≡ begins_label self.now }
     {
-        self.sees(Mark::Minus) || self.sees_whole()
+        if self.sees(Mark::Minus) {
+            return true;
+        }
+        if let Some(Token::Whole(_)) = self.next() {
+            return true;
+        }
+        self.miss(Sought::Whole);
+        false
     }
 }
 
@@ -359,11 +341,9 @@ impl Rule for Name {
 
     #[tactic(auto, unfolding(crate::specs::Parser::name))]
     fn read(cursor: &mut Cursor<'_>) -> Result<Name, ParseFault> {
-        if let [first, rest @ ..] = cursor.rest
-            && let Token::Name(name) = &first.token
-        {
+        if let Some(Token::Name(name)) = cursor.next() {
             let name = name.try_clone(cursor.alloc)?;
-            cursor.rest = rest;
+            cursor.take();
             return Ok(name);
         }
         Err(cursor.refusal(Sought::Name))
@@ -376,11 +356,10 @@ impl Rule for Ty {
 
     #[tactic(auto, unfolding(crate::specs::Parser::ty_name))]
     fn read(cursor: &mut Cursor<'_>) -> Result<Ty, ParseFault> {
-        if let [first, rest @ ..] = cursor.rest
-            && let Token::Mark(mark) = &first.token
+        if let Some(Token::Mark(mark)) = cursor.next()
             && let Some(ty) = ty_of(*mark)
         {
-            cursor.rest = rest;
+            cursor.take();
             return Ok(ty);
         }
         Err(cursor.refusal(Sought::Type))
