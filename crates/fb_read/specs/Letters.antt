@@ -1,5 +1,5 @@
 -- The keywords by the letters that they begin with (this project's own).
-use Rattle.std.specs.Prelude.{ℕ, zero, suc, List, [], ◌∷◌, ◌++◌, if◌then◌else◌, nat_eq}
+use Rattle.std.specs.Prelude.{ℕ, [], ◌∷◌, ◌++◌, if◌then◌else◌, nat_eq}
 use Rattle.fb_read.specs.Blank.{at}
 use Rattle.fb_read.specs.Words.{Table, block_words, section_words, type_words, statement_words, loop_words, operator_words}
 
@@ -23,8 +23,3 @@ all_words = block_words ++ from_sections
 abbrev pub group : ℕ → Table → Table
 group b [] = []
 group b (k ∷ t) = if nat_eq (at k.0 0) b then k ∷ group b t else group b t
-
--- the tables of this many bytes, from a byte on
-abbrev pub groups : (b count : ℕ) → List Table
-groups b zero = []
-groups b (suc n) = group b all_words ∷ groups (suc b) n

@@ -1,5 +1,6 @@
-use Rattle.std.proofs.Common.{refl}
+use Rattle.std.proofs.Common.{◌∙◌}
+use Rattle.fb_read.proofs.Keywords.{in_group}
 use Rattle.fb_read.proofs.keyword.keyword.Goals as goal
 
-pub keyword_in-requires : goal.keyword_in-requires
-keyword_in-requires c = refl
+pub returns : goal.returns
+returns c = c.look_up.ensures ∙ in_group c.args.word.now c.at.result _ c.at.ensures.value c.words_with.ensures
