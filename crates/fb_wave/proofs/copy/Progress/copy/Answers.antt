@@ -1,5 +1,6 @@
-use Rattle.std.proofs.Common.{◌≡◌, ◌∙◌, ℕ, true, false, List, refl, subst, sym}
+use Rattle.std.proofs.Common.{◌≡◌, ◌∙◌, ℕ, true, false, List, refl, subst, sym, arith}
 use Rattle.fb_types.specs.Headline.{system_of}
+use Rattle.fb_wave.specs.declared.error.WaveError.TheVariants.{Read}
 use Rattle.fb_wave.specs.Lines.{IsLast, IsNoLast}
 use Rattle.fb_wave.specs.Copying.{IsTaken, RefusesLine}
 use Rattle.fb_wave.specs.CutOff.{BlamesShown, FailsShown, is_cut, is_unended}
@@ -41,6 +42,13 @@ loop-number-preserved g c =
 
 pub take-requires : goal.take-requires
 take-requires g c = c.loop-number.invariant.copied.numbers
+
+pub finish-requires-clause-number : goal.finish-requires-clause-number
+finish-requires-clause-number g c = omega (arith, c.loop-number-test.true)
+
+pub finish-requires-clause-end : goal.finish-requires-clause-end
+finish-requires-clause-end g c =
+    subst (λ (l : List ℕ). IsLast (system_of c.args.table.now.system.now) l c.in-Some.end) c.as_slice-in-loop-number.ensures.value c.in-Some.ensures.last
 
 pub returns-in-Some-clause-whole : goal.returns-in-Some-clause-whole
 returns-in-Some-clause-whole g c =
@@ -98,6 +106,15 @@ returns-in_err-next_line-2-clause-part g c =
 
 pub returns-clause-part : goal.returns-clause-part
 returns-clause-part g c = fails_in c.args.cut _ _ _ _ (front_copied _ _ _ _ _ _ _ _ _ c.loop-number.invariant.copied)
+
+pub returns-clause-whole : goal.returns-clause-whole
+returns-clause-whole g c = tt
+
+pub returns-clause-refused : goal.returns-clause-refused
+returns-clause-refused g c names = read_blames c.args.cut (system_of c.args.table.now.system.now) (g.R.Read.remaining c.args.input.now) Read tt
+
+pub returns-clause-current : goal.returns-clause-current
+returns-clause-current g c names = tt
 
 pub returns-in-Some-clause-refused : goal.returns-in-Some-clause-refused
 returns-in-Some-clause-refused g c names =

@@ -1,7 +1,7 @@
 use Rattle.std.proofs.Common.{inr, refl}
 use Rattle.fb_types.specs.Headline.{system_of}
 use Rattle.fb_wave.proofs.Copied.{unfinished_part}
-use Rattle.fb_wave.proofs.Handing.{on_fault, on_ok, on_passed}
+use Rattle.fb_wave.proofs.Handing.{ok_passed, on_fault, on_ok, on_passed}
 use Rattle.fb_wave.proofs.Unread.{read_end, read_refused_at, read_unfinished}
 use Rattle.fb_wave.proofs.copy.Progress.finish.Goals as goal
 
@@ -16,6 +16,12 @@ returns-clause-whole g c =
       got = got;
       whole = c.in_ok-end.ensures;
     })
+
+pub returns-in_err-end-clause-whole : goal.returns-in_err-end-clause-whole
+returns-in_err-end-clause-whole g c = ok_passed c.from_residual.result _ _ c.from_residual.ensures.1
+
+pub returns-in_err-is_over-clause-whole : goal.returns-in_err-is_over-clause-whole
+returns-in_err-is_over-clause-whole g c = ok_passed c.from_residual-in_err-is_over.result _ _ c.from_residual-in_err-is_over.ensures.1
 
 pub returns-in_err-end-clause-part : goal.returns-in_err-end-clause-part
 returns-in_err-end-clause-part g c = on_passed _ _ _ c.from_residual.ensures.1 refl

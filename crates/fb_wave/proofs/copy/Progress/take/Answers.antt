@@ -5,7 +5,7 @@ use Rattle.fb_types.specs.declared.run.Line.{Line}
 use Rattle.fb_wave.specs.Copying.{RefusesLine}
 use Rattle.fb_wave.specs.Lines.{IsTextOf}
 use Rattle.fb_wave.proofs.Lining.{same_line}
-use Rattle.fb_wave.proofs.Handing.{on_passed}
+use Rattle.fb_wave.proofs.Handing.{ok_passed, on_passed}
 use Rattle.fb_wave.proofs.copy.Progress.take.Goals as goal
 
 pub returns-clause-taken : goal.returns-clause-taken
@@ -20,6 +20,18 @@ returns-clause-taken c =
       kept = refl;
       shown = c.in_ok-take.ensures.shown;
     }
+
+pub returns-in_err-line-clause-taken : goal.returns-in_err-line-clause-taken
+returns-in_err-line-clause-taken c = ok_passed c.from_residual.result _ _ c.from_residual.ensures.1
+
+pub returns-in_err-take-clause-taken : goal.returns-in_err-take-clause-taken
+returns-in_err-take-clause-taken c = ok_passed c.from_residual-in_err-take.result _ _ c.from_residual-in_err-take.ensures.1
+
+pub returns-in_err-line-clause-tick : goal.returns-in_err-line-clause-tick
+returns-in_err-line-clause-tick c = on_passed _ _ _ c.from_residual.ensures.1 refl
+
+pub returns-in_err-take-clause-tick : goal.returns-in_err-take-clause-tick
+returns-in_err-take-clause-tick c = on_passed _ _ _ c.from_residual-in_err-take.ensures.1 refl
 
 pub returns-in_err-line-clause-fault : goal.returns-in_err-line-clause-fault
 returns-in_err-line-clause-fault c = on_passed _ _ _ c.from_residual.ensures.1 tt
