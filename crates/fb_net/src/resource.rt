@@ -7,7 +7,7 @@ ghost use Rattle.fb_types.specs.OfSystem.{IsInstance};
 ghost use Rattle.fb_system.specs.OfSystem.{IsSourceOf, IsVariable, variable_of};
 ghost use Rattle.fb_net.specs.Changes.{Changes, Holds, ShowsInside, input_sampled, output_shown, slot_set};
 ghost use Rattle.fb_net.specs.HeldAt.{held_at};
-ghost use Rattle.fb_net.specs.Worlds.{InForest, IsForest, Reads, Samples, Sees, Shows, Stands, seat_in, value_in, way_in, with_seated};
+ghost use Rattle.fb_net.specs.Worlds.{InForest, IsForest, Reads, Samples, Shows, Stands, seat_in, value_in, way_in, with_seated};
 ghost use Rattle.fb_net.specs.OfSystem.{IsComposite, TakesSamples};
 
 use crate::block::Block;
@@ -126,18 +126,6 @@ impl Forest {
         self.shells.get_mut(seat)
     }
 
-    /// What a connection or a stimulus has set at a data input of an instance that is in the resource.
-    #[inline(always)]
-    pub(crate) fn slot(&self, system: &System, input: InstanceVariable) -> &Value
-        requires variable { IsVariable system.now input }
-        requires input { input.is_output ≡ false }
-        requires stands { Stands system.now self.now input.instance }
-        ensures { Reads system.now self.now input (λ b. b.slots) result.now }
-    {
-        let shell = self.shell(system, input.instance);
-        value_of(shell.slots.as_slice(), input.variable)
-    }
-
     /// What connections see at a data output of an instance that is in the resource.
     #[inline(always)]
     pub(crate) fn published(&self, system: &System, output: InstanceVariable) -> &Value
@@ -148,33 +136,6 @@ impl Forest {
     {
         let shell = self.shell(system, output.instance);
         value_of(shell.published.as_slice(), output.variable)
-    }
-
-    /// The copy of a data input that a composite block in the resource shows to its components.
-    #[inline(always)]
-    pub(crate) fn copied(&self, system: &System, input: InstanceVariable) -> &Value
-        requires variable { IsVariable system.now input }
-        requires input { input.is_output ≡ false }
-        requires stands { Stands system.now self.now input.instance }
-        ensures { IsComposite system.now input → Reads system.now self.now input (λ b. b.variables) result.now }
-    {
-        let shell = self.shell(system, input.instance);
-        value_of(shell.inputs.as_slice(), input.variable)
-    }
-
-    /// What connections see at a source that is in the resource.
-    #[inline(always)]
-    fn seen(&self, system: &System, source: InstanceVariable) -> &Value
-        requires variable { IsVariable system.now source }
-        requires stands { Stands system.now self.now source.instance }
-        ensures { Sees system.now self.now source result.now }
-    {
-        system.facts();
-        if source.is_output {
-            self.published(system, source)
-        } else {
-            self.copied(system, source)
-        }
     }
 
     /// The held copy of a variable of another resource, or 0 where there is none.
@@ -197,10 +158,16 @@ impl Forest {
         requires whole { (w : World) × IsForest system.now self.now w }
         ensures { Shows system.now self.now source.now.variable result.now }
     {
-        if source.here {
-            self.seen(system, source.variable)
+        system.facts();
+        if !source.here {
+            return self.held(&source.variable);
+        }
+        if source.variable.is_output {
+            self.published(system, source.variable)
         } else {
-            self.held(&source.variable)
+            // The copy of its data input that a composite shows to its components.
+            let shell = self.shell(system, source.variable.instance);
+            value_of(shell.inputs.as_slice(), source.variable.variable)
         }
     }
 
@@ -232,7 +199,11 @@ impl Forest {
     {
         match source {
             Some(source) => self.shown(system, source),
-            None => self.slot(system, input),
+            // What a connection or a stimulus has set.
+            None => {
+                let shell = self.shell(system, input.instance);
+                value_of(shell.slots.as_slice(), input.variable)
+            }
         }
     }
 

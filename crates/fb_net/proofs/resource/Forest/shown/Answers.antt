@@ -1,14 +1,35 @@
-use Rattle.std.proofs.Common.{sym, ◌∙◌}
+use Rattle.std.proofs.Common.{ap, sym, ◌∙◌}
 use Rattle.std.proofs.lemmas.Bool.{true≢false}
-use Rattle.fb_net.proofs.Sampled.{shown_away, shown_here}
+use Rattle.fb_net.specs.Worlds.{value_in}
+use Rattle.fb_net.proofs.Shown.{seated_reads, copy_stands}
+use Rattle.fb_net.proofs.Sampled.{input_seen, output_seen, shown_away, shown_here}
 use Rattle.fb_net.proofs.resource.Forest.shown.Goals as goal
 
-pub seen-requires-clause-stands : goal.seen-requires-clause-stands
-seen-requires-clause-stands c = record { here = c.requires.place.0 c.if-source.true; whole = c.requires.whole }
+pub published-requires-clause-stands : goal.published-requires-clause-stands
+published-requires-clause-stands c = record { here = c.requires.place.0 c.if-not-source.false; whole = c.requires.whole }
+
+pub shell-shell-requires-clause-stands : goal.shell-shell-requires-clause-stands
+shell-shell-requires-clause-stands c = record { here = c.requires.place.0 c.if-not-source.false; whole = c.requires.whole }
+
+pub returns-then-not-source : goal.returns-then-not-source
+returns-then-not-source c =
+    shown_away c.args.system.now c.args.self.now c.args.source.now.variable _ c.requires.variable (λ lies. true≢false (sym (c.requires.place.1 lies) ∙ c.if-not-source.true)) c.held.ensures
 
 pub returns-then-source : goal.returns-then-source
-returns-then-source c = shown_here c.args.system.now c.args.self.now c.args.source.now.variable _ (c.requires.place.0 c.if-source.true) c.seen.ensures
+returns-then-source c =
+    let i = c.args.system.now in
+    let source = c.args.source.now.variable in
+    shown_here i c.args.self.now source _ (c.requires.place.0 c.if-not-source.false)
+    (λ w tree within is_source. c.published.ensures w tree within ∙ output_seen i source c.requires.variable c.facts.ensures.accepted c.if-source.true w)
 
 pub returns-else-source : goal.returns-else-source
 returns-else-source c =
-    shown_away c.args.system.now c.args.self.now c.args.source.now.variable _ c.requires.variable (λ lies. true≢false (sym (c.requires.place.1 lies) ∙ c.if-source.false)) c.held.ensures
+    let i = c.args.system.now in
+    let source = c.args.source.now.variable in
+    shown_here i c.args.self.now source _ (c.requires.place.0 c.if-not-source.false)
+    (λ w tree within is_source.
+    let composite = is_source.composite c.if-source.false in
+    seated_reads i c.args.self.now source (λ b. b.variables) c.shell-shell.result.now _ c.requires.variable.instance c.shell-shell.ensures
+    (λ m s. c.value_of.ensures ∙ ap (λ vs. value_in vs source.variable) c.as_slice.ensures
+    ∙ copy_stands _ _ _ m c.requires.variable s composite c.if-source.false) w tree within
+    ∙ input_seen i source c.requires.variable c.if-source.false composite w)
