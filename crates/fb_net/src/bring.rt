@@ -1,6 +1,6 @@
 //! Values that an event brings to variables, slots and held copies.
 
-ghost use Rattle.std.specs.Prelude.{◌≡◌, ◌<◌, ◌≢◌, [], ◌∷◌, false, length, All, Some};
+ghost use Rattle.std.specs.Prelude.{◌≡◌, ◌<◌, ◌≢◌, false, length, All, Some};
 ghost use Rattle.fb_types.specs.Blocks.{Basic};
 ghost use Rattle.fb_types.specs.declared.library.BasicType.{BasicType};
 ghost use Rattle.fb_types.specs.OfSystem.{IsInstance, kind_at, path_at, ports_at};
@@ -79,23 +79,17 @@ fn hold_some(forest: &mut Forest, system: &System, values: &MessageValues)
     ensures { HoldsAll system.now forest.old values.now forest.new }
 {
     match values.only() {
-        Ok(item) => hold_one(forest, system, &item),
+        // A single value, which was in place.
+        Ok(item) => {
+            let output = InstanceVariable {
+                instance: item.instance,
+                variable: item.variable,
+                is_output: true,
+            };
+            forest.hold(system, output, item.value);
+        }
         Err(items) => hold_each(forest, system, items),
     }
-}
-
-/// The same as `hold_carried`, for a single value, which was in place.
-#[inline(always)]
-fn hold_one(forest: &mut Forest, system: &System, item: &Carried)
-    requires { IsCarried system.now item.now }
-    ensures { HoldsAll system.now forest.old (item.now ∷ []) forest.new }
-{
-    let output = InstanceVariable {
-        instance: item.instance,
-        variable: item.variable,
-        is_output: true,
-    };
-    forest.hold(system, output, item.value);
 }
 
 /// The same as `hold_carried`, for the values of a list.
