@@ -2,13 +2,12 @@
 
 ghost use Rattle.std.specs.Prelude.{◌≡◌, ◌∷◌, [], ◌≤◌, ◌^◌, All, false, true, length, IfErr, OnOk, Some};
 ghost use Rattle.fb_types.specs.Blocks.{Basic, Event};
-ghost use Rattle.fb_event.specs.Reactions.{PassesTo};
 ghost use Rattle.fb_net.specs.Arrivals.{AreTypedAt, entering, leaving, reacting, sampling};
 ghost use Rattle.fb_net.specs.Events.{Remembered};
 ghost use Rattle.fb_net.specs.Leaves.{IsOne};
 ghost use Rattle.fb_net.specs.OfSystem.{IsTypedSystem, names_in};
 ghost use Rattle.fb_net.specs.Samples.{AreSampled};
-ghost use Rattle.fb_net.specs.Steps.{AreInputs, AreOutputs, ArePutOut, HasArrived, HasDone, HasKind, HasWritten, IsKept, IsNoBasic, IsSame, MayArrive, MayBegin, ended, ports_in};
+ghost use Rattle.fb_net.specs.Steps.{AreInputs, ArePutOut, HasArrived, HasDone, HasKind, HasWritten, IsKept, IsNoBasic, IsSame, MayArrive, MayBegin, ended, ports_in};
 ghost use Rattle.fb_system.specs.Lines.{IsEmission};
 ghost use Rattle.fb_system.specs.OfSystem.{IsCompositeAt, IsSourceOf, IsTarget, IsWith, LeadsTo};
 ghost use Rattle.fb_system.specs.PortRows.{IsPortRow};
@@ -126,25 +125,6 @@ impl Taking<'_> {
         write_taken(self.outbox, self.system, self.key, at, values)
     }
 
-    /// An event arrives at an event input of an event block that only passes events on. No block is looked up.
-    #[inline(always)]
-    fn pass_on(&mut self, kind: EventKind, at: Target, event: u32) -> Result<(), AllocError>
-        requires index { MayArrive self.old at }
-        requires input { at.is_output ≡ false }
-        requires kind { HasKind self.old at.instance (Event kind) }
-        requires passes { PassesTo kind event }
-        ensures reacted { OnOk result (HasDone (reacting self.old.system.now self.old.key.now kind at) self.old self.new) }
-        ensures outs { OnOk result (ArePutOut self.old self.new) }
-
-        // Also where memory runs out.
-        ensures kept { IsKept self.old self.new }
-        ensures same { IsSame self.old self.new }
-    {
-        let values = Values::new(*self.outbox.lines.allocator());
-        write_taken(self.outbox, self.system, self.key, at, values)?;
-        self.emit_bare(at.instance, event)
-    }
-
     /// An event arrives at an event input of an event block. `emits` is room for what it emits.
     ///
     /// # Errors
@@ -165,41 +145,22 @@ impl Taking<'_> {
         ensures only_memory { IfErr result (λ halt. halt ≡ Halt.Memory) }
     {
         match passes_to(kind) {
-            Some(event) => Ok(self.pass_on(kind, at, event)?),
-            None => self.sample_and_react(kind, at, emits),
+            // It only passes events on: no block is looked up.
+            Some(event) => {
+                let values = Values::new(*self.outbox.lines.allocator());
+                write_taken(self.outbox, self.system, self.key, at, values)?;
+                Ok(self.emit_bare(at.instance, event)?)
+            }
+            None => {
+                self.take_samples(at)?;
+                emits.clear();
+                let mut ask = TimerAsk::Keep;
+                let tick = self.key.tick;
+                react_event(self.forest, self.system, kind, at, tick, emits, &mut ask)?;
+                self.outbox.ask_timer(ask);
+                Ok(self.emit_all(at.instance, emits)?)
+            }
         }
-    }
-
-    /// An event arrives at an event input of an event block that does more than pass events on. Parameter and errors are
-    /// as of `arrive_event`.
-    #[inline(always)]
-    fn sample_and_react(
-        &mut self,
-        kind: EventKind,
-        at: Target,
-        emits: &mut Emits,
-    ) -> Result<(), Halt>
-        requires index { MayArrive self.old at }
-        requires input { at.is_output ≡ false }
-        requires kind { HasKind self.old at.instance (Event kind) }
-        requires sound { IsTypedSystem self.old.system.now }
-        requires typed { AreTypedAt self.old.system.now self.old.forest.now }
-        ensures reacted { OnOk result (HasDone (reacting self.old.system.now self.old.key.now kind at) self.old self.new) }
-        ensures outs { OnOk result (ArePutOut self.old self.new) }
-
-        // Also where memory runs out.
-        ensures kept { IsKept self.old self.new }
-        ensures same { IsSame self.old self.new }
-        ensures only_memory { IfErr result (λ halt. halt ≡ Halt.Memory) }
-    {
-        self.take_samples(at)?;
-        emits.clear();
-        let mut ask = TimerAsk::Keep;
-        let tick = self.key.tick;
-        react_event(self.forest, self.system, kind, at, tick, emits, &mut ask)?;
-        self.outbox.ask_timer(ask);
-        self.emit_all(at.instance, emits)?;
-        Ok(())
     }
 
     /// The same as `take_samples`, where it is known which variables are WITH the event: mostly one, and then nothing is
@@ -358,40 +319,17 @@ impl Taking<'_> {
         ensures same { IsSame self.old self.new }
     {
         match &port.with {
-            With::One(variable, source) => self.leave_value(at, &port.first, *variable, source),
+            With::One(variable, source) => {
+                let output = InstanceVariable {
+                    instance: at.instance,
+                    variable: *variable,
+                    is_output: true,
+                };
+                let value = *self.forest.shown_inside_from(self.system, output, source);
+                self.emit_value(at.instance, at.event, &port.first, *variable, &value)
+            }
             With::Nothing | With::Several => self.leave_values(at.instance, at.event, &port.first),
         }
-    }
-
-    /// The same as `leave`, where one variable is WITH the event.
-    #[inline(always)]
-    fn leave_value(
-        &mut self,
-        at: Target,
-        first: &Option<NextTarget>,
-        variable: u32,
-        source: &Option<Source>,
-    ) -> Result<(), AllocError>
-        requires index { MayArrive self.old at }
-        requires output { at.is_output ≡ true }
-        requires composite { IsCompositeAt self.old.system.now at.instance }
-        requires first { LeadsTo self.old.system.now at 0 first.now }
-        requires represents { AreOutputs self.old at (variable ∷ []) }
-        requires source { IsSourceOf self.old.system.now (record { instance = at.instance; variable = variable; is_output = true }) source.now }
-        ensures left { OnOk result (HasDone (leaving self.old.system.now self.old.key.now at) self.old self.new) }
-        ensures outs { OnOk result (ArePutOut self.old self.new) }
-
-        // Also where memory runs out.
-        ensures kept { IsKept self.old self.new }
-        ensures same { IsSame self.old self.new }
-    {
-        let output = InstanceVariable {
-            instance: at.instance,
-            variable,
-            is_output: true,
-        };
-        let value = *self.forest.shown_inside_from(self.system, output, source);
-        self.emit_value(at.instance, at.event, first, variable, &value)
     }
 
     /// The same as `leave`, where any number of variables are WITH the event.
@@ -484,87 +422,6 @@ impl Taking<'_> {
         end
     }
 
-    /// The same as `arrive_basic`, where one variable is WITH the event.
-    #[inline(always)]
-    fn react_to_one(
-        &mut self,
-        block: &BasicType,
-        at: Target,
-        variable: u32,
-        source: &Option<Source>,
-        meter: &mut Meter,
-        emits: &mut Emits,
-    ) -> Result<(), Halt>
-        requires index { MayArrive self.old at }
-        requires input { at.is_output ≡ false }
-        requires kind { HasKind self.old at.instance (Basic block.now) }
-        requires one { IsOne self.old.system.now self.old.forest.now at.instance }
-        requires represents { AreInputs self.old at (variable ∷ []) }
-        requires source { IsSourceOf self.old.system.now (record { instance = at.instance; variable = variable; is_output = false }) source.now }
-        ensures reacted { HasArrived self.old at meter.old.left result self.new meter.new.left }
-        ensures outs { Remembered result (ArePutOut self.old self.new) }
-        ensures fewer { meter.new.left ≤ meter.old.left }
-
-        // Also where memory runs out.
-        ensures kept { IsKept self.old self.new }
-        ensures same { IsSame self.old self.new }
-    {
-        let input = InstanceVariable {
-            instance: at.instance,
-            variable,
-            is_output: false,
-        };
-        let value = *self.forest.sampled_from(self.system, input, source);
-        let values = Values::one(*self.outbox.lines.allocator(), value);
-        self.react_with(block, at, from_ref(&value), values, meter, emits)
-    }
-
-    /// A basic block samples any number of variables, and reacts to an event.
-    ///
-    /// # Errors
-    /// As `arrive_basic`.
-    #[inline(always)]
-    fn sample_each_and_react(
-        &mut self,
-        block: &BasicType,
-        instance: u32,
-        event: u32,
-        meter: &mut Meter,
-        emits: &mut Emits,
-    ) -> Result<(), Halt>
-        requires index { MayArrive self.old (record { instance = instance; event = event; is_output = false }) }
-        requires kind { HasKind self.old instance (Basic block.now) }
-        requires one { IsOne self.old.system.now self.old.forest.now instance }
-        ensures reacted { HasArrived self.old (record { instance = instance; event = event; is_output = false }) meter.old.left result self.new meter.new.left }
-        ensures outs { Remembered result (ArePutOut self.old self.new) }
-        ensures fewer { meter.new.left ≤ meter.old.left }
-
-        // Also where memory runs out.
-        ensures kept { IsKept self.old self.new }
-        ensures same { IsSame self.old self.new }
-    {
-        let at = Target {
-            instance,
-            event,
-            is_output: false,
-        };
-        let alloc = *self.outbox.lines.allocator();
-        let indexes = self.system.inputs_with(at.instance, at.event);
-        let values = sampled_values(alloc, self.forest, self.system, at, indexes)?;
-        emits.clear();
-        let end = react_basic(
-            self.forest,
-            self.system,
-            block,
-            at,
-            values.as_slice(),
-            meter,
-            emits,
-        );
-        self.write_and_emit(at, values, emits)?;
-        end
-    }
-
     /// The same as `arrive_basic`, where any number of variables are WITH the event.
     #[inline(never)]
     fn react_to_several(
@@ -586,7 +443,30 @@ impl Taking<'_> {
         ensures kept { IsKept self.old self.new }
         ensures same { IsSame self.old self.new }
     {
-        End::of(self.sample_each_and_react(block, instance, event, meter, emits))
+        let at = Target {
+            instance,
+            event,
+            is_output: false,
+        };
+        let alloc = *self.outbox.lines.allocator();
+        let indexes = self.system.inputs_with(instance, event);
+        let Ok(values) = sampled_values(alloc, self.forest, self.system, at, indexes) else {
+            return End::Memory;
+        };
+        emits.clear();
+        let end = react_basic(
+            self.forest,
+            self.system,
+            block,
+            at,
+            values.as_slice(),
+            meter,
+            emits,
+        );
+        match self.write_and_emit(at, values, emits) {
+            Ok(()) => End::of(end),
+            Err(_) => End::Memory,
+        }
     }
 
     /// An event arrives at an event input of a basic block. `emits` is room for what it emits. Where a reason ends the
@@ -622,40 +502,19 @@ impl Taking<'_> {
                     End::of(self.react_with(block, at, &[], values, meter, emits))
                 }
                 With::One(variable, source) => {
-                    End::of(self.react_to_one(block, at, *variable, source, meter, emits))
+                    let input = InstanceVariable {
+                        instance,
+                        variable: *variable,
+                        is_output: false,
+                    };
+                    let value = *self.forest.sampled_from(self.system, input, source);
+                    let values = Values::one(*self.outbox.lines.allocator(), value);
+                    End::of(self.react_with(block, at, from_ref(&value), values, meter, emits))
                 }
                 With::Several => self.react_to_several(block, instance, event, meter, emits),
             },
             None => self.react_to_several(block, instance, event, meter, emits),
         }
-    }
-
-    /// The same as `arrive_basic`, with the result that its end stands for.
-    ///
-    /// # Errors
-    /// `Halt::Stop` where a reason ends the reaction: what was emitted before it is kept.
-    #[inline(always)]
-    fn arrive_basic_read(
-        &mut self,
-        block: &BasicType,
-        instance: u32,
-        event: u32,
-        meter: &mut Meter,
-        emits: &mut Emits,
-    ) -> Result<(), Halt>
-        requires index { MayArrive self.old (record { instance = instance; event = event; is_output = false }) }
-        requires kind { HasKind self.old instance (Basic block.now) }
-        requires one { IsOne self.old.system.now self.old.forest.now instance }
-        ensures reacted { HasArrived self.old (record { instance = instance; event = event; is_output = false }) meter.old.left result self.new meter.new.left }
-        ensures outs { Remembered result (ArePutOut self.old self.new) }
-        ensures fewer { meter.new.left ≤ meter.old.left }
-
-        // Also where memory runs out.
-        ensures kept { IsKept self.old self.new }
-        ensures same { IsSame self.old self.new }
-    {
-        self.arrive_basic(block, instance, event, meter, emits)
-            .result()
     }
 
     /// An event arrives at a port of an instance. `emits` is room for what a leaf emits.
@@ -681,13 +540,9 @@ impl Taking<'_> {
         match system.kind(at.instance) {
             TypeNumber::Event(kind) => self.arrive_event(kind, at, emits),
             TypeNumber::Declared(index) => match system.library().blocks.get(index) {
-                Some(BlockType::Basic(block)) => self.arrive_basic_read(
-                    block,
-                    at.instance,
-                    at.event,
-                    meter,
-                    emits,
-                ),
+                Some(BlockType::Basic(block)) => self
+                    .arrive_basic(block, at.instance, at.event, meter, emits)
+                    .result(),
                 Some(BlockType::Composite(_)) => {
                     if at.is_output {
                         Ok(self.leave(at.instance, at.event)?)

@@ -604,24 +604,9 @@ impl Taking<'_> {
         self.emit_by_tables(instance, Emission { event, values })
     }
 
-    /// The same as `emit_all`, for emissions that are not one event without values.
+    /// The same as `emit_all`, emission by emission.
     #[inline(never)]
     fn emit_rest(&mut self, instance: u32, emits: &mut Emits) -> Result<(), AllocError>
-        requires index { MayEmit self.old instance }
-        requires emissions { All (IsEmission (ports_in self.old instance)) emits.old }
-        ensures emitted { OnOk result (EmitsAll self.old instance emits.old self.new) }
-        ensures outs { OnOk result (ArePutOut self.old self.new) }
-
-        // Also where memory runs out.
-        ensures kept { IsKept self.old self.new }
-        ensures same { IsSame self.old self.new }
-    {
-        self.emit_each(instance, emits)
-    }
-
-    /// The same as `emit_all`, emission by emission.
-    #[inline(always)]
-    fn emit_each(&mut self, instance: u32, emits: &mut Emits) -> Result<(), AllocError>
         requires index { MayEmit self.old instance }
         requires emissions { All (IsEmission (ports_in self.old instance)) emits.old }
         ensures emitted { OnOk result (EmitsAll self.old instance emits.old self.new) }

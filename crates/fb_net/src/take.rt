@@ -1,13 +1,8 @@
 //! Taking an event, by what it is.
 
 ghost use Rattle.std.specs.Prelude.{◌≡◌, ◌≤◌, ◌^◌, ℕ, None, OnOk};
-ghost use Rattle.fb_types.specs.Blocks as model;
-ghost use Rattle.fb_types.specs.OfSystem.{IsInstance};
-ghost use Rattle.fb_net.specs.Arrivals.{expiring};
 ghost use Rattle.fb_net.specs.Events.{Came, event_in};
-ghost use Rattle.fb_net.specs.Leaves.{IsOne};
-ghost use Rattle.fb_net.specs.Steps.{ArePutOut, HasDone, HasKind, IsKept, IsSame, MayBegin, MayTake, WasTaken};
-ghost use Rattle.fb_net.specs.Worlds.{InForest};
+ghost use Rattle.fb_net.specs.Steps.{ArePutOut, IsKept, IsSame, MayTake, WasTaken};
 
 use crate::arrival::Arrival;
 use crate::bring::{hold_carried, set_slots};
@@ -15,7 +10,7 @@ use crate::event_blocks::expire_event;
 use crate::taking::Taking;
 use fb_check_names::TypeNumber;
 use fb_st::Meter;
-use fb_types::{Emits, Event, EventKind, Halt, Message, TimerAsk};
+use fb_types::{Emits, Event, Halt, TimerAsk};
 use std::alloc::AllocError;
 
 impl Taking<'_> {
@@ -35,80 +30,6 @@ impl Taking<'_> {
         self.arrive(at, meter, emits)
     }
 
-    /// The same as `take_stimulus`, with its result read here (see `take_waiting`).
-    #[inline(always)]
-    fn take_stimulus_read(
-        &mut self,
-        row: u32,
-        meter: &mut Meter,
-        emits: &mut Emits,
-    ) -> Result<(), Halt>
-        requires { MayTake self.old (Event.Stimulus row) }
-        ensures taken { WasTaken self.old (Event.Stimulus row) meter.old.left result self.new meter.new.left }
-        ensures same { IsSame self.old self.new }
-    {
-        self.take_stimulus(row, meter, emits)?;
-        Ok(())
-    }
-
-    /// Takes a message, whose values are held before its event arrives.
-    ///
-    /// # Errors
-    /// As `arrive`.
-    fn take_message(
-        &mut self,
-        message: &Message,
-        meter: &mut Meter,
-        emits: &mut Emits,
-    ) -> Result<(), Halt>
-        requires { MayTake self.old (Event.Arrival message.now) }
-        ensures taken { WasTaken self.old (Event.Arrival message.now) meter.old.left result self.new meter.new.left }
-        ensures same { IsSame self.old self.new }
-    {
-        hold_carried(self.forest, self.system, &message.values);
-        self.arrive(message.target, meter, emits)
-    }
-
-    /// The timer of an event block goes off. The error is that memory runs out.
-    #[inline(always)]
-    fn expire(
-        &mut self,
-        kind: EventKind,
-        instance: u32,
-        emits: &mut Emits,
-    ) -> Result<(), AllocError>
-        requires instance { IsInstance self.old.system.now instance }
-        requires kind { HasKind self.old instance (model.Event kind) }
-        requires here { InForest self.old.system.now self.old.forest.now instance }
-        requires one { IsOne self.old.system.now self.old.forest.now instance }
-        requires ready { MayBegin self.old }
-        ensures expired { OnOk result (HasDone (expiring self.old.system.now self.old.key.now kind instance) self.old self.new) }
-        ensures outs { OnOk result (ArePutOut self.old self.new) }
-
-        // Also where memory runs out.
-        ensures kept { IsKept self.old self.new }
-        ensures same { IsSame self.old self.new }
-    {
-        emits.clear();
-        let mut ask = TimerAsk::Keep;
-        let tick = self.key.tick;
-        match expire_event(
-            self.forest,
-            self.system,
-            kind,
-            instance,
-            tick,
-            emits,
-            &mut ask,
-        ) {
-            Ok(()) => {
-                self.outbox.ask_timer(ask);
-                self.emit_all(instance, emits)
-            }
-            Err(_) => Err(AllocError),
-        }
-    }
-
     /// Takes the timer of an instance. Nothing happens where it is no event block. The error is that memory runs out: it
     /// is returned in a register, where that of `arrive`, which may be a stop, goes through memory.
     fn take_timer(&mut self, instance: u32, emits: &mut Emits) -> Result<(), AllocError>
@@ -121,7 +42,26 @@ impl Taking<'_> {
         ensures same { IsSame self.old self.new }
     {
         match self.system.kind(instance) {
-            TypeNumber::Event(kind) => self.expire(kind, instance, emits),
+            TypeNumber::Event(kind) => {
+                emits.clear();
+                let mut ask = TimerAsk::Keep;
+                let tick = self.key.tick;
+                match expire_event(
+                    self.forest,
+                    self.system,
+                    kind,
+                    instance,
+                    tick,
+                    emits,
+                    &mut ask,
+                ) {
+                    Ok(()) => {
+                        self.outbox.ask_timer(ask);
+                        self.emit_all(instance, emits)
+                    }
+                    Err(_) => Err(AllocError),
+                }
+            }
             TypeNumber::Declared(_) => Ok(()),
         }
     }
@@ -144,7 +84,10 @@ impl Taking<'_> {
         match arrival {
             Arrival::Stimulus(row) => self.take_stimulus(row, meter, emits),
             Arrival::Timer(instance) => Ok(self.take_timer(instance, emits)?),
-            Arrival::Message(message) => self.take_message(message, meter, emits),
+            Arrival::Message(message) => {
+                hold_carried(self.forest, self.system, &message.values);
+                self.arrive(message.target, meter, emits)
+            }
             Arrival::Local { target, .. } => self.arrive(target, meter, emits),
         }
     }
@@ -167,10 +110,13 @@ impl Taking<'_> {
         // The compiler drops the hint to inline a function that is too large with all that is always inlined into it. So
         // `arrive` is so inlined here once, for local events and for messages.
         //
-        // A call puts its result into memory, and then that of each arm would go there. So the call for a stimulus is in
-        // a function that reads the result, and that of the others stays in registers.
+        // A call puts its result into memory, and then that of each arm would go there. So that of the call for a
+        // stimulus is read, and that of the others stays in registers.
         let at = match event {
-            Event::Stimulus(row) => return self.take_stimulus_read(*row, meter, emits),
+            Event::Stimulus(row) => {
+                self.take_stimulus(*row, meter, emits)?;
+                return Ok(());
+            }
             Event::Timer(instance) => return Ok(self.take_timer(*instance, emits)?),
             Event::Arrival(message) => {
                 hold_carried(self.forest, self.system, &message.values);

@@ -131,38 +131,9 @@ impl Tree {
         // There are at most 256 resources, so that the number of one fits.
         system.facts();
         let key = arrival.key(tick, self.forest.resource as u32);
-        self.take_under(system, arrival, &key, meter, outbox)
-    }
-
-    /// The same as `take`, where the key of the event is made.
-    #[inline(always)]
-    #[tactic(auto, using(crate::proofs::Keys::keys))]
-    fn take_under(
-        &mut self,
-        system: &System,
-        arrival: Arrival<'_>,
-        key: &Key,
-        meter: &mut Meter,
-        outbox: &mut Outbox,
-    ) -> Result<(), Halt>
-        requires key { key.now ≡ key_at key.now.tick self.old.resource arrival }
-        requires event { IsEventIn system.now self.old.resource (event_in arrival) }
-        requires named { IsResource system.now self.old.resource }
-        requires early { key.now.tick ≤ 10 ^ 12 }
-        requires belongs { (w : World) × IsForest system.now self.old w × AreTyped system.now w }
-        requires typed { IsTypedEvent system.now (event_of system.now (event_in arrival)) }
-        ensures taken { HasTaken system.now key.now (event_in arrival.entry) self.old outbox.old meter.old.left result self.new meter.new.left outbox.new }
-        ensures outs { Remembered result (StillAreOuts system.now self.old outbox.old self.new outbox.new) }
-        ensures fewer { meter.new.left ≤ meter.old.left }
-        ensures resource { self.new.resource ≡ self.old.resource }
-
-        // Also where memory runs out.
-        ensures whole { (w : World) × IsForest system.now self.new w }
-    {
-        system.facts();
         let mut taking = Taking {
             system,
-            key,
+            key: &key,
             forest: &mut self.forest,
             outbox,
         };

@@ -1,4 +1,4 @@
-use Rattle.std.proofs.Common.{◌≡◌, refl, sym, ap, subst, ◌∙◌}
+use Rattle.std.proofs.Common.{◌≡◌, false, refl, sym, ap, subst, ◌∙◌, Result}
 use Rattle.std.specs.Prelude.{Some, slice_get}
 use Rattle.fb_types.specs.Blocks.{Basic, Composite}
 use Rattle.fb_types.specs.Flat.{kind_of}
@@ -6,6 +6,7 @@ use Rattle.fb_types.specs.Headline.{system_of}
 use Rattle.fb_types.specs.Numbers.{path_at}
 use Rattle.fb_types.specs.declared.library.BlockType.TheVariants as block
 use Rattle.fb_types.specs.declared.library.Library.{Library}
+use Rattle.fb_types.specs.declared.run.Halt.{Halt}
 use Rattle.fb_types.specs.declared.run.Target.{Target}
 use Rattle.std.specs.Option.{option_map}
 use Rattle.std.proofs.lemmas.Result.{on_ok_weaker}
@@ -70,15 +71,15 @@ arrive_event-requires-clause-index c = record { port = c.requires.target.port; s
 pub arrive_event-requires-clause-typed : goal.arrive_event-requires-clause-typed
 arrive_event-requires-clause-typed c = c.requires.typed
 
-pub arrive_basic_read-requires-clause-kind : goal.arrive_basic_read-requires-clause-kind
-arrive_basic_read-requires-clause-kind c =
+pub arrive_basic-requires-clause-kind : goal.arrive_basic-requires-clause-kind
+arrive_basic-requires-clause-kind c =
     let i = c.args.self.now.system.now in
     let declared : slice_get i.library.blocks c.in-Declared.index ≡ Some (block.Basic c.in-Some-Basic.block) =
     ap (λ (l : Library). slice_get l.blocks c.in-Declared.index) (sym c.library.ensures) ∙ sym c.in-Some-Basic.ensures.value ∙ ap Some c.in-Some-Basic.field-0-is in
     sym c.in-Declared.ensures ∙ ap (option_map kind_of) declared
 
-pub arrive_basic_read-requires-clause-one : goal.arrive_basic_read-requires-clause-one
-arrive_basic_read-requires-clause-one c = (c.requires.typed.0, c.requires.typed.1, c.requires.here)
+pub arrive_basic-requires-clause-one : goal.arrive_basic-requires-clause-one
+arrive_basic-requires-clause-one c = (c.requires.typed.0, c.requires.typed.1, c.requires.here)
 
 pub enter-requires-clause-composite : goal.enter-requires-clause-composite
 enter-requires-clause-composite c =
@@ -102,8 +103,8 @@ pub enter-requires-clause-index : goal.enter-requires-clause-index
 enter-requires-clause-index c =
     subst (λ (t : Target). MayArrive c.args.self.now t) (at_input c.args.at c.if-at.false) (record { port = c.requires.target.port; stands = record { here = c.requires.here; whole = (c.requires.typed.0, c.requires.typed.1) }; ready = c.requires.ready })
 
-pub arrive_basic_read-requires-clause-index : goal.arrive_basic_read-requires-clause-index
-arrive_basic_read-requires-clause-index c =
+pub arrive_basic-requires-clause-index : goal.arrive_basic-requires-clause-index
+arrive_basic-requires-clause-index c =
     let i = c.args.self.now.system.now in
     let declared : slice_get i.library.blocks c.in-Declared.index ≡ Some (block.Basic c.in-Some-Basic.block) =
     ap (λ (l : Library). slice_get l.blocks c.in-Declared.index) (sym c.library.ensures) ∙ sym c.in-Some-Basic.ensures.value ∙ ap Some c.in-Some-Basic.field-0-is in
@@ -117,5 +118,7 @@ returns-in-Some-Basic-clause-reacted c =
     let declared : slice_get i.library.blocks c.in-Declared.index ≡ Some (block.Basic c.in-Some-Basic.block) =
     ap (λ (l : Library). slice_get l.blocks c.in-Declared.index) (sym c.library.ensures) ∙ sym c.in-Some-Basic.ensures.value ∙ ap Some c.in-Some-Basic.field-0-is in
     let is : (system_of i).kind (path_at (system_of i) c.args.at.instance) ≡ Some (Basic c.in-Some-Basic.block) = sym c.in-Declared.ensures ∙ ap (option_map kind_of) declared in
-    subst (λ (t : Target). HasArrived c.args.self.now t c.args.meter.now.left c.arrive_basic_read.result c.arrive_basic_read.new.self c.arrive_basic_read.new.meter.left)
-    (sym (at_input c.args.at (basic_input (system_of i) c.args.at _ c.requires.target is))) c.arrive_basic_read.ensures.reacted
+    subst (λ (t : Target). HasArrived c.args.self.now t c.args.meter.now.left c.result.result c.arrive_basic.new.self c.arrive_basic.new.meter.left)
+    (sym (at_input c.args.at (basic_input (system_of i) c.args.at _ c.requires.target is)))
+    (subst (λ (r : Result (Unit {0}) Halt). HasArrived c.args.self.now (record { instance = c.args.at.instance; event = c.args.at.event; is_output = false }) c.args.meter.now.left r c.arrive_basic.new.self c.arrive_basic.new.meter.left)
+    (sym c.result.ensures) c.arrive_basic.ensures.reacted)

@@ -30,7 +30,7 @@ returns-in-Timer-clause-taken c =
 pub returns-in_err-take_timer-in-Timer-clause-taken : goal.returns-in_err-take_timer-in-Timer-clause-taken
 returns-in_err-take_timer-in-Timer-clause-taken c =
     let left = c.args.meter.now.left in
-    let memory = err_from_is_err_and c.from_residual.result c.from_residual.ensures.1 in
+    let memory = err_from_is_err_and c.from_residual-in_err-take_timer-in-Timer.result c.from_residual-in_err-take_timer-in-Timer.ensures.1 in
     rw (memory.1, memory.2)
     (subst (λ (e : Event). WasTaken c.args.self.now e left (Err halt.Memory) c.take_timer.new.self left) (sym c.in-Timer.is)
     (record { taken = tt; outs = tt; fewer = omega arith; kept = c.take_timer.ensures.kept }))
@@ -123,8 +123,8 @@ arrive-requires-clause-typed c =
           subst (λ (t : Taking). AreTypedAt t.system.now t.forest.now) (sym w.self-is) c.requires.belongs
     ]
 
-pub take_stimulus_read-requires : goal.take_stimulus_read-requires
-take_stimulus_read-requires c = subst (λ (e : Event). MayTake c.args.self.now e) c.in-Stimulus.is c.requires
+pub take_stimulus-requires : goal.take_stimulus-requires
+take_stimulus-requires c = subst (λ (e : Event). MayTake c.args.self.now e) c.in-Stimulus.is c.requires
 
 pub take_timer-requires : goal.take_timer-requires
 take_timer-requires c = subst (λ (e : Event). MayTake c.args.self.now e) c.in-Timer.is c.requires

@@ -9,7 +9,7 @@ use Rattle.fb_system.specs.Lines.{IsEmission}
 use Rattle.fb_net.specs.Steps.{EmitsWell, ports_in}
 use Rattle.fb_net.proofs.Emitting.{others_fit}
 use Rattle.fb_net.proofs.Same.{emitted-after, kept-after, may-emit-again, still}
-use Rattle.fb_net.proofs.taking.Taking.emit_each.Goals as goal
+use Rattle.fb_net.proofs.taking.Taking.emit_rest.Goals as goal
 
 pub emit_one-requires-clause-emission : goal.emit_one-requires-clause-emission
 emit_one-requires-clause-emission c =

@@ -5,7 +5,7 @@ use Rattle.fb_net.specs.Outs.{StillAreOuts}
 use Rattle.fb_net.specs.Worlds.{IsForest}
 use Rattle.fb_net.specs.declared.outbox.Outbox.{Outbox}
 use Rattle.fb_net.specs.declared.resource.Forest.{Forest}
-use Rattle.fb_net.proofs.tree.Tree.take_under.Goals as goal
+use Rattle.fb_net.proofs.tree.Tree.take.Goals as goal
 
 pub invariant_of-self : goal.invariant_of-self
 invariant_of-self c =
