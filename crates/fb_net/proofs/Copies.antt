@@ -150,7 +150,7 @@ side_starts sys x = of x.is_output
     of false = refl
 
 -- the value of one of them
-starts_there : (sys : System) (x y : InstanceVariable) → place_of y ≡ place_of x → IsVariable sys y → (vs : List Value) → vs ≡ starts sys x → slice_get vs y.variable ≡ Some (sys.initial (variable_of sys y))
+pub starts_there : (sys : System) (x y : InstanceVariable) → place_of y ≡ place_of x → IsVariable sys y → (vs : List Value) → vs ≡ starts sys x → slice_get vs y.variable ≡ Some (sys.initial (variable_of sys y))
 starts_there sys x y place is vs start =
     let once = place_once x y (sym place) in
     let same : starts sys x ≡ starts sys y = λ j. starts sys (record { instance = once.0 j; variable = y.variable; is_output = once.1 j }) in

@@ -27,19 +27,6 @@ fn initials(
     }
 }
 
-/// What a variable begins with.
-fn initial(alloc: Global, system: &System, variable: InstanceVariable) -> Result<Value, AllocError>
-    requires { IsVariable system.now variable }
-    ensures { IfOk result (λ v. v ≡ initial_at system.now (variable_of system.now variable)) }
-{
-    let values = if variable.is_output {
-        system.initial_outputs(alloc, variable.instance)?
-    } else {
-        system.initial_inputs(alloc, variable.instance)?
-    };
-    Ok(values.as_slice()[variable.variable as usize])
-}
-
 /// Holds copies of the variables on the side of its instance on which a variable is, each with what it begins with,
 /// unless there are some.
 fn hold_side(
@@ -52,13 +39,14 @@ fn hold_side(
     ensures here { OnOk result (held_at held.new variable ≡ Some (initial_at system.now (variable_of system.now variable))) }
     ensures kept { OnOk result (KeepsInitial system.now held.old held.new) }
 {
-    if let Some(_) = held.get(&variable) {
-        let value = initial(alloc, system, variable)?;
-        held.set(&variable, value);
-        return Ok(());
-    }
     let values = initials(alloc, system, variable)?;
-    held.add(&variable, values)
+    match held.get(&variable) {
+        Some(_) => {
+            held.set(&variable, values.as_slice()[variable.variable as usize]);
+            Ok(())
+        }
+        None => held.add(&variable, values),
+    }
 }
 
 /// Holds a copy of what a variable is connected to, where that is in another resource.
