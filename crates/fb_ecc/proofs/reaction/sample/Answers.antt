@@ -17,3 +17,9 @@ returns-in-Some-clause-sampled c = λ names are.
     let at = alone (declared_in c.args.frame.now) names c.args.slots.now are one in
     let wrote = written_there _ at.0 v vars (values_of c.put_at.new.self) c.args.frame.now c.put_at.new.self c.put_at.ensures.value at.1 in
     wrote ∙ sym (ap (λ (ns : List Name). with_values (pair_up ns c.args.values.now) vars) at.2 ∙ alone_value at.0.0 c.args.values.now v vars there)
+
+pub returns-clause-sampled : goal.returns-clause-sampled
+returns-clause-sampled c = c.sample_all.ensures.sampled
+
+pub returns-clause-declared : goal.returns-clause-declared
+returns-clause-declared c = c.sample_all.ensures.declared
