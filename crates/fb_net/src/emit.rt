@@ -555,38 +555,26 @@ impl Taking<'_> {
         ensures same { IsSame self.old self.new }
     {
         match emits.only() {
-            Some((event, value)) => self.emit_with_one(instance, event, value),
+            Some((event, value)) => {
+                let from = Target {
+                    instance,
+                    event,
+                    is_output: true,
+                };
+                if let Some(port) = self.system.kept_port(from) {
+                    if let With::One(variable, _) = &port.with {
+                        return self.emit_value(instance, event, &port.first, *variable, value);
+                    }
+                }
+                self.emit_one_value_by_tables(instance, event, value)
+            }
             None => self.emit_all(instance, emits),
         }
     }
 
-    /// Emits one output event with one value. Errors are as of `emit_one`.
-    #[inline(always)]
-    fn emit_with_one(&mut self, instance: u32, event: u32, value: &Value) -> Result<(), AllocError>
-        requires index { MayEmit self.old instance }
-        requires emission { IsEmission (ports_in self.old instance) (record { event = event; values = value.now ∷ [] }) }
-        ensures emitted { OnOk result (EmitsWell self.old instance (record { event = event; values = value.now ∷ [] } ∷ []) self.new) }
-
-        // Also where memory runs out.
-        ensures kept { IsKept self.old self.new }
-        ensures same { IsSame self.old self.new }
-    {
-        let from = Target {
-            instance,
-            event,
-            is_output: true,
-        };
-        if let Some(port) = self.system.kept_port(from) {
-            if let With::One(variable, _) = &port.with {
-                return self.emit_value(instance, event, &port.first, *variable, value);
-            }
-        }
-        self.emit_with_one_by_tables(instance, event, value)
-    }
-
-    /// The same as `emit_with_one`, at a port that has no row.
+    /// Emits one output event with one value at a port that has no row. Errors are as of `emit_one`.
     #[inline(never)]
-    fn emit_with_one_by_tables(
+    fn emit_one_value_by_tables(
         &mut self,
         instance: u32,
         event: u32,

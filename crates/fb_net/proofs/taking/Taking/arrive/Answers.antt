@@ -14,7 +14,8 @@ use Rattle.fb_laws.proofs.Accepted.{accepted_typed}
 use Rattle.fb_net.specs.Arrivals.{Arrives, entering, leaving, reacting}
 use Rattle.fb_net.proofs.PortRows.{at_input, at_output, basic_input}
 use Rattle.fb_net.proofs.Crossing.{composite-enters, composite-leaves, done-reacted, event-arrives, reacted-ended, reacting-left, reacting-stop, remembered-ended}
-use Rattle.fb_net.specs.Steps.{HasArrived, HasDone, MayArrive}
+use Rattle.fb_net.specs.Events.{Remembered}
+use Rattle.fb_net.specs.Steps.{ArePutOut, HasArrived, HasDone, MayArrive}
 use Rattle.fb_net.proofs.taking.Taking.arrive.Goals as goal
 
 pub arrive_event-requires-clause-sound : goal.arrive_event-requires-clause-sound
@@ -122,3 +123,7 @@ returns-in-Some-Basic-clause-reacted c =
     (sym (at_input c.args.at (basic_input (system_of i) c.args.at _ c.requires.target is)))
     (subst (λ (r : Result (Unit {0}) Halt). HasArrived c.args.self.now (record { instance = c.args.at.instance; event = c.args.at.event; is_output = false }) c.args.meter.now.left r c.arrive_basic.new.self c.arrive_basic.new.meter.left)
     (sym c.result.ensures) c.arrive_basic.ensures.reacted)
+
+pub returns-in-Some-Basic-clause-outs : goal.returns-in-Some-Basic-clause-outs
+returns-in-Some-Basic-clause-outs c =
+    subst (λ (r : Result (Unit {0}) Halt). Remembered r (ArePutOut c.args.self.now c.arrive_basic.new.self)) (sym c.result.ensures) c.arrive_basic.ensures.outs

@@ -3,7 +3,7 @@ use Rattle.std.proofs.lemmas.Result.{on_ok_weaker}
 use Rattle.fb_types.specs.declared.value.Value.{Value}
 use Rattle.fb_system.specs.Lines.{IsEmission}
 use Rattle.fb_net.specs.Steps.{EmitsWell, ports_in}
-use Rattle.fb_net.proofs.taking.Taking.emit_with_one_by_tables.Goals as goal
+use Rattle.fb_net.proofs.taking.Taking.emit_one_value_by_tables.Goals as goal
 
 pub emit_by_tables-requires-clause-emission : goal.emit_by_tables-requires-clause-emission
 emit_by_tables-requires-clause-emission c =
