@@ -53,25 +53,10 @@ pub fn holds_compiled(
     ensures { result ≡ truth_of (expr_of guard.now) (values_of frame.now) }
 {
     match compiled {
-        Some(compiled) => holds_code(guard, compiled, layout, frame),
-        None => holds(guard, frame),
-    }
-}
-
-/// The same as `holds_compiled`, with a compiled form.
-#[inline(always)]
-fn holds_code(
-    guard: &Expr,
-    compiled: &TruthExpr,
-    layout: &Layout,
-    frame: &Frame,
-) -> Result<bool, Reason>
-    requires layout { layout.now ≡ declared_in frame.now }
-    requires says { SaysTruth layout.now (expr_of guard.now) compiled.now }
-    ensures { result ≡ truth_of (expr_of guard.now) (values_of frame.now) }
-{
-    match frame.holds_condition(compiled, layout) {
-        Some(result) => result,
+        Some(compiled) => match frame.holds_condition(compiled, layout) {
+            Some(result) => result,
+            None => holds(guard, frame),
+        },
         None => holds(guard, frame),
     }
 }

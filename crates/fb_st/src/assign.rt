@@ -59,7 +59,7 @@ pub struct Count {
     pub step: Value,
 }
 
-/// Whether a value of the variable of FOR has passed the end. With step 0 none has.
+/// Whether a value of the variable of FOR has passed the end.
 #[inline(always)]
 pub fn has_passed(count: Count, value: Value) -> bool
     ensures { result ≡ passed (whole count.end) (whole count.step) (whole value) }
@@ -67,8 +67,9 @@ pub fn has_passed(count: Count, value: Value) -> bool
     is_past(whole_of(count.end), whole_of(count.step), whole_of(value))
 }
 
+/// Whether a number has passed the end. With step 0 none has.
 #[inline(always)]
-fn is_past(end: i128, step: i128, number: i128) -> bool
+pub(crate) fn is_past(end: i128, step: i128, number: i128) -> bool
     ensures { result ≡ passed end step number }
 {
     if 0 < step {

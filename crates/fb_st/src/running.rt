@@ -10,7 +10,7 @@ ghost use Rattle.fb_st.specs.Flows.{end_of};
 ghost use Rattle.fb_st.specs.Compiled.{number_said, truth_said, number_at, truth_at, fits_number, fits_truth, word_at};
 ghost use Rattle.fb_st.specs.Fitting.{spot, begun, values_at, name_at, expr_of_number, expr_of_truth, is_long_type, is_within_type, is_truth_type, right_number, right_truth, code_said, codes_said, arms_said, forks_said, code_right, codes_right, arms_right, forks_right, count_right};
 
-use crate::assign::is_any_around;
+use crate::assign::{is_any_around, is_past};
 use crate::compiled::{
     CompiledBranch, CompiledChoice, CompiledStmt, CountExpr, NumberExpr, TruthExpr,
 };
@@ -516,18 +516,6 @@ pub(crate) struct Span {
     pub step: i128,
 }
 
-/// Whether a value of the variable of FOR has passed the end. With step 0 none has.
-#[inline(always)]
-fn has_passed(span: Span, number: i128) -> bool
-    ensures { result ≡ passed span.end span.step number }
-{
-    if 0 < span.step {
-        span.end < number
-    } else {
-        span.step < 0 && number < span.end
-    }
-}
-
 /// FOR: start, end and step are evaluated once, in this order, before the variable has its first value.
 #[cycle(running)]
 #[inline(never)]
@@ -550,14 +538,14 @@ fn run_for(
     let end = number(&count.end, words)?;
     let step = number(&count.step, words)?;
     words[count.slot] = layout.word_of(count.slot, first)?;
-    let span = Span { end, step };
-    if has_passed(span, first) {
+    if is_past(end, step, first) {
         return Ok(Flow::Went);
     }
+    let span = Span { end, step };
     run_counts(count, span, body, layout, words, meter)
 }
 
-/// The same as `has_passed`, for numbers of 64 bits.
+/// The same as `is_past`, for numbers of 64 bits.
 #[inline(always)]
 fn has_passed_short(end: i64, step: i64, number: i64) -> bool
     ensures { result ≡ passed end step number }
@@ -637,7 +625,7 @@ fn next_of(span: Span, number: i128) -> Option<i128>
     ensures past { result ≡ None → passed span.end span.step (number +ℤ span.step) ≡ true }
 {
     match number.checked_add(span.step) {
-        Some(next) if !has_passed(span, next) => Some(next),
+        Some(next) if !is_past(span.end, span.step, next) => Some(next),
         // a sum outside 128 bits has passed the end, which is within
         _ => None,
     }

@@ -734,7 +734,7 @@ run_for-run_counts-requires t c =
     let wide_end : SFits w128 c.in_ok-end.end = search rules in
     let wide_step : SFits w128 c.in_ok-step.step = search rules in
     let stands = ap (λ o. value_of_word (ty_or o) z) (sym at.1) ∙ yes.1 in
-    let past = rw (to_z-of_z wide_end, to_z-of_z wide_step, to_z-of_z wide) at c.has_passed.ensures in (
+    let past = rw (to_z-of_z wide_end, to_z-of_z wide_step, to_z-of_z wide) at c.is_past.ensures in (
       search rules,
       (
         search rules,
@@ -746,15 +746,15 @@ run_for-run_counts-requires t c =
               parts.within,
               rw (to_z-of_z fit, to_z-of_z wide_end, to_z-of_z wide_step)
                   (ap (passed c.in_ok-end.end c.in_ok-step.step) (first_read ds c.args.words.now c.requires.fit c.requires.once k.slot at.0 at.1 z c.in_ok-first.first stands)
-                  ∙ sym past ∙ c.if-has_passed.false),
+                  ∙ sym past ∙ c.if-is_past.false),
             ),
           ),
         ),
       ),
     )
 
-pub run_for-returns-then-has_passed-clause-run : goal.run_for-returns-then-has_passed-clause-run
-run_for-returns-then-has_passed-clause-run t c =
+pub run_for-returns-then-is_past-clause-run : goal.run_for-returns-then-is_past-clause-run
+run_for-returns-then-is_past-clause-run t c =
     let ds = c.args.layout.now in
     let ws = c.args.words.now in
     let k = c.args.count.now in
@@ -772,7 +772,7 @@ run_for-returns-then-has_passed-clause-run t c =
     let yes = rw (to_z-of_z wide) at c.in_ok-words.ensures.ok in
     let wide_end : SFits w128 c.in_ok-end.end = search rules in
     let wide_step : SFits w128 c.in_ok-step.step = search rules in
-    let past = rw (to_z-of_z wide_end, to_z-of_z wide_step, to_z-of_z wide) at c.has_passed.ensures in
+    let past = rw (to_z-of_z wide_end, to_z-of_z wide_step, to_z-of_z wide) at c.is_past.ensures in
     let stands = ap (λ o. value_of_word (ty_or o) z) (sym at.1) ∙ yes.1 in
     let ha = number_comes ds ws c.requires.fit c.requires.once (number_said k.start) parts.start ∙ ap as_whole (sym c.number.ensures ∙ c.in_ok-first.was) in
     let hb = number_comes ds ws c.requires.fit c.requires.once (number_said k.end) parts.end ∙ ap as_whole (sym c.number-2.ensures ∙ c.in_ok-end.was) in
@@ -784,7 +784,7 @@ run_for-returns-then-has_passed-clause-run t c =
     let test : Values → Result Bool Reason = λ vars. Ok (not (passed end step (whole (vars n)))) in
     let over : test after ≡ Ok false =
     ap (λ x. Ok (not (passed end step x))) (first_read ds ws c.requires.fit c.requires.once k.slot at.0 at.1 z first stands)
-    ∙ ap (λ b. Ok (not b)) (sym past ∙ c.if-has_passed.true) in
+    ∙ ap (λ b. Ok (not b)) (sym past ∙ c.if-is_past.true) in
     rw (to_z-of_z fit)
     (for_counts T n (expr_of_number ds (number_said k.start)) (expr_of_number ds (number_said k.end)) (expr_of_number ds (number_said k.step)) body (values_at ds ws) after c.args.meter.now.left
     (value.Whole first) (value.Whole end) (value.Whole step) end step Went q ha hb hc refl refl fit_type
