@@ -2,6 +2,7 @@
 
 ghost use Rattle.std.specs.Prelude.{◌≡◌, ◌∷◌, [], ◌≤◌, ◌^◌, All, false, true, length, IfErr, OnOk, Some};
 ghost use Rattle.fb_types.specs.Blocks.{Basic, Event};
+ghost use Rattle.fb_event.specs.Reactions.{PassesTo};
 ghost use Rattle.fb_net.specs.Arrivals.{AreTypedAt, entering, leaving, reacting, sampling};
 ghost use Rattle.fb_net.specs.Events.{Remembered};
 ghost use Rattle.fb_net.specs.Leaves.{IsOne};
@@ -125,6 +126,25 @@ impl Taking<'_> {
         write_taken(self.outbox, self.system, self.key, at, values)
     }
 
+    /// An event arrives at an event input of an event block that only passes events on. No block is looked up.
+    #[inline(always)]
+    fn pass_on(&mut self, kind: EventKind, at: Target, event: u32) -> Result<(), AllocError>
+        requires index { MayArrive self.old at }
+        requires input { at.is_output ≡ false }
+        requires kind { HasKind self.old at.instance (Event kind) }
+        requires passes { PassesTo kind event }
+        ensures reacted { OnOk result (HasDone (reacting self.old.system.now self.old.key.now kind at) self.old self.new) }
+        ensures outs { OnOk result (ArePutOut self.old self.new) }
+
+        // Also where memory runs out.
+        ensures kept { IsKept self.old self.new }
+        ensures same { IsSame self.old self.new }
+    {
+        let values = Values::new(*self.outbox.lines.allocator());
+        write_taken(self.outbox, self.system, self.key, at, values)?;
+        self.emit_bare(at.instance, event)
+    }
+
     /// An event arrives at an event input of an event block. `emits` is room for what it emits.
     ///
     /// # Errors
@@ -145,22 +165,41 @@ impl Taking<'_> {
         ensures only_memory { IfErr result (λ halt. halt ≡ Halt.Memory) }
     {
         match passes_to(kind) {
-            // It only passes events on: no block is looked up.
-            Some(event) => {
-                let values = Values::new(*self.outbox.lines.allocator());
-                write_taken(self.outbox, self.system, self.key, at, values)?;
-                Ok(self.emit_bare(at.instance, event)?)
-            }
-            None => {
-                self.take_samples(at)?;
-                emits.clear();
-                let mut ask = TimerAsk::Keep;
-                let tick = self.key.tick;
-                react_event(self.forest, self.system, kind, at, tick, emits, &mut ask)?;
-                self.outbox.ask_timer(ask);
-                Ok(self.emit_all(at.instance, emits)?)
-            }
+            Some(event) => Ok(self.pass_on(kind, at, event)?),
+            None => self.sample_and_react(kind, at, emits),
         }
+    }
+
+    /// An event arrives at an event input of an event block that does more than pass events on. Parameter and errors are
+    /// as of `arrive_event`.
+    #[inline(always)]
+    fn sample_and_react(
+        &mut self,
+        kind: EventKind,
+        at: Target,
+        emits: &mut Emits,
+    ) -> Result<(), Halt>
+        requires index { MayArrive self.old at }
+        requires input { at.is_output ≡ false }
+        requires kind { HasKind self.old at.instance (Event kind) }
+        requires sound { IsTypedSystem self.old.system.now }
+        requires typed { AreTypedAt self.old.system.now self.old.forest.now }
+        ensures reacted { OnOk result (HasDone (reacting self.old.system.now self.old.key.now kind at) self.old self.new) }
+        ensures outs { OnOk result (ArePutOut self.old self.new) }
+
+        // Also where memory runs out.
+        ensures kept { IsKept self.old self.new }
+        ensures same { IsSame self.old self.new }
+        ensures only_memory { IfErr result (λ halt. halt ≡ Halt.Memory) }
+    {
+        self.take_samples(at)?;
+        emits.clear();
+        let mut ask = TimerAsk::Keep;
+        let tick = self.key.tick;
+        react_event(self.forest, self.system, kind, at, tick, emits, &mut ask)?;
+        self.outbox.ask_timer(ask);
+        self.emit_all(at.instance, emits)?;
+        Ok(())
     }
 
     /// The same as `take_samples`, where it is known which variables are WITH the event: mostly one, and then nothing is

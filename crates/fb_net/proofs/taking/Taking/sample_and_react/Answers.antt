@@ -1,78 +1,23 @@
-use Rattle.std.proofs.Common.{◌<◌, cond, [], ◌∷◌, length, refl, sym, ap, subst, ◌∙◌, ◌≡◌, Some}
-use Rattle.fb_types.specs.Headline.{system_of, Inputs}
-use Rattle.fb_types.specs.Numbers.{path_at, ports_at}
-use Rattle.fb_types.specs.declared.run.TimerAsk.TheVariants.{Keep}
-use Rattle.fb_net.specs.Emitting.{bare, EmitsSo}
-use Rattle.fb_net.specs.Samples.{names_in}
-use Rattle.fb_net.proofs.Arriving.{event-reacts, event-typed, ports-of_event}
-use Rattle.fb_net.proofs.Changing.{samples_none}
-use Rattle.fb_net.proofs.PassingOn.{is_emission, no_names, nothing_sampled, passed_came}
-use Rattle.fb_net.proofs.PutOut.{lines-put, timer-asked}
-use Rattle.fb_net.proofs.Sampling.{sampling-represents}
-use Rattle.fb_net.proofs.Wholes.{kept-same, kept-then, kept-world}
-use Rattle.fb_net.proofs.taking.Taking.arrive_event.Goals as goal
+use Rattle.std.proofs.Common.{◌≡◌, ◌<◌, Some, length, sym, subst, ◌∙◌}
 use Rattle.std.specs.Prelude.{All}
 use Rattle.fb_types.specs.Blocks.{Event}
+use Rattle.fb_types.specs.Headline.{Inputs, system_of}
+use Rattle.fb_types.specs.Numbers.{path_at, ports_at}
 use Rattle.fb_types.specs.Reactions.{World}
 use Rattle.fb_types.specs.declared.key.Key.{Key}
 use Rattle.fb_system.specs.Lines.{IsEmission}
 use Rattle.fb_system.specs.Ports.{IsPort}
 use Rattle.fb_net.specs.Worlds.{InForest, IsForest}
+use Rattle.fb_net.specs.Emitting.{EmitsSo}
 use Rattle.fb_net.specs.Leaves.{EventCame, HasTypedInputs, taken_reaction}
 use Rattle.fb_net.specs.Outs.{asked}
 use Rattle.fb_net.specs.declared.outbox.Outbox.{Outbox}
 use Rattle.fb_net.specs.Steps.{AreKept}
+use Rattle.fb_net.proofs.Arriving.{event-reacts, event-typed, ports-of_event}
+use Rattle.fb_net.proofs.PutOut.{timer-asked}
 use Rattle.fb_net.proofs.Same.{already, put-out-after, still}
-
-pub write_taken-requires-clause-port : goal.write_taken-requires-clause-port
-write_taken-requires-clause-port c = c.requires.index.port
-
-pub write_taken-requires-clause-line : goal.write_taken-requires-clause-line
-write_taken-requires-clause-line c =
-    let t = c.args.self.now in
-    let sys = system_of t.system.now in
-    let its = ports_at sys (path_at sys c.args.at.instance) in
-    record {
-      instance = c.requires.index.port.instance;
-      resource = t.named;
-      event = subst (λ b. c.args.at.event < length (cond b its.event_outputs its.event_inputs)) c.requires.input c.requires.index.port.event;
-      values = ap length c.new-values.ensures ∙ sym (ap length (no_names t.system.now t.forest.now c.args.kind c.args.at c.in-Some.event c.in-Some.ensures c.requires.kind));
-    }
-
-pub emit_bare-requires-clause-index : goal.emit_bare-requires-clause-index
-emit_bare-requires-clause-index c =
-    record { number = c.requires.index.port.instance; stands = c.requires.index.stands; resource = c.requires.index.ready.resource }
-
-pub emit_bare-requires-clause-emission : goal.emit_bare-requires-clause-emission
-emit_bare-requires-clause-emission c =
-    let t = c.args.self.now in is_emission t.system.now t.forest.now c.args.kind c.args.at c.in-Some.event c.in-Some.ensures c.requires.kind
-
-pub returns-in_ok-emit_bare-in-Some-clause-reacted : goal.returns-in_ok-emit_bare-in-Some-clause-reacted
-returns-in_ok-emit_bare-in-Some-clause-reacted c =
-    let t = c.args.self.now in
-    let i = t.system.now in
-    let k = t.key.now in
-    let f = t.forest.now in
-    let x = t.outbox.now in
-    let y = c.write_taken.new.outbox in
-    let at = c.args.at in
-    let values = c.new-values.result in
-    let passes = c.in-Some.ensures in
-    let sampled = nothing_sampled i f c.args.kind at c.in-Some.event passes c.requires.kind values c.new-values.ensures in
-    let kept = samples_none i f at.instance (names_in (system_of i) at) values (ap length c.new-values.ensures) in
-    let taken = sampling-represents i k at f f x y values c.requires.index.ready c.requires.input c.requires.index.stands.here sampled kept
-    c.in_ok-write_taken-in-Some.ensures.written c.write_taken.ensures.outs c.write_taken.ensures.timer in
-    event-reacts i k c.args.kind at c.requires.kind c.requires.input f f f c.emit_bare.new.self.forest.now x y c.emit_bare.new.self.outbox.now Keep (bare c.in-Some.event ∷ []) taken
-    c.requires.index.stands.here (passed_came i f c.args.kind at c.in-Some.event passes c.requires.kind c.requires.index.port.instance k.tick) c.in_ok-emit_bare-in-Some.ensures.emitted.emitted
-
-pub returns-in_ok-emit_bare-in-Some-clause-outs : goal.returns-in_ok-emit_bare-in-Some-clause-outs
-returns-in_ok-emit_bare-in-Some-clause-outs c =
-    let t = c.args.self.now in
-    let f = t.forest.now in
-    λ were. c.in_ok-emit_bare-in-Some.ensures.emitted.outs (lines-put t.system.now f f t.outbox.now c.write_taken.new.outbox refl c.write_taken.ensures.outs c.in_ok-write_taken-in-Some.ensures.lines were)
-
-pub returns-in_err-write_taken-in-Some-clause-kept : goal.returns-in_err-write_taken-in-Some-clause-kept
-returns-in_err-write_taken-in-Some-clause-kept c = kept-same c.args.self.now.system.now c.args.self.now.forest.now
+use Rattle.fb_net.proofs.Wholes.{kept-then, kept-world}
+use Rattle.fb_net.proofs.taking.Taking.sample_and_react.Goals as goal
 
 pub react_event-requires-clause-port : goal.react_event-requires-clause-port
 react_event-requires-clause-port c =
@@ -89,14 +34,14 @@ react_event-requires-clause-typed c =
     let b = c.take_samples.new.self in
     still (λ (i : Inputs) (k : Key). (w : World) × IsForest i b.forest.now w × InForest i b.forest.now c.args.at.instance × HasTypedInputs i c.args.kind c.args.at.instance w) a b c.take_samples.ensures.same
     (event-typed a.system.now a.key.now c.args.kind c.args.at c.requires.kind c.requires.input a.forest.now b.forest.now
-    a.outbox.now b.outbox.now c.in_ok-take_samples-in-None.ensures.taken c.requires.sound c.requires.typed (c.requires.index.stands.here ∙ sym c.take_samples.ensures.kept.resource))
+    a.outbox.now b.outbox.now c.in_ok-take_samples.ensures.taken c.requires.sound c.requires.typed (c.requires.index.stands.here ∙ sym c.take_samples.ensures.kept.resource))
 
 pub emit_all-requires-clause-index : goal.emit_all-requires-clause-index
 emit_all-requires-clause-index c =
     let a = c.args.self.now in
     let b = c.take_samples.new.self in
     let g = c.react_event.new.forest in
-    let ready = c.in_ok-take_samples-in-None.ensures.ready in
+    let ready = c.in_ok-take_samples.ensures.ready in
     let resource = sym c.react_event.ensures.resource in
     record {
       number = still (λ (i : Inputs) (k : Key). c.args.at.instance < length (system_of i).paths) a b c.take_samples.ensures.same c.requires.index.port.instance;
@@ -114,8 +59,8 @@ emit_all-requires-clause-emissions c =
     still (λ (i : Inputs) (k : Key). All (IsEmission (ports_at (system_of i) (path_at (system_of i) c.args.at.instance))) c.react_event.new.emits) a b c.take_samples.ensures.same
     (ports-of_event a.system.now c.args.kind c.args.at.instance c.requires.kind c.react_event.new.emits c.react_event.ensures.emissions)
 
-pub returns-in_ok-emit_all-in-None-clause-reacted : goal.returns-in_ok-emit_all-in-None-clause-reacted
-returns-in_ok-emit_all-in-None-clause-reacted c =
+pub returns-clause-reacted : goal.returns-clause-reacted
+returns-clause-reacted c =
     let a = c.args.self.now in
     let b = c.take_samples.new.self in
     let z = c.emit_all.new.self in
@@ -125,22 +70,22 @@ returns-in_ok-emit_all-in-None-clause-reacted c =
     let emits = c.react_event.new.emits in
     let same = c.take_samples.ensures.same in
     event-reacts a.system.now a.key.now c.args.kind at c.requires.kind c.requires.input a.forest.now b.forest.now late z.forest.now a.outbox.now b.outbox.now z.outbox.now ask emits
-    c.in_ok-take_samples-in-None.ensures.taken (c.requires.index.stands.here ∙ sym c.take_samples.ensures.kept.resource)
+    c.in_ok-take_samples.ensures.taken (c.requires.index.stands.here ∙ sym c.take_samples.ensures.kept.resource)
     (already (λ (i : Inputs) (k : Key). (w : World) → IsForest i b.forest.now w → InForest i b.forest.now at.instance → EventCame i at.instance c.args.kind (taken_reaction i c.args.kind at k.tick w) late ask emits w) a b same
-    c.in_ok-react_event-in-None.ensures.reacted)
+    c.in_ok-react_event.ensures.reacted)
     (already (λ (i : Inputs) (k : Key). EmitsSo i k at.instance late (record b.outbox.now { timer = asked b.outbox.now.timer ask }) emits z.forest.now z.outbox.now) a b same
-    (subst (λ (x : Outbox). EmitsSo b.system.now b.key.now at.instance late x emits z.forest.now z.outbox.now) c.ask_timer.ensures c.in_ok-emit_all-in-None.ensures.emitted))
+    (subst (λ (x : Outbox). EmitsSo b.system.now b.key.now at.instance late x emits z.forest.now z.outbox.now) c.ask_timer.ensures c.in_ok-emit_all.ensures.emitted))
 
-pub returns-in_ok-emit_all-in-None-clause-outs : goal.returns-in_ok-emit_all-in-None-clause-outs
-returns-in_ok-emit_all-in-None-clause-outs c =
+pub returns-clause-outs : goal.returns-clause-outs
+returns-clause-outs c =
     let b = c.take_samples.new.self in
     let z = c.emit_all.new.self in
-    put-out-after c.args.self.now b z.forest.now z.outbox.now c.take_samples.ensures.same c.in_ok-take_samples-in-None.ensures.outs
-    (λ were. c.in_ok-emit_all-in-None.ensures.outs
+    put-out-after c.args.self.now b z.forest.now z.outbox.now c.take_samples.ensures.same c.in_ok-take_samples.ensures.outs
+    (λ were. c.in_ok-emit_all.ensures.outs
     (timer-asked b.system.now b.forest.now c.react_event.new.forest b.outbox.now _ _ c.react_event.ensures.resource c.ask_timer.ensures were))
 
-pub returns-in_ok-emit_all-in-None-clause-kept : goal.returns-in_ok-emit_all-in-None-clause-kept
-returns-in_ok-emit_all-in-None-clause-kept c =
+pub returns-clause-kept : goal.returns-clause-kept
+returns-clause-kept c =
     let a = c.args.self.now in
     let b = c.take_samples.new.self in
     let g = c.react_event.new.forest in
@@ -150,8 +95,8 @@ returns-in_ok-emit_all-in-None-clause-kept c =
     (kept-then b.system.now b.forest.now g c.emit_all.new.self.forest.now
     (kept-world b.system.now b.forest.now g c.react_event.ensures.resource c.react_event.ensures.whole) c.emit_all.ensures.kept))
 
-pub returns-in_err-react_event-in-None-clause-kept : goal.returns-in_err-react_event-in-None-clause-kept
-returns-in_err-react_event-in-None-clause-kept c =
+pub returns-in_err-react_event-clause-kept : goal.returns-in_err-react_event-clause-kept
+returns-in_err-react_event-clause-kept c =
     let a = c.args.self.now in
     let b = c.take_samples.new.self in
     let g = c.react_event.new.forest in
@@ -159,8 +104,8 @@ returns-in_err-react_event-in-None-clause-kept c =
     (already (λ (i : Inputs) (k : Key). AreKept i b.forest.now g) a b c.take_samples.ensures.same
     (kept-world b.system.now b.forest.now g c.react_event.ensures.resource c.react_event.ensures.whole))
 
-pub returns-in_err-emit_all-in-None-clause-kept : goal.returns-in_err-emit_all-in-None-clause-kept
-returns-in_err-emit_all-in-None-clause-kept c =
+pub returns-in_err-emit_all-clause-kept : goal.returns-in_err-emit_all-clause-kept
+returns-in_err-emit_all-clause-kept c =
     let a = c.args.self.now in
     let b = c.take_samples.new.self in
     let g = c.react_event.new.forest in
