@@ -14,7 +14,7 @@ mod drive;
 mod held;
 mod joining;
 mod marked;
-mod one_agenda;
+pub mod one_agenda;
 pub mod options;
 pub mod outcome;
 pub mod pace;
@@ -34,6 +34,7 @@ mod work;
 
 pub use fb_trace::Outcome;
 pub use fb_types::run::Form;
+pub use one_agenda::machine::Machine;
 pub use options::{Inputs, Options};
 pub use outcome::{Refusal, RunError};
 pub use pace::NoClock;

@@ -19,7 +19,7 @@ ghost use Rattle.fb_sim.specs.Rounds.{FailsRun, RunsOn};
 ghost use Rattle.fb_sim.specs.Serial.{AreWithin, Declares, Writes};
 
 mod deliver;
-mod machine;
+pub mod machine;
 mod open;
 mod pause;
 

@@ -40,6 +40,12 @@ left_as i s a limit k m left ready at named found =
     let here = at.here k.resource tree.0 found.0 tree.1 found.1 in
     found.2 ∙ sym (ap (λ (z : Meter). z.left) (here.meter limit k.tick (omega arith)))
 
+-- the counts of a resource, as they are read
+pub counts_at :
+    (ms : List TickCounts) (r limit tick : ℕ) (m : TickCounts) (left : ℕ) → r < length ms → m ≡ get_or ms r m → left ≡ (begun limit tick (meter_of m)).left
+    → (x : TickCounts) × (slice_get ms r ≡ Some x) × (left ≡ (begun limit tick (meter_of x)).left)
+counts_at ms r limit tick m left within read is = (m, slice_get_read ms (length ms) r m refl within read, is)
+
 -- the instance at which an event arrives is there
 pub instance_there : (sys : System) (e : Event) (at : EventSite) → ArrivesAt sys e at → instance_of at < length sys.paths
 instance_there sys e (Timer k) arrives = arrives.0

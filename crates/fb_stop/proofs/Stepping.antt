@@ -34,14 +34,12 @@ use Rattle.fb_system.specs.Ports.{IsTarget, events_at}
 use Rattle.fb_sim.specs.Machines.{IsAt, IsTaken}
 use Rattle.fb_sim.specs.declared.one_agenda.machine.Machine.{Machine}
 use Rattle.fb_stop.specs.Copies.{AreAllCopies, FollowsAt, HasLocated, HasStepped, IsCopy, IsFollowed, IsLocated, IsSiteBy, Stopping, begins_at}
-use Rattle.fb_stop.specs.Runs.{machine_of}
 use Rattle.fb_stop.specs.Found.{ArrivesAt, IsSite, StopsInBlock, port_in, start_at}
 use Rattle.fb_stop.specs.declared.found.EventSite.{EventSite}
 use Rattle.fb_stop.specs.declared.found.EventSite.TheVariants.{Timer, Port as AtPort}
 use Rattle.fb_stop.specs.declared.found.StopSite.{StopSite}
 use Rattle.fb_stop.specs.declared.found.StopSite.TheVariants.{InReaction}
 use Rattle.fb_stop.specs.declared.replay.Replay.{Replay}
-use Rattle.fb_stop.specs.declared.run.Run.{Run}
 use Rattle.fb_stop.specs.declared.site.Site.{Site}
 use Rattle.fb_stop.proofs.Following.{follows, never_rests, port_is, stops_there}
 use Rattle.fb_stop.proofs.Takings.{AtBasic, BasicTaking, basic_taking, keeps_block, stopping_basic, stops_before}
@@ -266,16 +264,16 @@ module _ (i : Inputs) (numbered : (n : ℕ) → n < length (system_of i).paths �
   stopping_if r stops at (Some left) counted arrives = stopping_at r stops left counted at arrives
 
 -- the run has taken an event that does not stop it
-pub has_stepped : (i : Inputs) (limit : ℕ) (s : State) (a : model.Agenda) (k : Key) (e : AnEvent) (o : Option Reason) (from : Machine) (mid : Run) (new : Replay)
-    → (t : IsTaken i limit s a k e o from (machine_of mid)) → o ≡ None → new.run ≡ mid → AreAllCopies i t.effect.state new.copies.items → HasStepped i limit s a k e new
+pub has_stepped : (i : Inputs) (limit : ℕ) (s : State) (a : model.Agenda) (k : Key) (e : AnEvent) (o : Option Reason) (from : Machine) (mid : Machine) (new : Replay)
+    → (t : IsTaken i limit s a k e o from mid) → o ≡ None → new.run ≡ mid → AreAllCopies i t.effect.state new.copies.items → HasStepped i limit s a k e new
 has_stepped i limit s a k e o from mid new t none run copies = record {
   from = from;
   taken = record {
     effect = t.effect;
     takes = t.takes;
     stops = t.stops ∙ none;
-    lines = ap (λ (r : Run). map (line_of (system_of i)) r.queues.outbox.lines.items) run ∙ t.lines;
-    at = subst (λ (r : Run). IsAt i t.effect.state (agenda_after k a t.effect) (machine_of r)) (sym run) t.at;
+    lines = ap (λ (r : Machine). map (line_of (system_of i)) r.queues.outbox.lines.items) run ∙ t.lines;
+    at = subst (λ (r : Machine). IsAt i t.effect.state (agenda_after k a t.effect) r) (sym run) t.at;
   };
   copies = copies;
 }

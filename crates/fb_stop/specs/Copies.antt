@@ -21,7 +21,6 @@ use Rattle.fb_sim.specs.Machines.{IsTaken}
 use Rattle.fb_sim.specs.declared.one_agenda.machine.Machine.{Machine}
 use Rattle.fb_stop.specs.Found.{IsSite, ArrivesAt}
 use Rattle.fb_stop.specs.Links.{HasReacted}
-use Rattle.fb_stop.specs.Runs.{machine_of}
 use Rattle.fb_stop.specs.declared.found.EventSite.{EventSite}
 use Rattle.fb_stop.specs.declared.found.EventSite.TheVariants.{Port as AtPort}
 use Rattle.fb_stop.specs.declared.found.FoundStop.{FoundStop}
@@ -136,7 +135,7 @@ IsSiteBy i at (Some left) lines copies x = (s : Site) × (x ≡ InReaction s) ×
 -- The run has taken an event that does not stop it, and the copies have reacted.
 pub record HasStepped (i : Inputs) (limit : ℕ) (s : State) (a : model.Agenda) (k : Key) (e : Event) (new : Replay) : Type 0 where
   pub from : Machine
-  pub taken : IsTaken i limit s a k e None from (machine_of new.run)
+  pub taken : IsTaken i limit s a k e None from new.run
   pub copies : AreAllCopies i taken.effect.state new.copies.items
 
 -- The event stops the run, there.

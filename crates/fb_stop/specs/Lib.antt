@@ -6,7 +6,6 @@ pub mod Operations
 pub mod Statements
 pub mod Sites
 pub mod Links
-pub mod Runs
 pub mod Found
 pub mod Copies
 pub mod Places

@@ -12,25 +12,23 @@ ghost use Rattle.fb_net.specs.Events.{IsEventIn, IsKeyOf, event_of};
 ghost use Rattle.fb_resource.specs.Counts.{IsMetered, meter_of};
 ghost use Rattle.fb_sim.specs.Machines.{IsAt, IsReady};
 ghost use Rattle.fb_sim.specs.Runs.{IsSpent};
-ghost use Rattle.fb_stop.specs.Copies.{AreAllCopies, IsFollowed, IsLocated, IsSiteBy, Steps, Stopping};
+ghost use Rattle.fb_stop.specs.Copies.{AreAllCopies, IsFollowed, IsSiteBy, Steps, Stopping};
 ghost use Rattle.fb_stop.specs.Found.{Finds};
 ghost use Rattle.fb_stop.specs.OfSystem.{ArrivesAt};
-ghost use Rattle.fb_stop.specs.Runs.{machine_of};
 
 use crate::copies::{basic_type, follow, locate_in, open_copies};
 use crate::found::{EventSite, FoundStop, StopSite};
-use crate::run::Run;
-use crate::site::Site;
 use fb_agenda::Least;
 use fb_ecc::BasicState;
 use fb_resource::TickCounts;
+use fb_sim::Machine;
 use fb_system::System;
 use fb_types::{Emits, Event};
 use std::alloc::{AllocError, Global};
 
 /// A run, and for each instance that is a basic block a copy of it.
 pub(crate) struct Replay {
-    pub(crate) run: Run,
+    pub(crate) run: Machine,
     pub(crate) copies: Vec<Option<BasicState>>,
     /// Room for what a copy emits in one reaction.
     pub(crate) emits: Emits,
@@ -80,11 +78,11 @@ impl Replay {
     /// # Errors
     /// When memory runs out.
     pub(crate) fn open(alloc: Global, system: &System) -> Result<Replay, AllocError>
-        ensures ready { IfOk result (λ m. (limit : ℕ) → IsReady system.now limit 0 (machine_of m.run)) }
-        ensures at { IfOk result (λ m. IsAt system.now (opening_state system.now) (opening_agenda system.now (stimuli_of system.now)) (machine_of m.run)) }
+        ensures ready { IfOk result (λ m. (limit : ℕ) → IsReady system.now limit 0 m.run) }
+        ensures at { IfOk result (λ m. IsAt system.now (opening_state system.now) (opening_agenda system.now (stimuli_of system.now)) m.run) }
         ensures copies { IfOk result (λ m. AreAllCopies system.now (opening_state system.now) m.copies.items) }
     {
-        let run = Run::open(alloc, system)?;
+        let run = Machine::open(alloc, system)?;
         let copies = open_copies(alloc, system)?;
         let emits = Emits::new(alloc);
         Ok(Replay { run, copies, emits })
@@ -128,15 +126,24 @@ impl Replay {
         )
     }
 
-    /// The site at which the reaction to an event stops, with these steps left: that of the copy, which has not reacted.
+    /// What gives the reason at an event that stops the run: no step was left for the event, or with these steps left the
+    /// reaction stops at the site at which that of the copy stops, which has not reacted.
     ///
     /// # Errors
     /// When memory runs out.
-    fn locate_at(&mut self, system: &System, at: EventSite, left: u64) -> Result<Site, AllocError>
-        requires { Stopping system.now at left self.old.run.queues.outbox.lines.items self.old.copies.items }
-        ensures located { IfOk result (IsLocated system.now at left self.old.run.queues.outbox.lines.items self.old.copies.items) }
+    fn site_at(
+        &mut self,
+        system: &System,
+        at: EventSite,
+        left: Option<u64>,
+    ) -> Result<StopSite, AllocError>
+        requires { IfSome left (λ n. Stopping system.now at n self.old.run.queues.outbox.lines.items self.old.copies.items) }
+        ensures site { IfOk result (IsSiteBy system.now at left self.old.run.queues.outbox.lines.items self.old.copies.items) }
         ensures run { self.new.run ≡ self.old.run }
     {
+        let Some(left) = left else {
+            return Ok(StopSite::BeforeEvent);
+        };
         let EventSite::Port(target) = at else {
             unreachable!();
         };
@@ -155,28 +162,8 @@ impl Replay {
             &mut self.emits,
         )?;
         match stop {
-            Some(stop) => Ok(stop.site),
+            Some(stop) => Ok(StopSite::InReaction(stop.site)),
             None => unreachable!(),
-        }
-    }
-
-    /// What gives the reason at an event that stops the run: no step was left for the event, or the reaction stops.
-    ///
-    /// # Errors
-    /// When memory runs out.
-    fn site_at(
-        &mut self,
-        system: &System,
-        at: EventSite,
-        left: Option<u64>,
-    ) -> Result<StopSite, AllocError>
-        requires { IfSome left (λ n. Stopping system.now at n self.old.run.queues.outbox.lines.items self.old.copies.items) }
-        ensures site { IfOk result (IsSiteBy system.now at left self.old.run.queues.outbox.lines.items self.old.copies.items) }
-        ensures run { self.new.run ≡ self.old.run }
-    {
-        match left {
-            Some(left) => Ok(StopSite::InReaction(self.locate_at(system, at, left)?)),
-            None => Ok(StopSite::BeforeEvent),
         }
     }
 
@@ -191,17 +178,17 @@ impl Replay {
         limit: u64,
         least: &mut Least,
     ) -> Result<Option<FoundStop>, AllocError>
-        requires ready { IsReady system.now limit least.old.key.tick (machine_of self.old.run) }
-        requires represents { (s : State) × (a : model.Agenda) × IsAt system.now s (without least.old.key a) (machine_of self.old.run) × AreAllCopies system.now s self.old.copies.items }
+        requires ready { IsReady system.now limit least.old.key.tick self.old.run }
+        requires represents { (s : State) × (a : model.Agenda) × IsAt system.now s (without least.old.key a) self.old.run × AreAllCopies system.now s self.old.copies.items }
         requires event { IsEventIn system.now least.old.key.resource least.old.event }
         requires own { IsKeyOf least.old.key least.old.event }
         requires typed { IsTypedEvent system.now (event_of system.now least.old.event) }
         requires named { IsResource system.now least.old.key.resource }
         requires early { least.old.key.tick ≤ 10 ^ 12 }
         requires few { limit ≤ 10 ^ 7 }
-        ensures steps { IfOk result (λ found. (s : State) (a : model.Agenda) → IsAt system.now s (without least.old.key a) (machine_of self.old.run) → AreAllCopies system.now s self.old.copies.items
+        ensures steps { IfOk result (λ found. (s : State) (a : model.Agenda) → IsAt system.now s (without least.old.key a) self.old.run → AreAllCopies system.now s self.old.copies.items
             → Steps system.now limit s a least.old.key (event_of system.now least.old.event) self.new found) }
-        ensures ready { OnOk result (IsReady system.now limit least.old.key.tick (machine_of self.new.run)) }
+        ensures ready { OnOk result (IsReady system.now limit least.old.key.tick self.new.run) }
         ensures spent { IfOk result (λ found. found ≡ None → IsSpent limit least.old.key self.old.run.meters.items self.new.run.meters.items) }
     {
         system.facts();
@@ -209,7 +196,7 @@ impl Replay {
         let key = least.key;
         let at = site_of(system, &least.event);
         let left = steps_left(self.run.meters[key.resource as usize], limit, key.tick);
-        let Some(reason) = self.run.take(system, limit, least)? else {
+        let Some(reason) = self.run.take_event(system, limit, least)? else {
             self.follow_at(system, at, left)?;
             return Ok(None);
         };
@@ -232,8 +219,8 @@ impl Replay {
         horizon: u64,
         limit: u64,
     ) -> Result<Option<FoundStop>, AllocError>
-        requires ready { IsReady system.now limit 0 (machine_of self.old.run) }
-        requires at { IsAt system.now (opening_state system.now) (opening_agenda system.now (stimuli_of system.now)) (machine_of self.old.run) }
+        requires ready { IsReady system.now limit 0 self.old.run }
+        requires at { IsAt system.now (opening_state system.now) (opening_agenda system.now (stimuli_of system.now)) self.old.run }
         requires copies { AreAllCopies system.now (opening_state system.now) self.old.copies.items }
         requires early { horizon ≤ 10 ^ 12 }
         requires few { limit ≤ 10 ^ 7 }

@@ -1,6 +1,6 @@
 //! How the steps of one tick were used, up to the stop of a simulation.
 
-ghost use Rattle.std.specs.Prelude.{◌≡◌, ◌^◌, ◌<◌, ◌≤◌, ◌==◌, ◌&&◌, IfOk, IfSome, IsTrue, None, OnOk, Some, length, replicate, slice_get};
+ghost use Rattle.std.specs.Prelude.{◌≡◌, ◌^◌, ◌<◌, ◌≤◌, ◌==◌, ◌&&◌, IfOk, IfSome, IsTrue, None, OnOk, length, replicate};
 ghost use Rattle.fb_types.specs.Headline.{stimuli_of};
 ghost use Rattle.fb_types.specs.Keys.{without};
 ghost use Rattle.fb_types.specs.States.{State};
@@ -10,18 +10,16 @@ ghost use Rattle.fb_types.specs.OfSystem.{IsResource, instance_count, opening_ag
 ghost use Rattle.fb_laws.specs.OfSystem.{IsTypedEvent};
 ghost use Rattle.fb_net.specs.Events.{IsEventIn, IsKeyOf, event_of};
 ghost use Rattle.fb_resource.specs.Counts.{meter_of};
-ghost use Rattle.fb_resource.specs.declared.tick_counts.TickCounts as counted;
 ghost use Rattle.fb_sim.specs.Machines.{IsAt, IsReady};
 ghost use Rattle.fb_sim.specs.Runs.{IsSpent};
-ghost use Rattle.fb_stop.specs.Runs.{machine_of};
 ghost use Rattle.fb_stop.specs.Spent.{AreSpent, Charges, HasSpent, IsMost, is_of};
 ghost use Rattle.fb_stop.specs.OfSystem.{ArrivesAt, ChargesEvent};
 
 use crate::found::{EventSite, instance_of};
 use crate::replay::site_of;
-use crate::run::Run;
 use fb_agenda::Least;
 use fb_resource::TickCounts;
+use fb_sim::Machine;
 use fb_system::System;
 use fb_types::{Key, Reason};
 use std::alloc::{AllocError, Global};
@@ -41,14 +39,6 @@ fn left_at(counts: &TickCounts, limit: u64, tick: u64) -> u64
         Some(at) => { if at == tick { counts.meter.left } else { limit } }
         None => limit,
     }
-}
-
-/// The steps that the resource of a key has left at its tick.
-fn left_in(run: &Run, limit: u64, key: &Key) -> u64
-    requires { key.now.resource < length run.now.meters.items }
-    ensures { (m : counted.TickCounts) × (slice_get run.now.meters.items key.now.resource ≡ Some m) × (result ≡ (begun limit key.now.tick (meter_of m)).left) }
-{
-    left_at(&run.meters[key.resource as usize], limit, key.tick)
 }
 
 /// Adds steps to those of an instance.
@@ -83,15 +73,15 @@ fn charge_event(spent: &mut Vec<u64>, system: &System, at: EventSite, used: u64)
 /// # Errors
 /// When memory runs out, or a link has carried 2^128 messages.
 fn step(
-    run: &mut Run,
+    run: &mut Machine,
     spent: &mut Vec<u64>,
     moment: Moment,
     system: &System,
     limit: u64,
     least: &mut Least,
 ) -> Result<Option<Reason>, AllocError>
-    requires ready { IsReady system.now limit least.old.key.tick (machine_of run.old) }
-    requires represents { (s : State) × (a : model.Agenda) × IsAt system.now s (without least.old.key a) (machine_of run.old) }
+    requires ready { IsReady system.now limit least.old.key.tick run.old }
+    requires represents { (s : State) × (a : model.Agenda) × IsAt system.now s (without least.old.key a) run.old }
     requires event { IsEventIn system.now least.old.key.resource least.old.event }
     requires own { IsKeyOf least.old.key least.old.event }
     requires typed { IsTypedEvent system.now (event_of system.now least.old.event) }
@@ -99,17 +89,18 @@ fn step(
     requires early { least.old.key.tick ≤ 10 ^ 12 }
     requires few { limit ≤ 10 ^ 7 }
     requires counted { length spent.old.items ≡ instance_count system.now }
-    ensures spent { IfOk result (λ stop. (s : State) (a : model.Agenda) → IsAt system.now s (without least.old.key a) (machine_of run.old)
-        → HasSpent system.now limit moment s a least.old.key (event_of system.now least.old.event) stop (machine_of run.new) spent.old.items spent.new.items) }
-    ensures ready { OnOk result (IsReady system.now limit least.old.key.tick (machine_of run.new)) }
+    ensures spent { IfOk result (λ stop. (s : State) (a : model.Agenda) → IsAt system.now s (without least.old.key a) run.old
+        → HasSpent system.now limit moment s a least.old.key (event_of system.now least.old.event) stop run.new spent.old.items spent.new.items) }
+    ensures ready { OnOk result (IsReady system.now limit least.old.key.tick run.new) }
     ensures less { IfOk result (λ stop. stop ≡ None → IsSpent limit least.old.key run.old.meters.items run.new.meters.items) }
 {
     run.clear_lines();
     let key = least.key;
     let at = site_of(system, &least.event);
-    let before = left_in(run, limit, &key);
-    let stop = run.take(system, limit, least)?;
-    let after = left_in(run, limit, &key);
+    let resource = key.resource as usize;
+    let before = left_at(&run.meters[resource], limit, key.tick);
+    let stop = run.take_event(system, limit, least)?;
+    let after = left_at(&run.meters[resource], limit, key.tick);
     if is_there(&key, moment) {
         charge_event(spent, system, at, before.saturating_sub(after));
     }
@@ -121,15 +112,15 @@ fn step(
 /// # Errors
 /// When memory runs out, or a link has carried 2^128 messages.
 fn go_on(
-    run: &mut Run,
+    run: &mut Machine,
     spent: &mut Vec<u64>,
     moment: Moment,
     system: &System,
     horizon: u64,
     limit: u64,
 ) -> Result<bool, AllocError>
-    requires ready { IsReady system.now limit 0 (machine_of run.old) }
-    requires at { IsAt system.now (opening_state system.now) (opening_agenda system.now (stimuli_of system.now)) (machine_of run.old) }
+    requires ready { IsReady system.now limit 0 run.old }
+    requires at { IsAt system.now (opening_state system.now) (opening_agenda system.now (stimuli_of system.now)) run.old }
     requires early { horizon ≤ 10 ^ 12 }
     requires few { limit ≤ 10 ^ 7 }
     requires counted { length spent.old.items ≡ instance_count system.now }
@@ -165,7 +156,7 @@ pub(crate) fn steps_spent(
     ensures counted { IfOk result (λ o. IfSome o (λ v. length v.items ≡ instance_count system.now)) }
 {
     let moment = Moment { tick, resource };
-    let mut run = Run::open(alloc, system)?;
+    let mut run = Machine::open(alloc, system)?;
     let mut spent = vec![in alloc; 0u64; system.count()]?;
     if go_on(&mut run, &mut spent, moment, system, horizon, limit)? {
         Ok(Some(spent))

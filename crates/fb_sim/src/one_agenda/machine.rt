@@ -22,15 +22,15 @@ use fb_agenda::Least;
 use fb_net::Tree;
 use fb_resource::{Queues, Taken, TickCounts, find_next, put_next, take};
 use fb_system::System;
-use fb_types::{Line, StopMark};
+use fb_types::{Line, Reason, StopMark};
 use std::alloc::AllocError;
 
 /// The one agenda of all resources, with the counts of their messages and what takings give, and the blocks and the
 /// counts of each.
-pub(crate) struct Machine {
-    pub(super) queues: Queues,
-    pub(super) trees: Vec<Tree>,
-    pub(super) meters: Vec<TickCounts>,
+pub struct Machine {
+    pub queues: Queues,
+    pub trees: Vec<Tree>,
+    pub meters: Vec<TickCounts>,
 }
 
 // Drop is written by hand, so that callers need not prove it again (docs/DECISIONS.md, "Drop").
@@ -86,6 +86,36 @@ impl Machine {
         Ok(taken)
     }
 
+    /// Takes the event in the slot, which has left the agenda, and delivers the messages that it gave. `Some` is the
+    /// reason for which the resource stops. A caller looks at each event before and after it is taken. The slot may have
+    /// another event then.
+    ///
+    /// # Errors
+    /// When memory runs out, or a link has carried 2^128 messages.
+    pub fn take_event(
+        &mut self,
+        system: &System,
+        limit: u64,
+        least: &mut Least,
+    ) -> Result<Option<Reason>, AllocError>
+        requires ready { IsReady system.now limit least.old.key.tick self.old }
+        requires represents { (s : State) × (a : model.Agenda) × IsAt system.now s a self.old }
+        requires event { IsEventIn system.now least.old.key.resource least.old.event }
+        requires own { IsKeyOf least.old.key least.old.event }
+        requires typed { IsTypedEvent system.now (event_of system.now least.old.event) }
+        requires named { IsResource system.now least.old.key.resource }
+        requires early { least.old.key.tick ≤ 10 ^ 12 }
+        requires few { limit ≤ 10 ^ 7 }
+        ensures taken { IfOk result (λ stop. (s : State) (a : model.Agenda) → IsAt system.now s (without least.old.key a) self.old
+            → IsTaken system.now limit s a least.old.key (event_of system.now least.old.event) stop self.old self.new) }
+        ensures ready { OnOk result (IsReady system.now limit least.old.key.tick self.new) }
+        ensures spent { IfOk result (λ stop. stop ≡ None → IsSpent limit least.old.key self.old.meters.items self.new.meters.items) }
+    {
+        let taken = self.take(system, limit, least)?;
+        put_next(&mut self.queues.agenda, taken.raised, least)?;
+        Ok(taken.stop)
+    }
+
     /// Takes events below the horizon, least key first, until there are `many` lines, or up to the first stop. It takes
     /// at least one event where there is one, and appends its lines to those that are there.
     ///
@@ -135,7 +165,7 @@ impl Machine {
     }
 
     /// Drops the lines, and nothing else. Their memory is kept for the next ones.
-    pub(super) fn clear_lines(&mut self)
+    pub fn clear_lines(&mut self)
         ensures none { self.new.queues.outbox.lines.items ≡ [] }
         ensures at { (i : Inputs) (s : State) (a : model.Agenda) → IsAt i s a self.old → IsAt i s a self.new }
         ensures ready { (i : Inputs) (limit tick : ℕ) → IsReady i limit tick self.old → IsReady i limit tick self.new }

@@ -30,7 +30,7 @@ impl Machine {
     ///
     /// # Errors
     /// When memory runs out.
-    pub(super) fn open(alloc: Global, system: &System) -> Result<Machine, AllocError>
+    pub fn open(alloc: Global, system: &System) -> Result<Machine, AllocError>
         ensures ready { IfOk result (λ m. (limit : ℕ) → IsReady system.now limit 0 m) }
         ensures at { IfOk result (IsAt system.now (opening_state system.now) (opening_agenda system.now (stimuli_of system.now))) }
         ensures lines { IfOk result (λ m. m.queues.outbox.lines.items ≡ []) }

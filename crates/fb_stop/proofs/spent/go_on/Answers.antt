@@ -7,7 +7,6 @@ use Rattle.fb_net.specs.Events.{event_of}
 use Rattle.fb_sim.proofs.AgendaIs.{all_falls, at_left, machine_left, takes_least}
 use Rattle.fb_sim.proofs.Joined.{reaches_more, reaches_none}
 use Rattle.fb_stop.specs.Spent.{ChargesAll, HasSpent, is_of, used}
-use Rattle.fb_stop.specs.Runs.{machine_of}
 use Rattle.fb_stop.proofs.Spending.{are_spent, charged_alike, charged_on}
 use Rattle.fb_stop.proofs.spent.go_on.Goals as goal
 
@@ -29,13 +28,13 @@ pub step-requires-clause-ready : goal.step-requires-clause-ready
 step-requires-clause-ready c =
     let inv = c.loop-moment.invariant in
     let found = c.loop-moment-test.ensures in
-    machine_left c.args.system.now c.args.limit inv.ready.0 c.take_least_into.new.slot.key c.take_least_into.new.slot.event (machine_of c.loop-moment.run) _ inv.ready.1 found.left found.found found.least found.due
+    machine_left c.args.system.now c.args.limit inv.ready.0 c.take_least_into.new.slot.key c.take_least_into.new.slot.event c.loop-moment.run _ inv.ready.1 found.left found.found found.least found.due
 
 pub step-requires-clause-represents : goal.step-requires-clause-represents
 step-requires-clause-represents c =
     let inv = c.loop-moment.invariant in
     let k = c.take_least_into.new.slot.key in
-    (inv.at.state, inv.at.agenda, at_left c.args.system.now k inv.at (machine_of c.loop-moment.run) _ inv.is c.loop-moment-test.ensures.left)
+    (inv.at.state, inv.at.agenda, at_left c.args.system.now k inv.at c.loop-moment.run _ inv.is c.loop-moment-test.ensures.left)
 
 pub step-requires-clause-event : goal.step-requires-clause-event
 step-requires-clause-event c = (c.loop-moment.invariant.ready.1.queues.order.waits c.take_least_into.new.slot.key c.take_least_into.new.slot.event c.loop-moment-test.ensures.found).event
@@ -59,8 +58,8 @@ returns-in-Some-clause-spent c asked =
     let m = c.args.moment in
     let old = c.loop-moment.spent.items in
     let new = c.step.new.spent.items in
-    let next = machine_of c.step.new.run in
-    let spent = c.in_ok-stop.ensures.spent inv.at.state inv.at.agenda (at_left i k inv.at (machine_of c.loop-moment.run) _ inv.is found.left) in
+    let next = c.step.new.run in
+    let spent = c.in_ok-stop.ensures.spent inv.at.state inv.at.agenda (at_left i k inv.at c.loop-moment.run _ inv.is found.left) in
     are_spent i c.args.horizon c.args.limit m inv.at inv.taken inv.reaches c.args.spent.now.items old new inv.charged c.loop-moment.run.queues.agenda k e c.in-Some.field-0 next inv.is.agenda found.found found.least found.below
     (subst (λ (o : Option Reason). HasSpent i c.args.limit m inv.at.state inv.at.agenda k (event_of i e) o next old new) c.in-Some.is spent)
 
@@ -84,8 +83,8 @@ loop-moment-preserved c =
     let m = c.args.moment in
     let old = c.loop-moment.spent.items in
     let new = c.step.new.spent.items in
-    let next = machine_of c.step.new.run in
-    let spent = c.in_ok-stop.ensures.spent inv.at.state inv.at.agenda (at_left i k inv.at (machine_of c.loop-moment.run) _ inv.is found.left) in
+    let next = c.step.new.run in
+    let spent = c.in_ok-stop.ensures.spent inv.at.state inv.at.agenda (at_left i k inv.at c.loop-moment.run _ inv.is found.left) in
     let h = subst (λ (o : Option Reason). HasSpent i c.args.limit m inv.at.state inv.at.agenda k (event_of i e) o next old new) c.in_default.is spent in
     let taken = h.taken in
     let least = takes_least i c.args.limit inv.at k e _ c.loop-moment.run.queues.agenda h.from next inv.is.agenda found.found found.least taken in
@@ -107,7 +106,7 @@ returns-in-Some-clause-counted c =
     let found = c.loop-moment-test.ensures in
     let k = c.take_least_into.new.slot.key in
     let e = c.take_least_into.new.slot.event in
-    let h = c.in_ok-stop.ensures.spent inv.at.state inv.at.agenda (at_left i k inv.at (machine_of c.loop-moment.run) _ inv.is found.left) in
+    let h = c.in_ok-stop.ensures.spent inv.at.state inv.at.agenda (at_left i k inv.at c.loop-moment.run _ inv.is found.left) in
     charged_alike (is_of c.args.moment k) (system_of i) (event_of i e) (used c.args.limit k inv.at.state h.taken.effect.state) c.loop-moment.spent.items c.step.new.spent.items h.charged ∙ inv.counted
 
 pub returns-clause-counted : goal.returns-clause-counted

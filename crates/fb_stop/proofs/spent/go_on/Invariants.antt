@@ -5,17 +5,16 @@ use Rattle.fb_types.specs.States.{Config}
 use Rattle.fb_sim.specs.Completions.{Reaches}
 use Rattle.fb_sim.specs.Counts.{fuel_of_all}
 use Rattle.fb_sim.specs.Machines.{IsAt, IsReady}
-use Rattle.fb_stop.specs.Runs.{machine_of}
 use Rattle.fb_stop.specs.Spent.{ChargesAll}
 use Rattle.fb_stop.proofs.spent.go_on.Given as goal
 
 abbrev pub invariant-loop-moment : goal.invariant-loop-moment
 invariant-loop-moment l = record {
-  ready : (tick : ℕ) × IsReady l.system l.limit tick (machine_of l.run);
+  ready : (tick : ℕ) × IsReady l.system l.limit tick l.run;
   at : Config;
   taken : List Taken;
   reaches : Reaches l.system l.horizon l.limit (opening (system_of l.system) (stimuli_of l.system)) at taken;
-  is : IsAt l.system at.state at.agenda (machine_of l.run);
+  is : IsAt l.system at.state at.agenda l.run;
   counted : length l.spent.items ≡ length (system_of l.system).paths;
   charged : ChargesAll (system_of l.system) l.limit l.moment (opening (system_of l.system) (stimuli_of l.system)) taken l.initial.spent.items l.spent.items;
 }

@@ -1,18 +1,17 @@
-use Rattle.std.proofs.Common.{◌∙◌, ℕ, refl, sym, subst, true, false}
+use Rattle.std.proofs.Common.{◌∙◌, ℕ, refl, sym, subst, true, false, arith}
 use Rattle.fb_types.specs.Headline.{system_of}
 use Rattle.fb_types.specs.Keys.{without}
 use Rattle.fb_types.specs.Takes.{agenda_after}
 use Rattle.fb_net.specs.Events.{event_of}
-use Rattle.fb_stop.specs.Runs.{machine_of}
 use Rattle.fb_stop.specs.Spent.{ChargesEvent}
-use Rattle.fb_stop.proofs.Spending.{has_spent, left_as}
+use Rattle.fb_stop.proofs.Spending.{counts_at, has_spent, left_as}
 use Rattle.fb_stop.proofs.spent.step.Goals as goal
 
-pub take-requires-clause-ready : goal.take-requires-clause-ready
-take-requires-clause-ready c = c.clear_lines.ensures.ready c.args.system.now c.args.limit c.args.least.now.key.tick c.requires.ready
+pub take_event-requires-clause-ready : goal.take_event-requires-clause-ready
+take_event-requires-clause-ready c = c.clear_lines.ensures.ready c.args.system.now c.args.limit c.args.least.now.key.tick c.requires.ready
 
-pub take-requires-clause-represents : goal.take-requires-clause-represents
-take-requires-clause-represents c =
+pub take_event-requires-clause-represents : goal.take_event-requires-clause-represents
+take_event-requires-clause-represents c =
     let r = c.requires.represents in
     (r.0, without c.args.least.now.key r.1, c.clear_lines.ensures.at c.args.system.now r.0 (without c.args.least.now.key r.1) r.2)
 
@@ -28,14 +27,16 @@ returns-then-is_there-clause-spent c s a at =
     let k = c.args.least.now.key in
     let limit = c.args.limit in
     let e = event_of i c.args.least.now.event in
-    let old = machine_of c.clear_lines.new.self in
-    let new = machine_of c.take.new.self in
+    let old = c.clear_lines.new.self in
+    let new = c.take_event.new.self in
     let cleared = c.clear_lines.ensures.at i s (without k a) at in
     let ready = c.clear_lines.ensures.ready i limit k.tick c.requires.ready in
     let t = c.in_ok-stop.ensures.taken s a cleared in
-    has_spent i limit c.args.moment s a k e c.in_ok-stop.stop old new t c.left_in-before.result c.left_in-after.result c.args.spent.now.items c.charge_event.new.spent.items
-    (left_as i s (without k a) limit k old c.left_in-before.result ready cleared c.requires.named c.left_in-before.ensures)
-    (left_as i t.effect.state (agenda_after k a t.effect) limit k new c.left_in-after.result c.in_ok-stop.ensures.ready t.at c.requires.named c.left_in-after.ensures)
+    has_spent i limit c.args.moment s a k e c.in_ok-stop.stop old new t c.left_at-before.result c.left_at-after.result c.args.spent.now.items c.charge_event.new.spent.items
+    (left_as i s (without k a) limit k old c.left_at-before.result ready cleared c.requires.named
+    (counts_at old.meters.items k.resource limit k.tick c.index.result.now c.left_at-before.result (omega (arith, ready.meters_counted, c.requires.named)) c.index.ensures c.left_at-before.ensures))
+    (left_as i t.effect.state (agenda_after k a t.effect) limit k new c.left_at-after.result c.in_ok-stop.ensures.ready t.at c.requires.named
+    (counts_at new.meters.items k.resource limit k.tick c.index-2.result.now c.left_at-after.result (omega (arith, c.in_ok-stop.ensures.ready.meters_counted, c.requires.named)) c.index-2.ensures c.left_at-after.ensures))
     true (sym c.is_there.ensures ∙ c.if-is_there.true)
     (subst (λ (n : ℕ). ChargesEvent (system_of i) e n c.args.spent.now.items c.charge_event.new.spent.items) c.saturating_sub.ensures (c.charge_event.ensures e c.site_of-at.ensures))
 
@@ -45,12 +46,14 @@ returns-else-is_there-clause-spent c s a at =
     let k = c.args.least.now.key in
     let limit = c.args.limit in
     let e = event_of i c.args.least.now.event in
-    let old = machine_of c.clear_lines.new.self in
-    let new = machine_of c.take.new.self in
+    let old = c.clear_lines.new.self in
+    let new = c.take_event.new.self in
     let cleared = c.clear_lines.ensures.at i s (without k a) at in
     let ready = c.clear_lines.ensures.ready i limit k.tick c.requires.ready in
     let t = c.in_ok-stop.ensures.taken s a cleared in
-    has_spent i limit c.args.moment s a k e c.in_ok-stop.stop old new t c.left_in-before.result c.left_in-after.result c.args.spent.now.items c.args.spent.now.items
-    (left_as i s (without k a) limit k old c.left_in-before.result ready cleared c.requires.named c.left_in-before.ensures)
-    (left_as i t.effect.state (agenda_after k a t.effect) limit k new c.left_in-after.result c.in_ok-stop.ensures.ready t.at c.requires.named c.left_in-after.ensures)
+    has_spent i limit c.args.moment s a k e c.in_ok-stop.stop old new t c.left_at-before.result c.left_at-after.result c.args.spent.now.items c.args.spent.now.items
+    (left_as i s (without k a) limit k old c.left_at-before.result ready cleared c.requires.named
+    (counts_at old.meters.items k.resource limit k.tick c.index.result.now c.left_at-before.result (omega (arith, ready.meters_counted, c.requires.named)) c.index.ensures c.left_at-before.ensures))
+    (left_as i t.effect.state (agenda_after k a t.effect) limit k new c.left_at-after.result c.in_ok-stop.ensures.ready t.at c.requires.named
+    (counts_at new.meters.items k.resource limit k.tick c.index-2.result.now c.left_at-after.result (omega (arith, c.in_ok-stop.ensures.ready.meters_counted, c.requires.named)) c.index-2.ensures c.left_at-after.ensures))
     false (sym c.is_there.ensures ∙ c.if-is_there.false) refl

@@ -6,7 +6,6 @@ use Rattle.fb_net.specs.Events.{event_of}
 use Rattle.fb_sim.proofs.AgendaIs.{all_falls, at_left, machine_left, takes_least}
 use Rattle.fb_sim.proofs.Joined.{reaches_more, reaches_none}
 use Rattle.fb_stop.specs.Copies.{Steps}
-use Rattle.fb_stop.specs.Runs.{machine_of}
 use Rattle.fb_stop.proofs.Ending.{is_stop, never_stops}
 use Rattle.fb_stop.proofs.replay.Replay.go_on.Goals as goal
 
@@ -26,13 +25,13 @@ pub step-requires-clause-ready : goal.step-requires-clause-ready
 step-requires-clause-ready c =
     let inv = c.loop-self.invariant in
     let found = c.loop-self-test.ensures in
-    machine_left c.args.system.now c.args.limit inv.ready.0 c.take_least_into.new.slot.key c.take_least_into.new.slot.event (machine_of c.loop-self.self.run) _ inv.ready.1 found.left found.found found.least found.due
+    machine_left c.args.system.now c.args.limit inv.ready.0 c.take_least_into.new.slot.key c.take_least_into.new.slot.event c.loop-self.self.run _ inv.ready.1 found.left found.found found.least found.due
 
 pub step-requires-clause-represents : goal.step-requires-clause-represents
 step-requires-clause-represents c =
     let inv = c.loop-self.invariant in
     let k = c.take_least_into.new.slot.key in
-    (inv.at.state, inv.at.agenda, at_left c.args.system.now k inv.at (machine_of c.loop-self.self.run) _ inv.is c.loop-self-test.ensures.left, inv.copies)
+    (inv.at.state, inv.at.agenda, at_left c.args.system.now k inv.at c.loop-self.self.run _ inv.is c.loop-self-test.ensures.left, inv.copies)
 
 pub step-requires-clause-event : goal.step-requires-clause-event
 step-requires-clause-event c = (c.loop-self.invariant.ready.1.queues.order.waits c.take_least_into.new.slot.key c.take_least_into.new.slot.event c.loop-self-test.ensures.found).event
@@ -53,7 +52,7 @@ returns-in-Some c =
     let found = c.loop-self-test.ensures in
     let k = c.take_least_into.new.slot.key in
     let e = c.take_least_into.new.slot.event in
-    let steps = c.in_ok-found.ensures.steps inv.at.state inv.at.agenda (at_left i k inv.at (machine_of c.loop-self.self.run) _ inv.is found.left) inv.copies in
+    let steps = c.in_ok-found.ensures.steps inv.at.state inv.at.agenda (at_left i k inv.at c.loop-self.self.run _ inv.is found.left) inv.copies in
     let stop = subst (λ o. Steps i c.args.limit inv.at.state inv.at.agenda k (event_of i e) c.step.new.self o) c.in-Some.is steps in
     is_stop i c.args.horizon c.args.limit inv.at inv.taken inv.reaches c.loop-self.self.run.queues.agenda inv.is.agenda k e c.in-Some.found found.found found.least found.below stop
 
@@ -74,10 +73,10 @@ loop-self-preserved c =
     let found = c.loop-self-test.ensures in
     let k = c.take_least_into.new.slot.key in
     let e = c.take_least_into.new.slot.event in
-    let steps = c.in_ok-found.ensures.steps inv.at.state inv.at.agenda (at_left i k inv.at (machine_of c.loop-self.self.run) _ inv.is found.left) inv.copies in
+    let steps = c.in_ok-found.ensures.steps inv.at.state inv.at.agenda (at_left i k inv.at c.loop-self.self.run _ inv.is found.left) inv.copies in
     let stepped = subst (λ o. Steps i c.args.limit inv.at.state inv.at.agenda k (event_of i e) c.step.new.self o) c.in_default.is steps in
     let taken = stepped.taken in
-    let least = takes_least i c.args.limit inv.at k e _ c.loop-self.self.run.queues.agenda stepped.from (machine_of c.step.new.self.run) inv.is.agenda found.found found.least taken in
+    let least = takes_least i c.args.limit inv.at k e _ c.loop-self.self.run.queues.agenda stepped.from c.step.new.self.run inv.is.agenda found.found found.least taken in
     let t : Taken = record { key = k; event = event_of i e; effect = taken.effect } in
     record {
       ready = (k.tick, c.in_ok-found.ensures.ready);

@@ -6,7 +6,6 @@ use Rattle.fb_types.specs.Numbers.{line_of}
 use Rattle.fb_types.specs.declared.run.Line.{Line}
 use Rattle.fb_types.proofs.ByIndex.{element_at}
 use Rattle.fb_net.specs.Events.{event_of}
-use Rattle.fb_stop.specs.Runs.{machine_of}
 use Rattle.fb_stop.proofs.Stepping.{copies_after, has_stepped, is_site, left_is, stopping_if}
 use Rattle.fb_stop.proofs.replay.Replay.step.Goals as goal
 
@@ -24,11 +23,11 @@ steps_left-left-requires c =
     let meter = c.index.result.now in
     ready.meters r meter (slice_get_read meters (length meters) r meter refl within c.index.ensures)
 
-pub take-requires-clause-ready : goal.take-requires-clause-ready
-take-requires-clause-ready c = c.clear_lines.ensures.ready c.args.system.now c.args.limit c.args.least.now.key.tick c.requires.ready
+pub take_event-requires-clause-ready : goal.take_event-requires-clause-ready
+take_event-requires-clause-ready c = c.clear_lines.ensures.ready c.args.system.now c.args.limit c.args.least.now.key.tick c.requires.ready
 
-pub take-requires-clause-represents : goal.take-requires-clause-represents
-take-requires-clause-represents c =
+pub take_event-requires-clause-represents : goal.take_event-requires-clause-represents
+take_event-requires-clause-represents c =
     let r = c.requires.represents in
     (r.0, without c.args.least.now.key r.1, c.clear_lines.ensures.at c.args.system.now r.0 (without c.args.least.now.key r.1) r.2)
 
@@ -59,9 +58,9 @@ returns-in_default-clause-steps c s a at copies =
     let left = c.steps_left-left.result in
     let counted = left_is i s r tree.0 meter c.args.limit k.tick here left c.steps_left-left.ensures.some c.steps_left-left.ensures.none in
     let t = c.in_ok-reason.ensures.taken s a cleared in
-    let lines = c.take.new.self.queues.outbox.lines.items in
+    let lines = c.take_event.new.self.queues.outbox.lines.items in
     let lines_are : map (line_of sys) lines ≡ t.effect.lines = t.lines ∙ ap (λ (ls : List Line). map (line_of sys) ls ++ t.effect.lines) c.clear_lines.ensures.none in
-    has_stepped i c.args.limit s a k e c.in_ok-reason.field-0 (machine_of run) c.take.new.self c.follow_at.new.self t c.in_default.is c.in_ok-follow_at.ensures.run
+    has_stepped i c.args.limit s a k e c.in_ok-reason.field-0 run c.take_event.new.self c.follow_at.new.self t c.in_default.is c.in_ok-follow_at.ensures.run
     (copies_after i c.facts.ensures.numbered c.args.limit s k e t.effect t.takes lines lines_are c.args.self.now.copies.items copies
     c.site_of-at.result left c.follow_at.new.self.copies.items c.site_of-at.ensures counted (t.stops ∙ c.in_default.is) c.in_ok-follow_at.ensures.followed)
 
@@ -89,7 +88,7 @@ site_at-requires c =
     let left = c.steps_left-left.result in
     let counted = left_is i s r tree.0 meter c.args.limit k.tick here left c.steps_left-left.ensures.some c.steps_left-left.ensures.none in
     let t = c.in_ok-reason.ensures.taken s a cleared in
-    let lines = c.take.new.self.queues.outbox.lines.items in
+    let lines = c.take_event.new.self.queues.outbox.lines.items in
     let lines_are : map (line_of sys) lines ≡ t.effect.lines = t.lines ∙ ap (λ (ls : List Line). map (line_of sys) ls ++ t.effect.lines) c.clear_lines.ensures.none in
     stopping_if i c.facts.ensures.numbered c.args.limit s k e t.effect t.takes lines lines_are c.args.self.now.copies.items represents.3
     c.in-Some.reason (t.stops ∙ c.in-Some.is) c.site_of-at.result left counted c.site_of-at.ensures
@@ -115,7 +114,7 @@ returns-clause-steps c s a at copies =
     let left = c.steps_left-left.result in
     let counted = left_is i s r tree.0 meter c.args.limit k.tick here left c.steps_left-left.ensures.some c.steps_left-left.ensures.none in
     let t = c.in_ok-reason.ensures.taken s a cleared in
-    let lines = c.take.new.self.queues.outbox.lines.items in
+    let lines = c.take_event.new.self.queues.outbox.lines.items in
     let lines_are : map (line_of sys) lines ≡ t.effect.lines = t.lines ∙ ap (λ (ls : List Line). map (line_of sys) ls ++ t.effect.lines) c.clear_lines.ensures.none in
     let stops = t.stops ∙ c.in-Some.is in
     record {
