@@ -1,6 +1,6 @@
 //! The words of a stop.
 
-ghost use Rattle.std.specs.Prelude.{◌≡◌, OnOk, length};
+ghost use Rattle.std.specs.Prelude.{◌≡◌, length};
 ghost use Rattle.fb_types.specs.OfSystem.{instance_count};
 
 use crate::found::{FoundStop, StopSite, instance_of};
@@ -9,6 +9,7 @@ use crate::shown::Shown;
 use crate::site::Site;
 use crate::spent::{most, steps_spent};
 use fb_check_names::TypeNumber;
+use fb_read_positions::words::{Text, shown as printable};
 use fb_system::System;
 use fb_types::{BasicType, BlockType, LATEST_TICK, MOST_STEPS, Name, Reason, State};
 use std::alloc::{AllocError, Global};
@@ -16,20 +17,11 @@ use std::alloc::{AllocError, Global};
 /// The greatest number of bytes of an operation that are shown.
 const MOST_WRITTEN: usize = 100;
 
-/// Appends words, and a name.
-fn push_named(text: &mut String, words: &str, name: &[u8]) -> Result<(), AllocError> {
-    text.push_str(words)?;
-    for byte in name {
-        text.push(char::from(*byte))?;
+/// Appends the name of an instance.
+fn push_path(text: &mut Text, path: &[u8]) {
+    for byte in path {
+        text.letter(*byte);
     }
-    Ok(())
-}
-
-/// Appends words, and an index as it is counted from 1.
-fn push_counted(text: &mut String, words: &str, index: usize) -> Result<(), AllocError> {
-    let counted = index.saturating_add(1);
-    text.push_str(words)?;
-    write!(text, "{counted}")
 }
 
 /// What a reason is called, as in a trace.
@@ -42,34 +34,27 @@ fn reason_word(reason: Reason) -> &'static str {
 }
 
 /// Appends the transition with an index among those that leave a state.
-fn push_transition(
-    text: &mut String,
-    block: &BasicType,
-    state: &Name,
-    nth: usize,
-) -> Result<(), AllocError> {
-    push_counted(text, ", transition ", nth)?;
+fn push_transition(text: &mut Text, block: &BasicType, state: &Name, nth: usize) {
+    text.numbered(", transition ", nth.saturating_add(1), "");
     if let Some(index) = transition_index(block, state, nth) {
         if let Some(transition) = block.transitions.get(index) {
-            push_named(text, " to ", transition.to.as_bytes())?;
+            text.named(" to ", &transition.to);
         }
     }
-    Ok(())
 }
 
 /// Appends an action of a state, with its algorithm.
-fn push_action(text: &mut String, state: &State, index: usize) -> Result<(), AllocError> {
-    push_counted(text, ", action ", index)?;
+fn push_action(text: &mut Text, state: &State, index: usize) {
+    text.numbered(", action ", index.saturating_add(1), "");
     if let Some(action) = state.actions.get(index) {
         if let Some(algorithm) = &action.algorithm {
-            push_named(text, ", algorithm ", algorithm.as_bytes())?;
+            text.named(", algorithm ", algorithm);
         }
     }
-    Ok(())
 }
 
 /// Appends the state, and the transition or the action.
-fn push_site(text: &mut String, block: &BasicType, site: Site) -> Result<(), AllocError> {
+fn push_site(text: &mut Text, block: &BasicType, site: Site) {
     match site {
         Site::Transition {
             state,
@@ -77,54 +62,47 @@ fn push_site(text: &mut String, block: &BasicType, site: Site) -> Result<(), All
             ..
         } => {
             if let Some(state) = block.states.get(state) {
-                push_named(text, ", state ", state.name.as_bytes())?;
-                push_transition(text, block, &state.name, transition)?;
+                text.named(", state ", &state.name);
+                push_transition(text, block, &state.name, transition);
             }
         }
         Site::Action { state, action, .. } => {
             if let Some(state) = block.states.get(state) {
-                push_named(text, ", state ", state.name.as_bytes())?;
-                push_action(text, state, action)?;
+                text.named(", state ", &state.name);
+                push_action(text, state, action);
             }
         }
     }
-    Ok(())
 }
 
 /// Appends the type of a block that the declaration has, and where in it the stop is.
-fn push_block(text: &mut String, block: &BlockType, site: StopSite) -> Result<(), AllocError> {
+fn push_block(text: &mut Text, block: &BlockType, site: StopSite) {
     let name = match block {
         BlockType::Basic(block) => &block.name,
         BlockType::Composite(block) => &block.name,
     };
-    push_named(text, " (type ", name.as_bytes())?;
-    text.push_str(")")?;
+    text.named(" (type ", name);
+    text.words(")");
     if let StopSite::InReaction(site) = site {
         if let BlockType::Basic(block) = block {
-            push_site(text, block, site)?;
+            push_site(text, block, site);
         }
     }
-    Ok(())
 }
 
 /// Appends an instance, with its type and where in it the stop is. Nothing is appended for a number that is no
 /// instance's.
-fn push_instance(
-    text: &mut String,
-    system: &System,
-    instance: u32,
-    site: StopSite,
-) -> Result<(), AllocError> {
+fn push_instance(text: &mut Text, system: &System, instance: u32, site: StopSite) {
     if !has_instance(system, instance) {
-        return Ok(());
+        return;
     }
-    push_named(text, ": ", system.path(instance))?;
+    text.words(": ");
+    push_path(text, system.path(instance));
     if let TypeNumber::Declared(index) = system.kind(instance) {
         if let Some(block) = system.library().blocks.get(index) {
-            push_block(text, block, site)?;
+            push_block(text, block, site);
         }
     }
-    Ok(())
 }
 
 /// The bytes of an operation in a text.
@@ -135,33 +113,24 @@ fn written<'a>(text: &'a [u8], shown: Option<Shown>) -> &'a [u8] {
     }
 }
 
-/// What is shown for a byte of an operation.
-fn letter(byte: u8) -> char {
-    if byte.is_ascii_graphic() {
-        char::from(byte)
-    } else {
-        '?'
-    }
-}
-
 /// Appends an operation as it is written, on one line: what is between two tokens is one blank. A long one is cut off.
-fn push_written(text: &mut String, bytes: &[u8]) -> Result<(), AllocError> {
+fn push_written(text: &mut Text, bytes: &[u8]) {
     let mut is_apart = false;
     for (index, byte) in bytes.iter().enumerate() {
         if index == MOST_WRITTEN {
-            return text.push_str(" ..");
+            text.words(" ..");
+            return;
         }
         if byte.is_ascii_whitespace() {
             is_apart = true;
         } else {
             if is_apart {
-                text.push(' ')?;
+                text.words(" ");
             }
             is_apart = false;
-            text.push(letter(*byte))?;
+            text.letter(printable(*byte));
         }
     }
-    Ok(())
 }
 
 /// The words of a stop: the block with its type, its state, the transition or the action, the operation as it is
@@ -176,42 +145,36 @@ pub fn words_of(
     declaration: &[u8],
     shown: Option<Shown>,
 ) -> Result<String, AllocError> {
-    let mut text = String::new(alloc);
-    text.push_str("stop")?;
-    push_instance(&mut text, system, instance_of(stop.at), stop.site)?;
+    let mut text = Text::new(alloc);
+    text.words("stop");
+    push_instance(&mut text, system, instance_of(stop.at), stop.site);
     if let StopSite::BeforeEvent = stop.site {
-        text.push_str(", before its event")?;
+        text.words(", before its event");
     }
-    text.push_str(": ")?;
+    text.words(": ");
     let operation = written(declaration, shown);
     if !operation.is_empty() {
-        push_written(&mut text, operation)?;
-        text.push_str(": ")?;
+        push_written(&mut text, operation);
+        text.words(": ");
     }
-    text.push_str(reason_word(stop.reason))?;
-    Ok(text)
+    text.words(reason_word(stop.reason));
+    text.into_string()
 }
 
 /// Appends the line of the instance that used the most steps of a tick, and leaves it out from then on.
-fn push_most(
-    text: &mut String,
-    system: &System,
-    spent: &mut Vec<u64>,
-    limit: u64,
-    tick: u64,
-) -> Result<(), AllocError>
+fn push_most(text: &mut Text, system: &System, spent: &mut Vec<u64>, limit: u64, tick: u64)
     requires { length spent.old.items ≡ instance_count system.now }
-    ensures { OnOk result (length spent.new.items ≡ length spent.old.items) }
+    ensures { length spent.new.items ≡ length spent.old.items }
 {
     system.facts();
     let Some(index) = most(spent.as_slice()) else {
-        return Ok(());
+        return;
     };
-    let used = spent[index];
-    write!(text, "\ntick {tick}: {used} of {limit} steps by ")?;
-    push_named(text, "", system.path(index as u32))?;
+    text.numbered("\ntick ", tick as usize, ": ");
+    text.numbered("", spent[index] as usize, " of ");
+    text.numbered("", limit as usize, " steps by ");
+    push_path(text, system.path(index as u32));
     spent[index] = 0;
-    Ok(())
 }
 
 /// Where the count of steps ran out: how they were used in that tick, a line for each of the blocks that used the most,
@@ -226,19 +189,19 @@ pub fn spent_words(
     limit: u64,
     stop: &FoundStop,
 ) -> Result<String, AllocError> {
-    let mut text = String::new(alloc);
     if horizon > LATEST_TICK || limit > MOST_STEPS {
-        return Ok(text);
+        return Ok(String::new(alloc));
     }
     let Reason::Steps = stop.reason else {
-        return Ok(text);
+        return Ok(String::new(alloc));
     };
     let (tick, resource) = (stop.key.tick, stop.key.resource);
     let Some(mut spent) = steps_spent(alloc, system, horizon, limit, tick, resource)? else {
-        return Ok(text);
+        return Ok(String::new(alloc));
     };
-    push_most(&mut text, system, &mut spent, limit, tick)?;
-    push_most(&mut text, system, &mut spent, limit, tick)?;
-    push_most(&mut text, system, &mut spent, limit, tick)?;
-    Ok(text)
+    let mut text = Text::new(alloc);
+    push_most(&mut text, system, &mut spent, limit, tick);
+    push_most(&mut text, system, &mut spent, limit, tick);
+    push_most(&mut text, system, &mut spent, limit, tick);
+    text.into_string()
 }
