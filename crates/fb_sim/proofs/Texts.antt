@@ -55,6 +55,15 @@ last_joined i form lists firsts lasts cut (Ok ts) (Ok t) all is x y =
 last_joined i form lists firsts lasts cut (Ok ts) (Err e) all is x y = absurd is
 last_joined i form lists firsts lasts cut (Err e) b all is x y = absurd is
 
+-- one text, after none
+pub one_joined : {E : Type 0} (i : Inputs) (form : Form) (lists : List (List run.Line)) (a : Result (Vec (Vec ℕ)) E) (first : Vec (Vec ℕ)) (b : Result (Vec ℕ) E) → first.items ≡ []
+    → IfOk a (λ v. IsOkAnd {E = E} (Ok first) (λ ts. IsOkAnd b (λ t. all_bytes v.items ≡ all_bytes ts.items ++ t.items)))
+    → IfOk b (λ v. IsWovenText i form lists v.items) → IfOk a (λ v. IsWovenText i form lists (all_bytes v.items))
+one_joined i form lists (Ok v) first (Ok t) none is x =
+    subst (IsWovenText i form lists) (sym (is ∙ ap (λ (vs : List (Vec ℕ)). all_bytes vs ++ t.items) none)) x
+one_joined i form lists (Ok v) first (Err e) none is x = absurd is
+one_joined i form lists (Err e) first b none is x = tt
+
 -- a list of these lines
 abbrev pub vec_of : Global → (xs : List run.Line) → length xs < 2 ^ 63 → Vec run.Line
 vec_of heap xs small = record { ptr = null_ptr; len = length xs; cap = length xs; alloc = heap; items = xs; ok = (refl, le_refl (length xs)); small = small }

@@ -1,12 +1,7 @@
 //! Lines that have become final and are not written yet.
 
-ghost use Rattle.std.specs.Prelude.{◌≡◌, ◌<◌, ◌^◌, [], List, map, length, All, IfErr, IfOk, IfSome, None};
-ghost use Rattle.std.specs.List.{AllZip};
-ghost use Rattle.fb_types.specs.Headline.{Inputs};
-ghost use Rattle.fb_types.specs.declared.run.Form.{Form};
-ghost use Rattle.fb_types.specs.declared.run.Line.{Line};
+ghost use Rattle.std.specs.Prelude.{◌≡◌, ◌<◌, ◌^◌, [], map, length, All, IfErr, IfOk, IfSome, None};
 ghost use Rattle.fb_system.specs.OfSystem.{BelongsTo};
-ghost use Rattle.fb_trace.specs.Marks.{IsMarkedText};
 ghost use Rattle.fb_trace.specs.Merging.{flat};
 ghost use Rattle.fb_sim.specs.Rounds.{FailsToHandOut, HandsOut, IsHeldOf};
 ghost use Rattle.fb_sim.specs.Texts.{AreHeldIn};
@@ -16,7 +11,7 @@ ghost use Rattle.fb_sim.specs.declared.outcome.RunError.TheVariants.{Memory};
 use crate::joining::joined_text;
 use crate::marked::FinalTexts;
 use crate::outcome::RunError;
-use crate::printing::texts_of;
+use crate::printing::{texts_of, with_last};
 use crate::rounds::hand_out;
 use fb_system::System;
 use fb_trace::{MarkedText, merge};
@@ -66,17 +61,6 @@ fn are_close(lists: &[Vec<Line>], count: usize) -> bool {
 /// Whether other threads make the text of this many lines.
 fn are_many(lists: &[Vec<Line>], count: usize) -> bool {
     count >= MANY || (count >= FEW && are_close(lists, count))
-}
-
-/// The text of all lists in one part, joined from that of each.
-fn joined(alloc: Global, texts: &[MarkedText]) -> Result<Vec<Vec<u8>>, AllocError>
-    ensures { (i : Inputs) (form : Form) (lists : List (List Line)) → AllZip (IsMarkedText i form) lists texts.now
-        → IfOk result (λ v. IsWovenText i form lists (all_bytes v.items)) }
-{
-    let text = joined_text(alloc, texts)?;
-    let mut parts = Vec::new(alloc);
-    parts.push(text)?;
-    Ok(parts)
 }
 
 /// Lines that have become final and are not written yet: the next round writes them.
@@ -180,7 +164,7 @@ impl Held {
         ensures { IfOk result (λ v. IsWovenText system.now form (map (λ p. p.items) self.now.lists.items) (all_bytes v.items)) }
     {
         match self.texts_in(form) {
-            Some(texts) => joined(alloc, texts),
+            Some(texts) => with_last(Ok(Vec::new(alloc)), joined_text(alloc, texts)),
             None => texts_of(rt, alloc, system, form, &self.lists, threads),
         }
     }

@@ -19,24 +19,8 @@ use std::io::Write;
 use std::thread;
 use std::thread::Threads;
 
-/// The text of the lines of lists in one part.
-fn one_text(
-    alloc: Global,
-    system: &System,
-    form: Form,
-    lists: &[&[Line]],
-) -> Result<Vec<Vec<u8>>, AllocError>
-    requires { All (λ q. All (BelongsTo system.now) q.now) lists.now }
-    ensures { IfOk result (λ v. IsWovenText system.now form (map (λ q. q.now) lists.now) (all_bytes v.items)) }
-{
-    let text = woven_text(alloc, system, form, lists)?;
-    let mut texts = Vec::new(alloc);
-    texts.push(text)?;
-    Ok(texts)
-}
-
 /// Texts with one more after them, where memory did not run out.
-fn with_last(
+pub(crate) fn with_last(
     texts: Result<Vec<Vec<u8>>, AllocError>,
     last: Result<Vec<u8>, AllocError>,
 ) -> Result<Vec<Vec<u8>>, AllocError>
@@ -94,7 +78,8 @@ fn texts_by<R: Threads + Sync>(
     ensures { IfOk result (λ v. IsWovenText system.now form (map (λ q. q.now) lists.now) (all_bytes v.items)) }
 {
     if threads < 2 {
-        return one_text(alloc, system, form, lists);
+        let text = woven_text(alloc, system, form, lists);
+        return with_last(Ok(Vec::new(alloc)), text);
     }
     parts_by(rt, alloc, system, form, lists, threads)
 }

@@ -11,7 +11,7 @@ use Rattle.fb_types.specs.Headline.{system_of}
 use Rattle.fb_system.specs.Lines.{BelongsTo}
 use Rattle.fb_sim.specs.Weaving.{IsWovenText, all_bytes}
 use Rattle.fb_sim.proofs.Crossing.{system_sync}
-use Rattle.fb_sim.proofs.Texts.{last_joined}
+use Rattle.fb_sim.proofs.Texts.{last_joined, one_joined}
 use Rattle.fb_sim.proofs.Weaving.{parts_each}
 use Rattle.fb_sim.proofs.printing.+parts.Goals as goal
 
@@ -42,3 +42,9 @@ parts_by-returns g t c =
     subst (λ (qs : List (Bor (List Line))). IfOk c.join-last.result.0 (λ v. IsWovenText i form (map (λ q. q.now) qs) v.items)) c.as_slice-back_lists.ensures.value c.join-last.ensures.first in
     IfOk-weaker c.with_last.result _ (λ v. IsWovenText i form lists (all_bytes v.items))
     (λ v is. last_joined i form lists front back c.in_ok-firsts.ensures c.join-last.result.1 c.join-last.result.0 (all_bytes v.items) is texts last) c.with_last.ensures
+
+-- one text
+pub texts_by-returns-then-threads-lt2 : goal.texts_by-returns-then-threads-lt2
+texts_by-returns-then-threads-lt2 g t c =
+    let lists = map (λ (q : Bor (List Line)). q.now) c.args.lists.now in
+    one_joined c.args.system.now c.args.form lists c.with_last.result c.new.result c.woven_text-text.result c.new.ensures.items c.with_last.ensures c.woven_text-text.ensures
