@@ -16,7 +16,7 @@ use crate::outcome::RunError;
 use crate::pace::{NoClock, threads_for};
 use crate::reading::open;
 use crate::trial::{choose, reserve_text, run_first, run_rest};
-use crate::work::{Hands, Windows};
+use crate::work::{Hands, Windows, workers_on};
 use fb_phase::{Crew, Gate};
 use fb_resource::Resource;
 use fb_system::System;
@@ -80,7 +80,7 @@ fn run_rounds<R: Threads + Wait + Sync, W: Write, P: Gate, C: Clock + CpuClock>(
     ensures trace { (given : Given) → Declares given system.now → IfOk result (λ o. Writes given options (W.contents out.old) (W.contents out.new) (ending_of o)) }
     ensures failed { (given : Given) → Declares given system.now → IfErr result (FailsRun given options (W.contents out.old) (W.contents out.new)) }
 {
-    let workers = hands.workers(options.workers);
+    let workers = workers_on(hands.threads, options.workers);
     let fewer = Options { workers, ..options };
     let core = open_core(alloc, system, options.steps)?;
     let mut text = Vec::new(alloc);
@@ -130,27 +130,6 @@ fn run_workers<R: Threads + Wait + Sync, W: Write, P: Gate, C: Clock + CpuClock>
         },
     );
     ended
-}
-
-/// Runs an accepted system with one worker or with several, and writes its trace. One resource leaves nothing to do for
-/// a second worker.
-fn run_system<R: Threads + Wait + Sync, W: Write, P: Gate, C: Clock + CpuClock>(
-    rt: &R,
-    alloc: Global,
-    system: &System,
-    options: Options,
-    out: &mut W,
-    gate: &P,
-    clock: &C,
-) -> Result<Outcome, RunError>
-    requires { AreWithin options }
-    ensures trace { (given : Given) → Declares given system.now → IfOk result (λ o. Writes given options (W.contents out.old) (W.contents out.new) (ending_of o)) }
-    ensures failed { (given : Given) → Declares given system.now → IfErr result (FailsRun given options (W.contents out.old) (W.contents out.new)) }
-{
-    if options.workers == 1 || system.resources() == 1 {
-        return run_one_agenda(alloc, system, options, out);
-    }
-    run_workers(rt, alloc, system, options, out, gate, clock)
 }
 
 /// Runs the application of the inputs with workers, and writes its trace, which is that of a run on one thread.
@@ -234,5 +213,10 @@ pub fn run_with_clock<R: Threads + Wait + Sync, W: Write, P: Gate, C: Clock + Cp
         return Err(RunError::BadOption);
     }
     let system = open(alloc, inputs)?;
-    run_system(rt, alloc, &system, options, out, gate, clock)
+    // One resource leaves nothing to do for a second worker.
+    if options.workers == 1 || system.resources() == 1 {
+        run_one_agenda(alloc, &system, options, out)
+    } else {
+        run_workers(rt, alloc, &system, options, out, gate, clock)
+    }
 }

@@ -139,6 +139,15 @@ pub(crate) fn apart(alloc: Global, all: Vec<TextedDone>) -> Result<Dones, AllocE
     })
 }
 
+/// How many workers a run has that asks for this many, where there are so many threads.
+pub(crate) fn workers_on(threads: u64, most: u64) -> u64
+    requires { 1 ≤ most }
+    ensures some { 1 ≤ result }
+    ensures few { result ≤ most }
+{
+    most.min(threads.max(1))
+}
+
 /// Who runs the jobs of a round, and the gate that they pass.
 #[derive(Drop)]
 pub(crate) struct Hands<'a, P> {
@@ -176,15 +185,6 @@ impl<'a, P: Gate> Hands<'a, P> {
             crew,
             threads,
         }
-    }
-
-    /// How many workers a run has that asks for this many.
-    pub(crate) fn workers(&self, most: u64) -> u64
-        requires { 1 ≤ most }
-        ensures some { 1 ≤ result }
-        ensures few { result ≤ most }
-    {
-        most.min(self.threads.max(1))
     }
 
     /// Runs all jobs, and gives what was made of each in their order.

@@ -13,14 +13,14 @@ use Rattle.fb_sim.proofs.runs.run_rounds.Goals as goal
 pub run_first-requires-clause-options : goal.run_first-requires-clause-options
 run_first-requires-clause-options g c κs w =
     let o = c.requires in
-    let few = c.workers-workers.ensures.few in
+    let few = c.workers_on-workers.ensures.few in
     let most = o.workers_most in
     record {
       horizon_least = o.horizon_least;
       horizon_most = o.horizon_most;
       steps_least = o.steps_least;
       steps_most = o.steps_most;
-      workers_least = c.workers-workers.ensures.some;
+      workers_least = c.workers_on-workers.ensures.some;
       workers_most = omega arith;
     }
 
@@ -30,14 +30,14 @@ run_first-requires-clause-come g c κs w = c.in_ok-core.ensures c.args.options.h
 pub run_rest-requires-clause-options : goal.run_rest-requires-clause-options
 run_rest-requires-clause-options g c κs w =
     let o = c.requires in
-    let few = c.workers-workers.ensures.few in
+    let few = c.workers_on-workers.ensures.few in
     let most = o.workers_most in
     record {
       horizon_least = o.horizon_least;
       horizon_most = o.horizon_most;
       steps_least = o.steps_least;
       steps_most = o.steps_most;
-      workers_least = c.workers-workers.ensures.some;
+      workers_least = c.workers_on-workers.ensures.some;
       workers_most = omega arith;
     }
 

@@ -12,7 +12,7 @@ returns-in_err-system-clause-failed g c =
     (fails_open given o (c.are_within.ensures.0 (search rules)) old c.in_err-system.field-0.0 c.in_err-system.ensures.refused)
 
 pub returns-clause-trace : goal.returns-clause-trace
-returns-clause-trace g c = c.run_system.ensures.trace c.args.inputs.now c.in_ok-system.ensures.system
+returns-clause-trace g c = c.run_workers.ensures.trace c.args.inputs.now c.in_ok-system.ensures.system
 
 pub returns-clause-failed : goal.returns-clause-failed
-returns-clause-failed g c = c.run_system.ensures.failed c.args.inputs.now c.in_ok-system.ensures.system
+returns-clause-failed g c = c.run_workers.ensures.failed c.args.inputs.now c.in_ok-system.ensures.system
