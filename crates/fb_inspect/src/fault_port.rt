@@ -15,11 +15,11 @@ use fb_wave::Port;
 use fb_wave::last::resource_of;
 
 /// The port of the second and the third word of a line.
-fn port_of<'a>(system: &System, words: &ThreeWords<'a>) -> Result<Port, PortFault<'a>>
+fn port_of<'a>(system: &System, words: ThreeWords<'a>) -> Result<Port, PortFault<'a>>
     ensures port { IfOk result (IsPortOf system.now) }
-    ensures sign { IfOk result (λ p. words.now.sign.now ≡ sign_text p.taken) }
-    ensures named { IfOk result (λ p. words.now.port.now ≡ path_event system.now p) }
-    ensures fault { (text : List ℕ) → AreThree text words.now.resource.now words.now.sign.now words.now.port.now words.now.rest.now
+    ensures sign { IfOk result (λ p. words.entry.sign.now ≡ sign_text p.taken) }
+    ensures named { IfOk result (λ p. words.entry.port.now ≡ path_event system.now p) }
+    ensures fault { (text : List ℕ) → AreThree text words.entry.resource.now words.entry.sign.now words.entry.port.now words.entry.rest.now
         → IfErr result (IsPortFault system.now text) }
 {
     let Some(taken) = taken_of(words.sign) else {
@@ -55,7 +55,7 @@ pub(crate) fn port_fault<'a>(system: &System, text: &'a [u8]) -> Option<PortFaul
     let Some(_resource) = resource_of(system, words.resource) else {
         return Some(PortFault::Resource(words.resource));
     };
-    let port = match port_of(system, &words) {
+    let port = match port_of(system, words) {
         Ok(port) => port,
         Err(fault) => return Some(fault),
     };

@@ -9,14 +9,14 @@ use Rattle.fb_inspect.proofs.Ported.{path_is, renamed}
 use Rattle.fb_inspect.proofs.fault_port.port_of.Goals as goal
 
 pub returns-in_default-clause-fault : goal.returns-in_default-clause-fault
-returns-in_default-clause-fault c text are = (c.args.words.now.resource.now, c.args.words.now.port.now, c.args.words.now.rest.now, are, c.in_default.ensures)
+returns-in_default-clause-fault c text are = (c.args.words.resource.now, c.args.words.port.now, c.args.words.rest.now, are, c.in_default.ensures)
 
 pub returns-in_default-halves-clause-fault : goal.returns-in_default-halves-clause-fault
-returns-in_default-halves-clause-fault c text are = (c.args.words.now.resource.now, c.args.words.now.sign.now, c.args.words.now.rest.now, are, c.in_default-halves.ensures)
+returns-in_default-halves-clause-fault c text are = (c.args.words.resource.now, c.args.words.sign.now, c.args.words.rest.now, are, c.in_default-halves.ensures)
 
 pub returns-in_default-instance_of-clause-fault : goal.returns-in_default-instance_of-clause-fault
 returns-in_default-instance_of-clause-fault c text are =
-    let w = c.args.words.now in (
+    let w = c.args.words in (
       w.resource.now,
       w.sign.now,
       c.in-Some-halves.parts.1.now,
@@ -28,7 +28,7 @@ returns-in_default-instance_of-clause-fault c text are =
 pub returns-in-None-clause-fault : goal.returns-in-None-clause-fault
 returns-in-None-clause-fault c text are =
     let sys = system_of c.args.system.now in
-    let w = c.args.words.now in
+    let w = c.args.words in
     let i = c.in-Some-instance_of.instance in
     let name = c.in-Some-halves.parts.1.now in (
       w.resource.now,
@@ -42,7 +42,7 @@ returns-in-None-clause-fault c text are =
 pub returns-in-Some-event_of-clause-named : goal.returns-in-Some-event_of-clause-named
 returns-in-Some-event_of-clause-named c =
     let sys = system_of c.args.system.now in
-    let w = c.args.words.now in
+    let w = c.args.words in
     let i = c.in-Some-instance_of.instance in
     let name = c.in-Some-halves.parts.1.now in
     let same = c.events_of.ensures ∙ ap (λ (its : Ports). events its c.in-Some.taken) c.ports.ensures in
