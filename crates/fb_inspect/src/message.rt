@@ -2,18 +2,21 @@
 
 use crate::fault_text::LineText;
 use crate::finding::{Finding, RefusedLine};
+use crate::notes::word_of;
 use fb_system::System;
-use fb_types::{Emission, Ports, Reason};
+use fb_types::{Emission, Ports};
 use std::alloc::{AllocError, Global};
 
 /// Adds the values of the variables WITH an event.
 fn push_values(text: &mut LineText, ports: &Ports, indexes: &[u32], emission: &Emission) {
-    for (index, value) in indexes.iter().zip(emission.values.as_slice()) {
-        if let Some(variable) = ports.outputs.as_slice().get(*index as usize) {
+    let variables = ports.outputs.as_slice();
+    let values = emission.values.as_slice();
+    for place in 0..indexes.len().min(values.len()) {
+        if let Some(variable) = variables.get(indexes[place] as usize) {
             text.words(" ");
             text.name(variable.name.as_bytes());
             text.words("=");
-            text.value(*value);
+            text.value(values[place]);
         }
     }
 }
@@ -30,15 +33,6 @@ fn push_emission(text: &mut LineText, system: &System, instance: u32, emission: 
         text.name(event.name.as_bytes());
         let indexes = system.outputs_with(instance, emission.event);
         push_values(text, ports, indexes, emission);
-    }
-}
-
-/// The word of a reason, as a last line has it.
-fn reason_word(reason: Reason) -> &'static str {
-    match reason {
-        Reason::Steps => "steps",
-        Reason::Divide => "divide",
-        Reason::Range => "range",
     }
 }
 
@@ -68,7 +62,7 @@ pub fn finding_message(
         Finding::NoStep => text.words("the resource uses more steps in this tick than it has"),
         Finding::Stops(reason) => {
             text.words("the reaction stops the resource here: ");
-            text.words(reason_word(*reason));
+            text.name(word_of(*reason));
         }
         Finding::Runs => text.words("nothing stops the resource here"),
     }

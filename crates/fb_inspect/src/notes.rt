@@ -114,7 +114,8 @@ pub(crate) fn put_ran(
     text.extend_from_slice(b"\n")
 }
 
-fn word_of(reason: Reason) -> &'static [u8]
+/// The word of a reason, as a last line has it.
+pub(crate) fn word_of(reason: Reason) -> &'static [u8]
     ensures { result.now ≡ reason_text reason }
 {
     match reason {
