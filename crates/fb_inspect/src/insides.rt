@@ -166,7 +166,10 @@ pub fn begun(
         is_shown: true,
         marks,
         finding: Finding::Line,
-        passed: PassedLines::none(alloc),
+        passed: PassedLines {
+            lines: Vec::new(alloc),
+            are_kept: false,
+        },
     };
     Ok(Walk {
         blocks,

@@ -69,14 +69,6 @@ impl Drop for Trail {
 }
 
 impl PassedLines {
-    /// No lines are kept.
-    pub(crate) fn none(alloc: Global) -> PassedLines {
-        PassedLines {
-            lines: Vec::new(alloc),
-            are_kept: false,
-        }
-    }
-
     /// A line was passed.
     fn pass(&mut self, alloc: Global, line: &Line) -> Result<(), AllocError>
         ensures { OnOk result (HavePassed (line.now ∷ []) self.old self.new) }
