@@ -58,6 +58,10 @@ module _ (sys : System) (form : Form) (first : Line) where
   }
 
   -- the last line has no end, so the trace is cut off after the rows
+  pub rows_read :
+      (rows : List Line) (text last whole : List ℕ) (input remaining : Option (List ℕ)) → AreGathered sys form first rows text last input remaining → whole ≡ text ++ last → Consumes input remaining whole
+  rows_read rows text last whole input remaining are is = subst (λ (t : List ℕ). Consumes input remaining t) (sym is) are.read
+
   pub rows_cut :
       (rows : List Line) (text last : List ℕ) (input remaining : Option (List ℕ)) → AreGathered sys form first rows text last input remaining → is_unended last ≡ true
       → AreCutOff sys form first rows text input

@@ -1,7 +1,6 @@
 //! Lines that are read ahead.
 
 ghost use Rattle.std.specs.Prelude.{◌≡◌, ◌∷◌, ◌++◌, ◌||◌, [], IfErr, IfNone, IfOk, IfSome, IsTrue, List, OnOk, true, false};
-ghost use Rattle.std.specs.Io.KnownBytes.{Consumes};
 ghost use Rattle.fb_types.specs.declared.run.Line as run;
 ghost use Rattle.fb_inspect.specs.Refusals.{IsNoRefusal};
 ghost use Rattle.fb_inspect.specs.Standing.{IsLeft};
@@ -188,44 +187,8 @@ impl Ahead {
         Err(InspectError::Read)
     }
 
-    /// Reads the lines after that of an event. Answers whether the trace is cut off in them, if it may be: then the
-    /// part of a line is not added to the text.
-    fn fill<R: BufRead>(
-        &mut self,
-        fixed: &Fixed<'_, '_>,
-        cut: Cut,
-        first: &Line,
-        input: &mut R,
-    ) -> Result<bool, InspectError>
-        ensures whole { IfOk result (λ is_cut. is_cut ≡ false → Consumes (R.remaining input.old) (R.remaining input.new) self.new.text.items) }
-        ensures cut { IfOk result (λ is_cut. is_cut ≡ true → (cut ≡ Cut.Allowed) × AreCutOff fixed.now first.now self.new.rows.items self.new.text.items (R.remaining input.old)) }
-        ensures watched { OnOk result (self.new.watched ≡ self.old.watched) }
-        ensures ahead { HasNames fixed.now → IfOk result (λ is_cut. is_cut ≡ false
-            → IfSome (R.remaining input.old) (λ before. IsLeft (R.remaining input.new) (λ rest. (before ≡ self.new.text.items ++ rest)
-            × AreAhead fixed.now first.now self.new.rows.items self.new.text.items self.new.last.items rest))) }
-        ensures fault { IfErr result IsNoRefusal }
-    {
-        self.gather(fixed, first, input)?;
-        if is_severed(cut, self.last.as_slice()) {
-            return Ok(true);
-        }
-        self.text.extend_from_slice(self.last.as_slice())?;
-        Ok(false)
-    }
-
-    /// Whether the walk has passed all lines that were read ahead.
-    fn is_passed(&self) -> bool
-        ensures passed { IsTrue result → self.now.text.items ≡ [] }
-        ensures more { result ≡ false → self.now.text.items ≡ [] → ⊥ }
-    {
-        match self.text.as_slice() {
-            [] => true,
-            [_, ..] => false,
-        }
-    }
-
     /// Reads the lines after that of an event, if the walk has passed all lines that were read ahead. Answers whether
-    /// the trace is cut off in them, if it may be.
+    /// the trace is cut off in them, if it may be: then the part of a line is not added to the text.
     pub(crate) fn look<R: BufRead>(
         &mut self,
         fixed: &Fixed<'_, '_>,
@@ -242,10 +205,15 @@ impl Ahead {
         ensures fault { IfErr result IsNoRefusal }
         ensures cut { IfOk result (λ is_cut. is_cut ≡ true → (cut ≡ Cut.Allowed) × (self.old.text.items ≡ []) × AreCutOff fixed.now first.now self.new.rows.items self.new.text.items (R.remaining input.old)) }
     {
-        if !self.is_passed() {
+        if !self.text.is_empty() {
             return Ok(false);
         }
-        self.fill(fixed, cut, first, input)
+        self.gather(fixed, first, input)?;
+        if is_severed(cut, self.last.as_slice()) {
+            return Ok(true);
+        }
+        self.text.extend_from_slice(self.last.as_slice())?;
+        Ok(false)
     }
 
     /// Keeps the rest of the text, which the walk has not passed.
