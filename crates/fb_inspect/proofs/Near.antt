@@ -4,7 +4,7 @@ use Rattle.std.specs.Bool.{OnFalse, OnTrue}
 use Rattle.std.proofs.lemmas.List.{take_more}
 use Rattle.std.proofs.lemmas.List.Elements.{All-push}
 use Rattle.std.proofs.lemmas.Option.{get_or_from_slice_get}
-use Rattle.std.specs.Prelude.{All, IfNone, IfSome, is_some, slice_get, slice_set}
+use Rattle.std.specs.Prelude.{All, slice_get, slice_set}
 use Rattle.fb_types.specs.Blocks.{Basic, Composite, Event, Kind}
 use Rattle.fb_types.specs.Numbers.{line_of}
 use Rattle.fb_types.specs.Simulation.{AtStop}
@@ -26,10 +26,8 @@ use Rattle.fb_inspect.specs.Inspections.{KeepSteps}
 use Rattle.fb_inspect.specs.Looks.{Look, Seen, left_at, most}
 use Rattle.fb_inspect.specs.Refusals.{steps_stop}
 use Rattle.fb_inspect.specs.Standing.{AreApart}
-use Rattle.fb_inspect.specs.Walking.{HasLimited, HasStepped, IsKept, MayEnd, keeps_chart}
+use Rattle.fb_inspect.specs.Walking.{HasLimited, HasStepped, IsKept, MayEnd}
 use Rattle.fb_inspect.specs.declared.blocks.Chart.{Chart}
-use Rattle.fb_inspect.specs.declared.blocks.EventBlock.{EventBlock}
-use Rattle.fb_inspect.specs.declared.blocks.Remembered.{Remembered}
 use Rattle.fb_inspect.specs.declared.blocks.Remembered.TheVariants as kept
 use Rattle.fb_inspect.specs.declared.steps.TickSteps.{TickSteps}
 use Rattle.fb_inspect.proofs.OneEnd.{end_once}
@@ -66,45 +64,11 @@ far_none sys line is last none e = none (AtStop line.key.tick line.key.resource 
 pub true_not : true ≡ false → ⊥
 true_not e = cc
 
--- a chart is found where one is kept
-pub chart_shown :
-    {A : Type 0} (o : Option A) (f : A → Chart) (b : Option Remembered) → IfSome o (λ x. b ≡ Some (kept.Basic (f x))) → IfNone o ((c : Chart) → b ≡ Some (kept.Basic c) → ⊥)
-    → is_some o ≡ keeps_chart b
-chart_shown None f None some none = refl
-chart_shown None f (Some (kept.Basic c)) some none = absurd (none c refl)
-chart_shown None f (Some (kept.Event b)) some none = refl
-chart_shown None f (Some kept.Composite) some none = refl
-chart_shown (Some x) f b some none = ap keeps_chart (sym some)
-
 pub basic_kept : (kind : Option Kind) (c : Chart) (s : Seen) → IsKept kind (kept.Basic c) s → (t : BasicType) × (kind ≡ Some (Basic t))
 basic_kept None c s h = absurd h
 basic_kept (Some (Basic t)) c s h = (t, refl)
 basic_kept (Some (Event e)) c s h = absurd h
 basic_kept (Some (Composite e)) c s h = absurd h
-
-pub basic_at :
-    (o : Option Remembered) → keeps_chart o ≡ true → (kind : Option Kind) (s : Seen) → ((b : Remembered) → o ≡ Some b → IsKept kind b s) → (t : BasicType) × (kind ≡ Some (Basic t))
-basic_at None is kind s each = absurd (true_not (sym is))
-basic_at (Some (kept.Basic c)) is kind s each = basic_kept kind c s (each (kept.Basic c) refl)
-basic_at (Some (kept.Event b)) is kind s each = absurd (true_not (sym is))
-basic_at (Some kept.Composite) is kind s each = absurd (true_not (sym is))
-
-block_kept : (kind : Option Kind) (t : BasicType) → kind ≡ Some (Basic t) → (b : EventBlock) (s : Seen) → IsKept kind (kept.Event b) s → ⊥
-block_kept None t is b s h = h
-block_kept (Some (Basic u)) t is b s h = h
-block_kept (Some (Event e)) t is b s h = cc
-block_kept (Some (Composite e)) t is b s h = h
-
-composite_kept : (kind : Option Kind) (t : BasicType) → kind ≡ Some (Basic t) → (s : Seen) → IsKept kind kept.Composite s → ⊥
-composite_kept None t is s h = h
-composite_kept (Some (Basic u)) t is s h = h
-composite_kept (Some (Event e)) t is s h = h
-composite_kept (Some (Composite e)) t is s h = cc
-
-pub not_basic : (b : Remembered) → keeps_chart (Some b) ≡ false → (kind : Option Kind) (t : BasicType) → kind ≡ Some (Basic t) → (s : Seen) → IsKept kind b s → ⊥
-not_basic (kept.Basic c) is kind t e s h = true_not is
-not_basic (kept.Event b) is kind t e s h = block_kept kind t e b s h
-not_basic kept.Composite is kind t e s h = composite_kept kind t e s h
 
 -- ---- A stop that a trace may have
 
@@ -144,6 +108,11 @@ same_reason a b e = cc
 pub no_steps : (stop : Option Reason) (reason : Reason) (P : Type 0) → stop ≡ Some reason → (reason ≡ Steps → ⊥) → (stop ≡ Some Steps) ⊎ ((stop ≡ None) × P) → ⊥
 no_steps stop reason P is other (inl e) = other (same_reason reason Steps (sym is ∙ e))
 no_steps stop reason P is other (inr p) = no_some reason (sym p.0 ∙ is)
+
+-- a taking that did not stop has run out of steps where none is left
+pub out_of_steps : (stop : Option Reason) (P : Type 0) → stop ≡ None → (stop ≡ Some Steps) ⊎ ((stop ≡ None) × P) → P
+out_of_steps stop P is (inl e) = absurd (no_some Steps (sym is ∙ e))
+out_of_steps stop P is (inr p) = p.1
 
 pub step_used :
     (r : Bool) (limit : ℕ) (key : Key) (old new : List TickSteps) (own after : TickSteps) → slice_get old key.resource ≡ Some own

@@ -196,9 +196,6 @@ StandsWell f = standing.StandsWell (sys_of f) f.form
 abbrev pub Watches : Fixed → (steps : ℕ) → List Taking → (number : ℕ) → (text : List ℕ) → (is_excess : Bool) → Type 0
 Watches f = standing.Watches (sys_of f) f.form
 
-abbrev pub StandsAfter : Fixed → (steps : ℕ) → List Taking → Walk → (ahead last : List ℕ) → Line → (rest text : List ℕ) → Result Step InspectError → Type 0
-StandsAfter f = standing.StandsAfter (sys_of f) f.form
-
 abbrev pub GoesAfter : Fixed → (steps : ℕ) → Walk → Ahead → (remaining : Option (List ℕ)) → (text : List ℕ) → Result Step InspectError → Type 0
 GoesAfter f = standing.GoesAfter (sys_of f) f.form
 

@@ -64,10 +64,6 @@ IsKept (Some (Event k)) (kept.Event b) s = IsBlockKept k b s
 IsKept (Some (Composite t)) kept.Composite s = Unit {0}
 IsKept _ _ s = ⊥
 
-abbrev pub keeps_chart : Option Remembered → Bool
-keeps_chart (Some (kept.Basic c)) = true
-keeps_chart _ = false
-
 -- ---- Before the first event
 
 -- What is kept says what an instance remembers before the first event.

@@ -22,7 +22,7 @@ ghost use Rattle.fb_inspect.specs.declared.error.InspectError.TheVariants.{Refus
 ghost use Rattle.fb_inspect.specs.Standing.{IsStepsStop};
 ghost use Rattle.fb_inspect.specs.Walking.{Finishes, FinishesCut, HasLimited, HasStepped, IsLookOf, MayEnd, SendsCutPart, SendsPart, unread};
 ghost use Rattle.fb_inspect.specs.declared.blocks.Remembered.TheVariants as kept;
-ghost use Rattle.fb_inspect.specs.OfWalk.{AreAhead, AreApart, AreKept, BeginsText, CanReact, FailsAt, GoesAfter, HasAdvanced, HasCovered, HasLook, HasNames, IsCoveredBy, IsKeptAt, IsLineOf, IsNear, IsNext, IsNextLine, IsNotNear, IsShownBy, IsTextOf, IsWrongAt, KeptGoes, LineGoes, LooksAs, ReactGoes, ShowsFront, StandsAfter, StandsAt, StandsWell, Starts, StepGoes, TakingFails, WalkTakes, Watches, resource_count};
+ghost use Rattle.fb_inspect.specs.OfWalk.{AreAhead, AreApart, AreKept, BeginsText, CanReact, FailsAt, GoesAfter, HasAdvanced, HasCovered, HasLook, HasNames, IsCoveredBy, IsKeptAt, IsLineOf, IsNear, IsNext, IsNextLine, IsNotNear, IsShownBy, IsTextOf, IsWrongAt, KeptGoes, LineGoes, LooksAs, ReactGoes, ShowsFront, StandsAt, StandsWell, Starts, StepGoes, TakingFails, WalkTakes, Watches, resource_count};
 
 use crate::ahead::Ahead;
 use crate::before::chart_at;
@@ -156,10 +156,7 @@ fn use_step(steps: &mut Vec<TickSteps>, limit: u64, key: &Key) -> bool
     ensures used { OnTrue result (HasStepped limit key.now steps.old.items steps.new.items) }
     ensures none { OnFalse result ((own : TickSteps) → slice_get steps.old.items key.now.resource ≡ Some own → left_at limit key.now.tick (left_of own) ≡ 0) }
 {
-    match steps.get_mut(key.resource as usize) {
-        Some(own) => own.step(limit, key.tick),
-        None => false,
-    }
+    steps[key.resource as usize].step(limit, key.tick)
 }
 
 /// Whether an instance is shown.
@@ -170,19 +167,6 @@ fn flag_at(flags: &[bool], instance: u32) -> bool
         Some(flag) => *flag,
         None => false,
     }
-}
-
-/// Whether no resource used more than these steps in a tick so far, of the greatest limit.
-fn all_keep(all: &[TickSteps], steps: u64) -> bool
-    ensures kept { IsTrue result → All (λ s. most ≤ s.least + steps) all.now }
-    ensures more { result ≡ false → (k : ℕ) × ((s : TickSteps) × (slice_get all.now k ≡ Some s) × (most ≤ s.least + steps → ⊥)) }
-{
-    for own in all {
-        if !own.keeps(steps) {
-            return false;
-        }
-    }
-    true
 }
 
 /// How a walk goes on.
@@ -269,12 +253,8 @@ impl Walk {
             → IfErr result (OfRefusal (FailsAt fixed.now own.meter.left look line.now self.old.trail.reading self.new.trail.reading (R.remaining input.old) (R.remaining input.new))) }
         ensures next { OnOk result (IsNext fixed.now line.now.key.tick self.new.trail.reading) }
     {
-        let Some(steps) = self.steps.get_mut(line.key.resource as usize) else {
-            unreachable!()
-        };
-        let Some(block) = self.blocks.get_mut(line.instance as usize) else {
-            unreachable!()
-        };
+        let steps = &mut self.steps[line.key.resource as usize];
+        let block = &mut self.blocks[line.instance as usize];
         let trail = &mut self.trail;
         let stop = react_kept(fixed, trail, block, &mut steps.meter, line, input);
         steps.settle();
@@ -333,7 +313,12 @@ impl Walk {
         ensures kept { (sys : System) (look : Look) → IsLookOf sys self.now.blocks.items self.now.steps.items look → IsTrue result → KeepSteps sys steps look }
         ensures more { (sys : System) (look : Look) → IsLookOf sys self.now.blocks.items self.now.steps.items look → result ≡ false → KeepSteps sys steps look → ⊥ }
     {
-        all_keep(self.steps.as_slice(), steps)
+        for own in self.steps.as_slice() {
+            if !own.keeps(steps) {
+                return false;
+            }
+        }
+        true
     }
 
     /// Whether a resource used more than these steps in a tick so far, of the greatest limit.
@@ -384,17 +369,6 @@ impl Walk {
         }
     }
 
-    /// Whether a resource has no step left in a tick, of this limit.
-    fn is_used_up(&self, limit: u64, tick: u64, resource: u32) -> bool
-        ensures used { (sys : System) (look : Look) → IsLookOf sys self.now.blocks.items self.now.steps.items look → IsTrue result → left_at limit tick (look.steps resource) ≡ 0 }
-        ensures other { (sys : System) (look : Look) → IsLookOf sys self.now.blocks.items self.now.steps.items look → resource < length sys.resource_names → result ≡ false → left_at limit tick (look.steps resource) ≡ 0 → ⊥ }
-    {
-        match self.steps.as_slice().get(resource as usize) {
-            Some(steps) => steps.left_at(limit, tick) == 0,
-            None => false,
-        }
-    }
-
     /// Leaves the resource of a key in its tick what is left of these steps, in place of what is left of the greatest
     /// limit. Answers `false` where more were used.
     fn limit(&mut self, steps: u64, key: &Key) -> bool
@@ -405,17 +379,7 @@ impl Walk {
         ensures trail { self.new.trail ≡ self.old.trail }
         ensures shown { self.new.shown ≡ self.old.shown }
     {
-        match self.steps.get_mut(key.resource as usize) {
-            Some(own) => own.limit(steps, key.tick),
-            None => false,
-        }
-    }
-
-    /// Whether an instance is a basic block.
-    fn is_basic(&self, instance: u32) -> bool
-        ensures { result ≡ spec.keeps_chart (slice_get self.now.blocks.items instance) }
-    {
-        chart_at(self.blocks.as_slice(), instance).is_some()
+        self.steps[key.resource as usize].limit(steps, key.tick)
     }
 
     /// Whether the taking of the event of a line may end by its steps: the line that was read ahead is that of such a
@@ -426,9 +390,9 @@ impl Walk {
         ensures other { (look : Look) → AreKept fixed.now self.now.blocks.items look → HasNames fixed.now → AreApart fixed.now → IsLineOf fixed.now line.now
             → result ≡ false → IsNotNear fixed.now line.now ahead.now.last.items }
     {
-        if !self.is_basic(line.instance) {
+        let Some(_chart) = chart_at(self.blocks.as_slice(), line.instance) else {
             return false;
-        }
+        };
         let Some(end) = read_last(fixed.table.system, ahead.last.as_slice()) else {
             return false;
         };
@@ -465,38 +429,6 @@ impl Walk {
         Ok(stop)
     }
 
-    /// Takes the event of the next line, whose resource has all steps of the greatest limit.
-    fn take_freely(
-        &mut self,
-        fixed: &Fixed<'_, '_>,
-        line: &Line,
-        ahead: &mut Ahead,
-    ) -> Result<Step, InspectError>
-        requires is { IsTextOf fixed.now line.now self.old.trail.reading.line.items }
-        requires look { HasLook fixed.now self.old }
-        requires limit { fixed.now.limit ≡ most }
-        ensures takes { (look : Look) (steps : ℕ) (remaining : Option (List ℕ))
-            → LooksAs fixed.now self.old look
-            → IfOk result (LineGoes fixed.now steps look line.now self.old self.new ahead.new (unread ahead.old remaining) (unread ahead.new remaining)) }
-        ensures stands { (steps : ℕ) (takings : List Taking) (rest text : List ℕ) (rows : List run.Line) → StandsAt fixed.now takings self.old ahead.old.text.items ahead.old.last.items line.now rest text
-            → AreAhead fixed.now line.now rows ahead.old.text.items ahead.old.last.items rest → IsNotNear fixed.now line.now ahead.old.last.items
-            → StandsAfter fixed.now steps takings self.new ahead.new.text.items ahead.new.last.items line.now rest text result }
-        ensures watched { ahead.new.watched ≡ ahead.old.watched }
-        ensures whole { IfOk result (λ step. step ≡ Step.CutOff → ⊥) }
-    {
-        let Some(reason) = self.take_ahead(fixed, line, ahead)? else {
-            return Ok(Step::Taken);
-        };
-        // A stop for the steps is one of the limit that the trace has, which is judged by itself.
-        if is_for_steps(reason) {
-            return Err(self.trail.refusal(Finding::Stops(reason)));
-        }
-        if !is_stop(&self.trail.reading.next, &line.key, reason) {
-            return Err(self.trail.refusal(Finding::Stops(reason)));
-        }
-        Ok(Step::Ended(stop_of(&line.key, reason)))
-    }
-
     /// Takes the event of the next line, whose resource has all steps of the greatest limit, and notes if it is the
     /// first after which its resource had used more than these in a tick.
     fn take_watched(
@@ -519,10 +451,20 @@ impl Walk {
         ensures whole { IfOk result (λ step. step ≡ Step.CutOff → ⊥) }
     {
         ahead.watch(&self.trail.reading)?;
-        let step = self.take_freely(fixed, line, ahead)?;
+        let stop = self.take_ahead(fixed, line, ahead)?;
         let is_excess = self.exceeds(steps, line.key.resource);
         ahead.note(is_excess);
-        Ok(step)
+        let Some(reason) = stop else {
+            return Ok(Step::Taken);
+        };
+        // A stop for the steps is one of the limit that the trace has, which is judged by itself.
+        if is_for_steps(reason) {
+            return Err(self.trail.refusal(Finding::Stops(reason)));
+        }
+        if !is_stop(&self.trail.reading.next, &line.key, reason) {
+            return Err(self.trail.refusal(Finding::Stops(reason)));
+        }
+        Ok(Step::Ended(stop_of(&line.key, reason)))
     }
 
     /// Takes the event of the next line, after which a resource must have used up these steps.
@@ -574,9 +516,12 @@ impl Walk {
         ensures out { (sys : System) (look : Look) → IsLookOf sys self.now.blocks.items self.now.steps.items look → IsTrue result
             → (stop ≡ Some Reason.Steps) ⊎ ((stop ≡ None) × (left_at limit key.now.tick (look.steps key.now.resource) ≡ 0)) }
     {
-        match stop {
-            Some(reason) => is_for_steps(reason),
-            None => self.is_used_up(limit, key.tick, key.resource),
+        if let Some(reason) = stop {
+            return is_for_steps(reason);
+        }
+        match self.steps.as_slice().get(key.resource as usize) {
+            Some(own) => own.left_at(limit, key.tick) == 0,
+            None => false,
         }
     }
 

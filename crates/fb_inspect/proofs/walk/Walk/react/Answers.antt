@@ -20,19 +20,25 @@ react_kept-stop-requires g c =
       is = c.requires.is;
       early = c.requires.early;
       seen = c.requires.blocks.0.blocks (path_at sys l.instance);
-      kept = are.each l.instance c.in-Some-get_mut.block.now (item_is c.args.self.now.blocks.items l.instance c.in-Some-get_mut.block.now within c.in-Some-get_mut.ensures.value);
+      kept = are.each l.instance c.index_mut-block.result.now (item_is c.args.self.now.blocks.items l.instance c.index_mut-block.result.now within c.index_mut-block.ensures.value);
     }
+
+pub index_mut-steps-requires : goal.index_mut-steps-requires
+index_mut-steps-requires g c = subst (λ (n : ℕ). c.args.line.now.key.resource < n) (sym (c.args.self.now.steps.ok.0 ∙ c.requires.steps)) c.requires.is.line.belongs.resource
+
+pub index_mut-block-requires : goal.index_mut-block-requires
+index_mut-block-requires g c = subst (λ (n : ℕ). c.args.line.now.instance < n) (sym (c.args.self.now.blocks.ok.0 ∙ c.requires.blocks.1.all)) c.requires.is.line.belongs.instance
 
 pub returns-clause-goes : goal.returns-clause-goes
 returns-clause-goes g c = λ look are.
     let l = c.args.line.now in
     let within = subst (λ (n : ℕ). l.instance < n) (sym are.all) c.requires.is.line.belongs.instance in
-    let at = item_is c.args.self.now.blocks.items l.instance c.in-Some-get_mut.block.now within c.in-Some-get_mut.ensures.value in
+    let at = item_is c.args.self.now.blocks.items l.instance c.index_mut-block.result.now within c.index_mut-block.ensures.value in
     let resource = subst (λ (n : ℕ). l.key.resource < n) (sym c.requires.steps) c.requires.is.line.belongs.resource in
-    ok_then c.react_kept-stop.result _ _ (c.react_kept-stop.ensures.goes look (are.each l.instance c.in-Some-get_mut.block.now at))
+    ok_then c.react_kept-stop.result _ _ (c.react_kept-stop.ensures.goes look (are.each l.instance c.index_mut-block.result.now at))
     (λ stop goes. record {
-      own = c.in-Some.steps.now;
-      stood = item_is c.args.self.now.steps.items l.key.resource c.in-Some.steps.now resource c.in-Some.ensures.value;
+      own = c.index_mut-steps.result.now;
+      stood = item_is c.args.self.now.steps.items l.key.resource c.index_mut-steps.result.now resource c.index_mut-steps.ensures.value;
       block = c.react_kept-stop.new.block;
       left = c.react_kept-stop.new.meter.left;
       goes = goes;
@@ -46,14 +52,14 @@ returns-clause-refused g c = λ look own names plain are stood.
     let sys = system_of c.args.fixed.now.table.now.system.now in
     let l = c.args.line.now in
     let within = subst (λ (n : ℕ). l.instance < n) (sym are.all) c.requires.is.line.belongs.instance in
-    let at = item_is c.args.self.now.blocks.items l.instance c.in-Some-get_mut.block.now within c.in-Some-get_mut.ensures.value in
+    let at = item_is c.args.self.now.blocks.items l.instance c.index_mut-block.result.now within c.index_mut-block.ensures.value in
     let resource = subst (λ (n : ℕ). l.key.resource < n) (sym c.requires.steps) c.requires.is.line.belongs.resource in
-    let there = item_is c.args.self.now.steps.items l.key.resource c.in-Some.steps.now resource c.in-Some.ensures.value in
-    let same : c.in-Some.steps.now ≡ own = same_Some c.in-Some.steps.now own (sym there ∙ stood) in
+    let there = item_is c.args.self.now.steps.items l.key.resource c.index_mut-steps.result.now resource c.index_mut-steps.ensures.value in
+    let same : c.index_mut-steps.result.now ≡ own = same_Some c.index_mut-steps.result.now own (sym there ∙ stood) in
     subst
     (λ (s : TickSteps). IfErr c.react_kept-stop.result (OfRefusal (FailsBy (IsTakingAt s.meter.left look (sys.kind (path_at sys l.instance))) sys c.args.fixed.now.form l c.args.self.now.trail.reading c.react_kept-stop.new.trail.reading
     (g.R.Read.remaining c.args.input.now) (g.R.Read.remaining c.react_kept-stop.new.input)))) same
-    (c.react_kept-stop.ensures.refused look names plain (are.each l.instance c.in-Some-get_mut.block.now at))
+    (c.react_kept-stop.ensures.refused look names plain (are.each l.instance c.index_mut-block.result.now at))
 
 pub returns-clause-next : goal.returns-clause-next
 returns-clause-next g c = c.react_kept-stop.ensures.next
