@@ -1,7 +1,7 @@
 -- How a dump ends, and what the writer got where it does not.
 use Rattle.std.proofs.Common.{◌≡◌, ◌<◌, ◌+◌, ℕ, true, List, [], ◌∷◌, ◌++◌, length, map, Option, Some, None, Result, Ok, Err, refl, sym, ◌∙◌, ap, subst, inl, inr, append_assoc, append-nil, arith}
 use Rattle.std.specs.Prelude.{IfErr, IfSome, OnErr}
-use Rattle.std.specs.Io.KnownBytes.{Appends, Consumes, IsAtEnd}
+use Rattle.std.specs.Io.KnownBytes.{Appends, Consumes, IsAtEnd, prepend_known}
 use Rattle.std.proofs.KnownBytes.{Appends-nil, Appends-trans}
 use Rattle.std.proofs.lemmas.List.{map-append}
 use Rattle.std.proofs.lemmas.List.Elements.{All-nil}
@@ -18,6 +18,7 @@ use Rattle.fb_wave.specs.Copying.{IsFirstLine}
 use Rattle.fb_wave.specs.CutOff.{is_unended}
 use Rattle.fb_wave.specs.Dumps.{last_tick}
 use Rattle.fb_wave.specs.Lines.{IsLineOf}
+use Rattle.fb_inspect.proofs.Stepped.{none_ahead}
 use Rattle.fb_wave.specs.declared.truncation.Cut.{Cut}
 use Rattle.fb_wave.specs.declared.truncation.Cut.TheVariants as cut
 use Rattle.fb_wave.proofs.Copied.{ends_after}
@@ -38,6 +39,19 @@ use Rattle.fb_inspect.specs.declared.state_wave.StateWave.{StateWave}
 use Rattle.fb_inspect.proofs.Growing.{shows_cut_front, shows_front, shows_untaken_none}
 
 -- where a call fails, something holds by its error
+-- ---- What is left after the last line
+
+pub some_left : (text : List ℕ) (o : Option (List ℕ)) → (length text ≡ 0 → ⊥) → IfSome (prepend_known text o) (λ rest. 0 < length rest)
+some_left text None some = tt
+some_left [] (Some xs) some = absurd (some refl)
+some_left (x ∷ text) (Some xs) some = omega arith
+
+pub more_left : (text : List ℕ) (o : Option (List ℕ)) → text ≡ [] → IfSome o (λ rest. 0 < length rest) → IfSome (prepend_known text o) (λ rest. 0 < length rest)
+more_left text o none more = subst (λ (p : Option (List ℕ)). IfSome p (λ rest. 0 < length rest)) (sym (none_ahead text o none)) more
+
+pub end_left : (text : List ℕ) (o : Option (List ℕ)) → text ≡ [] → IsAtEnd o → IsAtEnd (prepend_known text o)
+end_left text o none over = subst IsAtEnd (sym (none_ahead text o none)) over
+
 pub err_with : {A E : Type 0} (r : Result A E) (P : E → Type 0) (Q : Type 0) → IfErr r P → ((e : E) → P e → Q) → OnErr r Q
 err_with (Ok x) P Q h f = tt
 err_with (Err e) P Q h f = f e h

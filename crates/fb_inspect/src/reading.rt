@@ -1,6 +1,6 @@
 //! The lines of a trace, with a look at the next one.
 
-ghost use Rattle.std.specs.Prelude.{IfErr, IfOk, IfSome, IsTrue, OnOk, ◌≡◌, ◌<◌, ◌+◌, false, length};
+ghost use Rattle.std.specs.Prelude.{IfErr, IfOk, IfSome, OnOk, ◌≡◌, ◌<◌, ◌+◌, length};
 ghost use Rattle.std.specs.Io.KnownBytes.{Consumes, IsAtEnd};
 ghost use Rattle.fb_wave.specs.Copying.{IsFirstLine};
 ghost use Rattle.fb_inspect.specs.Lines.{IsPlain};
@@ -129,21 +129,24 @@ impl Reading {
         Ok(())
     }
 
-    /// Whether nothing comes after the last line. Otherwise it was read ahead, or this reads it.
-    pub(crate) fn is_at_end<R: BufRead>(
+    /// The next line was the last one, so nothing may come after it. What comes was read ahead, or this reads it.
+    pub(crate) fn finish<R: BufRead>(
         &mut self,
         ahead: &Ahead,
         input: &mut R,
-    ) -> Result<bool, InspectError>
-        ensures over { IfOk result (λ over. IsTrue over → IsAtEnd (unread ahead.now (R.remaining input.old))) }
-        ensures more { IfOk result (λ over. over ≡ false → IfSome (unread ahead.now (R.remaining input.old)) (λ rest. 0 < length rest)) }
-        ensures number { self.new.number ≡ self.old.number }
-        ensures fault { IfErr result IsNoRefusal }
+    ) -> Result<(), InspectError>
+        ensures over { OnOk result (IsAtEnd (unread ahead.now (R.remaining input.old))) }
+        ensures refused { IfErr result (OfRefusal (λ n. (n ≡ self.old.number + 1) × IfSome (unread ahead.now (R.remaining input.old)) (λ rest. 0 < length rest))) }
     {
+        self.after_end = true;
         if !ahead.text.is_empty() {
-            return Ok(false);
+            return Err(self.refusal_after());
         }
-        Ok(is_over(input, &mut self.line)?)
+        if is_over(input, &mut self.line)? {
+            Ok(())
+        } else {
+            Err(self.refusal_after())
+        }
     }
 
     /// The line that was the next one is it again.

@@ -180,11 +180,7 @@ impl StateWave {
         ensures refused { IfErr result (OfRefusal (λ n. (n ≡ self.old.walk.trail.reading.number + 1) × IfSome (unread ahead.now (R.remaining input.old)) (λ rest. 0 < length rest))) }
     {
         self.dump.end(system, end, &mut self.page.text)?;
-        let reading = &mut self.walk.trail.reading;
-        reading.after_end = true;
-        if !reading.is_at_end(ahead, input)? {
-            return Err(reading.refusal_after());
-        }
+        self.walk.trail.reading.finish(ahead, input)?;
         self.page.flush(out)
     }
 

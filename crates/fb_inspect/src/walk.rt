@@ -626,11 +626,7 @@ impl Walk {
     {
         let line = self.trail.reading.line.as_slice();
         put_line(&mut self.trail.page.text, line, true)?;
-        let reading = &mut self.trail.reading;
-        reading.after_end = true;
-        if !reading.is_at_end(ahead, input)? {
-            return Err(reading.refusal_after());
-        }
+        self.trail.reading.finish(ahead, input)?;
         self.trail.page.flush(out)
     }
 

@@ -1,32 +1,27 @@
-use Rattle.std.proofs.Common.{◌≡◌, ◌<◌, ◌+◌, ◌++◌, ◌∙◌, ℕ, List, ap, length, subst, sym}
-use Rattle.std.specs.Prelude.{IfSome}
+use Rattle.std.proofs.Common.{◌+◌, ◌++◌, ◌∙◌, ℕ, List, ap, subst, sym}
 use Rattle.std.specs.Io.KnownBytes.{Appends}
 use Rattle.std.proofs.lemmas.Result.{err_from_is_err_and}
 use Rattle.fb_wave.proofs.Handing.{on_ok}
-use Rattle.fb_inspect.specs.Walking.{unread}
 use Rattle.fb_inspect.specs.declared.page.Page.{Page}
 use Rattle.fb_inspect.proofs.Ended.{nothing_sent, short_sent}
 use Rattle.fb_inspect.proofs.Ending.{err_with}
 use Rattle.fb_inspect.proofs.Going.{err_short}
 use Rattle.fb_inspect.proofs.Placed.{err_any}
-use Rattle.fb_inspect.proofs.Refused.{err_none, none_refused, refused_then}
+use Rattle.fb_inspect.proofs.Refused.{err_none}
 use Rattle.fb_inspect.proofs.walk.Walk.finish.Goals as goal
 
 pub returns-in_err-put_line-clause-fault : goal.returns-in_err-put_line-clause-fault
 returns-in_err-put_line-clause-fault g c = err_any c.from_residual.result _ (nothing_sent c.args.self.now (g.W.Write.contents c.args.out.now))
 
-pub returns-in_err-is_at_end-clause-fault : goal.returns-in_err-is_at_end-clause-fault
-returns-in_err-is_at_end-clause-fault g c = err_any c.from_residual-in_err-is_at_end.result _ (nothing_sent c.args.self.now (g.W.Write.contents c.args.out.now))
-
-pub returns-then-not-branch-clause-fault : goal.returns-then-not-branch-clause-fault
-returns-then-not-branch-clause-fault g c = nothing_sent c.args.self.now (g.W.Write.contents c.args.out.now)
+pub returns-in_err-finish-clause-fault : goal.returns-in_err-finish-clause-fault
+returns-in_err-finish-clause-fault g c = err_any c.from_residual-in_err-finish.result _ (nothing_sent c.args.self.now (g.W.Write.contents c.args.out.now))
 
 pub returns-clause-finishes : goal.returns-clause-finishes
 returns-clause-finishes g c =
     let text = c.args.self.now.trail.page.text.items in
     on_ok c.flush.result _ _ c.flush.ensures.whole
     (λ got. record {
-      over = c.in_ok-is_at_end.ensures.over c.if-not-branch.false;
+      over = c.in_ok-finish.ensures.over;
       got = subst (Appends (g.W.Write.contents c.args.out.now) (g.W.Write.contents c.flush.new.out)) (c.in_ok-put_line.ensures ∙ ap (λ (t : List ℕ). text ++ t) c.as_slice-line.ensures.value) got;
     })
 
@@ -44,16 +39,10 @@ returns-clause-fault g c =
       appended = sent.2.1;
     })
 
-pub returns-then-not-branch-clause-refused : goal.returns-then-not-branch-clause-refused
-returns-then-not-branch-clause-refused g c =
-    let r = unread c.args.ahead.now (g.R.Read.remaining c.args.input.now) in
-    refused_then c.refusal_after.result (λ n. n ≡ c.is_at_end.new.self.number + 1) (λ n. (n ≡ c.args.self.now.trail.reading.number + 1) × IfSome r (λ rest. 0 < length rest)) c.refusal_after.ensures
-    (λ n is. (is ∙ ap (λ (k : ℕ). k + 1) c.is_at_end.ensures.number, c.in_ok-is_at_end.ensures.more c.if-not-branch.true))
-
-pub returns-in_err-is_at_end-clause-refused : goal.returns-in_err-is_at_end-clause-refused
-returns-in_err-is_at_end-clause-refused g c =
-    let q = err_from_is_err_and c.from_residual-in_err-is_at_end.result c.from_residual-in_err-is_at_end.ensures.1 in
-    rw (q.1, q.2) (none_refused _ _ c.in_err-is_at_end.ensures.fault)
+pub returns-in_err-finish-clause-refused : goal.returns-in_err-finish-clause-refused
+returns-in_err-finish-clause-refused g c =
+    let q = err_from_is_err_and c.from_residual-in_err-finish.result c.from_residual-in_err-finish.ensures.1 in
+    rw (q.1, q.2) c.in_err-finish.ensures.refused
 
 pub returns-clause-refused : goal.returns-clause-refused
 returns-clause-refused g c =
