@@ -13,6 +13,8 @@ use Rattle.fb_inputs.specs.declared.deploy_location.DeployFault.{DeployFault}
 use Rattle.fb_inputs.specs.declared.deploy_location.DeployFault.TheVariants as deploy_fault
 use Rattle.fb_inputs.specs.declared.deploy_location.DeployLocation.{DeployLocation}
 use Rattle.fb_inputs.specs.declared.deploy_location.DeployLocation.TheVariants as location
+use Rattle.fb_inputs.specs.declared.table.TableTest.{TableTest}
+use Rattle.fb_inputs.specs.declared.table.TableTest.TheVariants as table_test
 use Rattle.fb_inputs.specs.Refusals.{Outcome, and_then, over_limit}
 use Rattle.fb_inputs.specs.Refusals as refusals
 use Rattle.fb_inputs.specs.DeployPlaces.{InDocument, numbered}
@@ -77,6 +79,12 @@ start_of_link k l = if length l.table == 0 then Some (location.NoEntry k) else o
 
 abbrev pub entries_of_link : ℕ → LinkDraft → Option DeployLocation
 entries_of_link k l = if is_short l.table then None else Some (location.Entries k)
+
+-- what a test finds wrong with a link at an index
+abbrev pub fault_of_link : TableTest → ℕ → LinkDraft → Option DeployLocation
+fault_of_link table_test.Latencies = latency_of_link
+fault_of_link table_test.Starts = start_of_link
+fault_of_link table_test.Entries = entries_of_link
 
 -- the first of these
 abbrev pub either : {A : Type 0} → Option A → Option A → Option A

@@ -11,7 +11,7 @@ ghost use Rattle.fb_inputs.specs.Deployments as spec;
 use crate::deploy_location::{DeployFault, DeployLocation, deploy_error};
 use crate::document::{LinkDraft, PlanDraft, draft_of};
 use crate::error::InputError;
-use crate::table::{entries_location, latency_location, links_of, start_location};
+use crate::table::{TableTest, fault_among, links_of};
 use fb_types::{Deploy, MOST_BYTES, MOST_LINKS, MOST_RESOURCES, Plan};
 use std::alloc::{AllocError, Global};
 use toml::Table;
@@ -26,17 +26,17 @@ fn excess(resources: usize, links: &[LinkDraft]) -> Option<DeployLocation>
     if links.len() > MOST_LINKS {
         return Some(DeployLocation::Links);
     }
-    entries_location(links)
+    fault_among(TableTest::Entries, links)
 }
 
 /// Where the numbers of a deployment are refused.
 fn fault_in(resources: usize, links: &[LinkDraft]) -> Option<DeployLocation>
     ensures { result ≡ spec.fault_in resources links.now }
 {
-    if let Some(location) = latency_location(links) {
+    if let Some(location) = fault_among(TableTest::Latencies, links) {
         return Some(location);
     }
-    if let Some(location) = start_location(links) {
+    if let Some(location) = fault_among(TableTest::Starts, links) {
         return Some(location);
     }
     excess(resources, links)

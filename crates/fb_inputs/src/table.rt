@@ -71,14 +71,6 @@ fn wrong_start(table: &[LatencyDraft]) -> Option<usize>
     None
 }
 
-/// Where a latency of a link is out of range.
-fn latency_of_link(link: usize, draft: &LinkDraft) -> Option<DeployLocation>
-    ensures { result ≡ spec.latency_of_link link draft.now }
-{
-    let entry = wrong_latency(draft.table.as_slice())?;
-    Some(DeployLocation::Latency { link, entry })
-}
-
 /// Where the ticks of a link do not begin at 0 or do not rise.
 fn start_of_link(link: usize, draft: &LinkDraft) -> Option<DeployLocation>
     ensures { result ≡ spec.start_of_link link draft.now }
@@ -101,36 +93,37 @@ fn entries_of_link(link: usize, draft: &LinkDraft) -> Option<DeployLocation>
     }
 }
 
-/// Where a latency of the first link with one out of range is.
-pub(crate) fn latency_location(links: &[LinkDraft]) -> Option<DeployLocation>
-    ensures { result ≡ spec.among_links spec.latency_of_link 0 links.now }
-{
-    for (link, draft) in links.iter().enumerate() {
-        if let Some(location) = latency_of_link(link, draft) {
-            return Some(location);
-        }
-    }
-    None
+/// What the table of a link is tested for.
+#[derive(Clone, Copy)]
+pub(crate) enum TableTest {
+    /// Latencies within their range.
+    Latencies,
+    /// Ticks that rise from 0.
+    Starts,
+    /// A number of entries within its limit.
+    Entries,
 }
 
-/// Where the ticks of the first link whose table does not rise from tick 0 are wrong.
-pub(crate) fn start_location(links: &[LinkDraft]) -> Option<DeployLocation>
-    ensures { result ≡ spec.among_links spec.start_of_link 0 links.now }
+/// Where a link fails a test.
+fn fault_of_link(test: TableTest, link: usize, draft: &LinkDraft) -> Option<DeployLocation>
+    ensures { result ≡ spec.fault_of_link test link draft.now }
 {
-    for (link, draft) in links.iter().enumerate() {
-        if let Some(location) = start_of_link(link, draft) {
-            return Some(location);
+    match test {
+        TableTest::Latencies => {
+            let entry = wrong_latency(draft.table.as_slice())?;
+            Some(DeployLocation::Latency { link, entry })
         }
+        TableTest::Starts => start_of_link(link, draft),
+        TableTest::Entries => entries_of_link(link, draft),
     }
-    None
 }
 
-/// The first link with too many entries.
-pub(crate) fn entries_location(links: &[LinkDraft]) -> Option<DeployLocation>
-    ensures { result ≡ spec.among_links spec.entries_of_link 0 links.now }
+/// Where the first link that fails a test does.
+pub(crate) fn fault_among(test: TableTest, links: &[LinkDraft]) -> Option<DeployLocation>
+    ensures { result ≡ spec.among_links (spec.fault_of_link test) 0 links.now }
 {
     for (link, draft) in links.iter().enumerate() {
-        if let Some(location) = entries_of_link(link, draft) {
+        if let Some(location) = fault_of_link(test, link, draft) {
             return Some(location);
         }
     }
