@@ -139,41 +139,32 @@ fn names_at(alloc: Global, keys: &Table, key: DeployKey) -> Result<Items<Name>, 
 
 /// What a table of a document represents.
 trait Entry: Drop {
-    ghost use Rattle.toml.specs.Data.{Data};
+    ghost use Rattle.toml.specs.Data.{Members};
     ghost use Rattle.fb_inputs.specs.DeployPlaces.{InTable};
 
-    ghost meaning: { Data → InTable Self };
+    ghost meaning: { Members → InTable Self };
 
-    fn read(alloc: Global, value: &Value) -> Result<Self, TableError>
-        ensures { AnswersInTable (λ t. t) (meaning (view value.now)) result };
+    fn read(alloc: Global, keys: &Table) -> Result<Self, TableError>
+        ensures { AnswersInTable (λ t. t) (meaning (table_view keys.now)) result };
 }
 
 /// A device, a name and instances, and no other key.
-#[tactic(auto, unfolding(crate::specs::Documents::read_resource))]
-fn resource_of(alloc: Global, keys: &Table) -> Result<ResourceEntry, TableError>
-    ensures { AnswersInTable (λ r. r) (spec.read_resource (table_view keys.now)) result }
-{
-    let device = name_at(alloc, keys, DeployKey::Device)?;
-    let name = name_at(alloc, keys, DeployKey::Name)?;
-    let instances = names_at(alloc, keys, DeployKey::Instances)?;
-    if count_of(keys) != 3 {
-        return Err(TableError::At(TableFault::Further));
-    }
-    Ok(ResourceEntry {
-        device,
-        name,
-        instances,
-    })
-}
-
 impl Entry for ResourceEntry {
-    ghost meaning = { spec.resource };
+    ghost meaning = { spec.read_resource };
 
-    fn read(alloc: Global, value: &Value) -> Result<ResourceEntry, TableError> {
-        match value.as_table() {
-            Some(keys) => resource_of(alloc, keys),
-            None => Err(TableError::At(TableFault::NoTable)),
+    #[tactic(auto, unfolding(crate::specs::Documents::read_resource))]
+    fn read(alloc: Global, keys: &Table) -> Result<ResourceEntry, TableError> {
+        let device = name_at(alloc, keys, DeployKey::Device)?;
+        let name = name_at(alloc, keys, DeployKey::Name)?;
+        let instances = names_at(alloc, keys, DeployKey::Instances)?;
+        if count_of(keys) != 3 {
+            return Err(TableError::At(TableFault::Further));
         }
+        Ok(ResourceEntry {
+            device,
+            name,
+            instances,
+        })
     }
 }
 
@@ -223,30 +214,31 @@ fn table_of(alloc: Global, keys: &Table) -> Result<Items<LatencyDraft>, TableErr
 }
 
 /// Two resources and the latencies from the one to the other, and no other key.
-#[tactic(auto, unfolding(crate::specs::Documents::read_link))]
-fn link_of(alloc: Global, keys: &Table) -> Result<LinkDraft, TableError>
-    ensures { AnswersInTable (λ l. l) (spec.read_link (table_view keys.now)) result }
-{
-    let start = name_at(alloc, keys, DeployKey::From)?;
-    let end = name_at(alloc, keys, DeployKey::To)?;
-    let table = table_of(alloc, keys)?;
-    if count_of(keys) != 3 {
-        return Err(TableError::At(TableFault::Further));
+impl Entry for LinkDraft {
+    ghost meaning = { spec.read_link };
+
+    #[tactic(auto, unfolding(crate::specs::Documents::read_link))]
+    fn read(alloc: Global, keys: &Table) -> Result<LinkDraft, TableError> {
+        let start = name_at(alloc, keys, DeployKey::From)?;
+        let end = name_at(alloc, keys, DeployKey::To)?;
+        let table = table_of(alloc, keys)?;
+        if count_of(keys) != 3 {
+            return Err(TableError::At(TableFault::Further));
+        }
+        if start.is(&end) {
+            return Err(TableError::At(TableFault::Itself));
+        }
+        Ok(LinkDraft { start, end, table })
     }
-    if start.is(&end) {
-        return Err(TableError::At(TableFault::Itself));
-    }
-    Ok(LinkDraft { start, end, table })
 }
 
-impl Entry for LinkDraft {
-    ghost meaning = { spec.link };
-
-    fn read(alloc: Global, value: &Value) -> Result<LinkDraft, TableError> {
-        match value.as_table() {
-            Some(keys) => link_of(alloc, keys),
-            None => Err(TableError::At(TableFault::NoTable)),
-        }
+/// What a value represents, which has to be a table.
+fn read_entry<T: Entry>(alloc: Global, value: &Value) -> Result<T, TableError>
+    ensures { AnswersInTable (λ t. t) (spec.of_table T.meaning (view value.now)) result }
+{
+    match value.as_table() {
+        Some(keys) => T::read(alloc, keys),
+        None => Err(TableError::At(TableFault::NoTable)),
     }
 }
 
@@ -270,11 +262,11 @@ fn each_table<T: Entry>(
     values: &[Value],
     key: DeployKey,
 ) -> Result<Items<T>, DeployFault>
-    ensures { AnswersInDocument (λ t. t) (lists.each_in (shape_in key) T.meaning 0 (map view values.now)) result }
+    ensures { AnswersInDocument (λ t. t) (lists.each_in (shape_in key) (spec.of_table T.meaning) 0 (map view values.now)) result }
 {
     let mut found = Items::new(alloc);
     for value in values {
-        let entry = placed(key, found.len(), T::read(alloc, value))?;
+        let entry = placed(key, found.len(), read_entry::<T>(alloc, value))?;
         found.push(entry)?;
     }
     Ok(found)
@@ -282,7 +274,7 @@ fn each_table<T: Entry>(
 
 /// The tables in the array at a key.
 fn tables<T: Entry>(alloc: Global, value: &Value, key: DeployKey) -> Result<Items<T>, DeployFault>
-    ensures { AnswersInDocument (λ t. t) (spec.tables_of key T.meaning (view value.now)) result }
+    ensures { AnswersInDocument (λ t. t) (spec.tables_of key (spec.of_table T.meaning) (view value.now)) result }
 {
     match value.as_array() {
         Some(values) => each_table::<T>(alloc, values.as_slice(), key),

@@ -3,6 +3,7 @@ use Rattle.std.specs.Prelude.{IfSome}
 use Rattle.std.proofs.lemmas.List.{length-map, length-drop}
 use Rattle.std.proofs.lemmas.Result.{err_from_is_err_and}
 use Rattle.toml.specs.View.{view}
+use Rattle.fb_inputs.specs.Documents.{of_table}
 use Rattle.fb_inputs.specs.DeployPlaces.{place_of, shape_in}
 use Rattle.fb_inputs.specs.Lists.{placed}
 use Rattle.fb_inputs.specs.declared.deploy_location.DeployLocation.{DeployLocation}
@@ -21,10 +22,10 @@ returns-in_err-entry g c =
     let k = c.args.key in
     let n = length c.loop-value.found in
     let f = c.in_err-entry.field-0.0 in
-    let failed : IfSome (place_of f) (λ q. placed (shape_in k n) (g.T.Entry.meaning (view c.value-item.result)) ≡ Err q) =
-    placed-err k n (g.T.Entry.meaning (view c.value-item.result)) c.read.result c.placed.result f c.read.ensures (rw c.len.ensures at c.placed.ensures) c.in_err-entry.was in
+    let failed : IfSome (place_of f) (λ q. placed (shape_in k n) (of_table g.T.Entry.meaning (view c.value-item.result)) ≡ Err q) =
+    placed-err k n (of_table g.T.Entry.meaning (view c.value-item.result)) c.read_entry.result c.placed.result f c.read_entry.ensures (rw c.len.ensures at c.placed.ensures) c.in_err-entry.was in
     rw (p.1, p.2) (if-some (place_of f) _ _
-    (λ (q : DeployLocation) e. fails_in (shape_in k) g.T.Entry.meaning c.loop-value.found (view c.value-item.result) (map view (drop (c.loop-value.value-index + 1) c.args.values.now)) _ q _ next e c.loop-value.invariant)
+    (λ (q : DeployLocation) e. fails_in (shape_in k) (of_table g.T.Entry.meaning) c.loop-value.found (view c.value-item.result) (map view (drop (c.loop-value.value-index + 1) c.args.values.now)) _ q _ next e c.loop-value.invariant)
     failed)
 
 pub loop-value-preserved : goal.loop-value-preserved
@@ -32,11 +33,11 @@ loop-value-preserved g c =
     let next = next_view c.args.values.now c.loop-value.value-index c.value-item.result c.loop-value-test.true c.value-item.is in
     let k = c.args.key in
     let n = length c.loop-value.found in
-    rw c.in_ok-push.ensures.ok (more_in (shape_in k) g.T.Entry.meaning c.loop-value.found (view c.value-item.result) (map view (drop (c.loop-value.value-index + 1) c.args.values.now)) _ _ _ next
-    (placed-ok k n (g.T.Entry.meaning (view c.value-item.result)) c.read.result c.placed.result c.in_ok-entry.entry c.read.ensures (rw c.len.ensures at c.placed.ensures) c.in_ok-entry.was)
+    rw c.in_ok-push.ensures.ok (more_in (shape_in k) (of_table g.T.Entry.meaning) c.loop-value.found (view c.value-item.result) (map view (drop (c.loop-value.value-index + 1) c.args.values.now)) _ _ _ next
+    (placed-ok k n (of_table g.T.Entry.meaning (view c.value-item.result)) c.read_entry.result c.placed.result c.in_ok-entry.entry c.read_entry.ensures (rw c.len.ensures at c.placed.ensures) c.in_ok-entry.was)
     c.loop-value.invariant)
 
 pub returns : goal.returns
 returns g c =
-    done_in (shape_in c.args.key) g.T.Entry.meaning c.loop-value.found (map view (drop c.loop-value.value-index c.args.values.now)) _
+    done_in (shape_in c.args.key) (of_table g.T.Entry.meaning) c.loop-value.found (map view (drop c.loop-value.value-index c.args.values.now)) _
     (omega (arith, length-map (drop c.loop-value.value-index c.args.values.now) view, length-drop c.loop-value.value-index c.args.values.now)) c.loop-value.invariant

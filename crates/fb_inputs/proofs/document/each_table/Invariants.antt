@@ -1,9 +1,10 @@
 use Rattle.std.proofs.Common.{◌≡◌, drop, length, map}
 use Rattle.toml.specs.View.{view}
+use Rattle.fb_inputs.specs.Documents.{of_table}
 use Rattle.fb_inputs.specs.DeployPlaces.{shape_in}
 use Rattle.fb_inputs.specs.Lists.{all_after, each_in}
 use Rattle.fb_inputs.proofs.document.each_table.Given as goal
 
 abbrev pub invariant-loop-value : goal.invariant-loop-value
 invariant-loop-value g l =
-    each_in (shape_in l.key) g.T.Entry.meaning 0 (map view l.values) ≡ all_after l.found (each_in (shape_in l.key) g.T.Entry.meaning (length l.found) (map view (drop l.value-index l.values)))
+    each_in (shape_in l.key) (of_table g.T.Entry.meaning) 0 (map view l.values) ≡ all_after l.found (each_in (shape_in l.key) (of_table g.T.Entry.meaning) (length l.found) (map view (drop l.value-index l.values)))
