@@ -1,7 +1,6 @@
 //! Whole numbers and values.
 
 ghost use Rattle.std.specs.Prelude.{◌≡◌, ◌<◌, ◌≤◌, ◌+◌, ◌-◌, ◌^◌, min, pos, neg_ℤ, option_map};
-ghost use Rattle.std.specs.Str.{str_eq_ignore_ascii_case};
 ghost use Rattle.fb_inputs.specs.Numbers as spec;
 
 use fb_types::Value;
@@ -69,20 +68,14 @@ fn whole(text: &[u8]) -> Option<i128>
     }
 }
 
-fn is_spelled(text: &[u8], word: &[u8]) -> bool
-    ensures { result ≡ str_eq_ignore_ascii_case text.now word.now }
-{
-    text.eq_ignore_ascii_case(word)
-}
-
 /// A truth value, in any letter case, or a whole number within 128 bits.
 #[tactic(auto, unfolding(crate::specs::Numbers::value_of))]
 pub fn value_of(text: &[u8]) -> Option<Value>
     ensures { result ≡ spec.value_of text.now }
 {
-    if is_spelled(text, b"TRUE") {
+    if text.eq_ignore_ascii_case(b"TRUE") {
         Some(Value::Bool(true))
-    } else if is_spelled(text, b"FALSE") {
+    } else if text.eq_ignore_ascii_case(b"FALSE") {
         Some(Value::Bool(false))
     } else {
         Some(Value::Whole(whole(text)?))

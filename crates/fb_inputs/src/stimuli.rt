@@ -44,13 +44,6 @@ fn is_head(row: &ByteRecord) -> bool
     }
 }
 
-/// Whether the record is `tick,event,values`. It is dropped here, so that no caller has to drop it at its exits.
-fn is_heading(row: ByteRecord) -> bool
-    ensures { result ≡ spec.is_head (fields_of row) }
-{
-    is_head(&row)
-}
-
 /// Whether a tick is over the greatest one.
 fn is_late(tick: u128) -> bool
     ensures { result ≡ not (nat_le tick (10 ^ 12)) }
@@ -147,7 +140,7 @@ fn is_headed(read: Result<ByteRecord, Error>) -> Result<bool, StimuliFault>
     ensures { IsRead read result }
 {
     match read {
-        Ok(row) => Ok(is_heading(row)),
+        Ok(row) => Ok(is_head(&row)),
         Err(error) => Err(refusal(error)),
     }
 }
