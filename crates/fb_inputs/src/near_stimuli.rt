@@ -3,7 +3,7 @@
 ghost use Rattle.std.specs.Prelude.{◌≡◌, ◌+◌, ◌<◌, ◌≤◌, ℕ, IfOk, IfSome, length};
 ghost use Rattle.std.specs.List.{AllZip};
 ghost use Rattle.fb_inputs.specs.Counts.{IsNth};
-ghost use Rattle.fb_inputs.specs.NearPlaces.{IsField, IsFieldAt, IsInStimuli, IsNearInStimuli, IsSearch, IsWordAt, IsWordIn};
+ghost use Rattle.fb_inputs.specs.NearPlaces.{IsField, IsFieldAt, IsInStimuli, IsNearInStimuli, IsSearch, IsWordIn};
 ghost use Rattle.fb_inputs.specs.Records.{begins_record};
 
 use crate::csv_records::{
@@ -27,16 +27,6 @@ const WORDS: usize = 2;
 struct Search<'a> {
     scan: RecordScan,
     reader: RecordReader<'a>,
-}
-
-/// A search of which nothing is done.
-fn search_of(alloc: Global, text: &[u8]) -> Search<'_>
-    ensures { IsSearch text.now result }
-{
-    Search {
-        scan: first_scan(),
-        reader: reader_of(alloc, text),
-    }
 }
 
 /// The bytes of a field, as the scan finds them in the record that begins here.
@@ -126,24 +116,6 @@ fn field_of_row<'a>(
     }
 }
 
-/// The bytes of a word of the last field of a row.
-fn word_of_row<'a>(
-    alloc: Global,
-    text: &'a [u8],
-    search: &mut Search<'a>,
-    row: usize,
-    word: usize,
-) -> Result<Option<Span>, AllocError>
-    requires { IsSearch text.now search.old }
-    ensures search { IfOk result (λ _. IsSearch text.now search.new) }
-    ensures found { IfOk result (λ o. IfSome o (IsWordAt text.now (row + 1) word)) }
-{
-    match field_of_row(alloc, text, search, row, WORDS)? {
-        Some(field) => Ok(word_in(text, field, word)),
-        None => Ok(None),
-    }
-}
-
 /// The bytes at a position.
 fn span_at<'a>(
     alloc: Global,
@@ -160,7 +132,12 @@ fn span_at<'a>(
         StimuliPosition::Heading => field_span(alloc, text, search, 0, 0),
         StimuliPosition::Row(row) => field_of_row(alloc, text, search, row, 0),
         StimuliPosition::Field(row, field) => field_of_row(alloc, text, search, row, field),
-        StimuliPosition::Word(row, word) => word_of_row(alloc, text, search, row, word),
+        StimuliPosition::Word(row, word) => {
+            match field_of_row(alloc, text, search, row, WORDS)? {
+                Some(field) => Ok(word_in(text, field, word)),
+                None => Ok(None),
+            }
+        }
     }
 }
 
@@ -215,7 +192,10 @@ pub fn nearest_spans(
 ) -> Result<Vec<Span>, AllocError>
     ensures { IfOk result (λ spans. AllZip (IsNearInStimuli text.now) positions.now spans.items) }
 {
-    let mut search = search_of(alloc, text);
+    let mut search = Search {
+        scan: first_scan(),
+        reader: reader_of(alloc, text),
+    };
     let spans = all_nearest(alloc, text, &mut search, positions);
     drop(search);
     spans
