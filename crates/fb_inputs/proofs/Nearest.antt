@@ -8,9 +8,6 @@ use Rattle.fb_inputs.specs.Counts.{Text}
 use Rattle.fb_inputs.specs.NearPlaces.{IsNearInStimuli}
 use Rattle.fb_inputs.specs.declared.position.StimuliPosition.{StimuliPosition}
 
-pub none_near : (text : Text) (spans : List Span) → spans ≡ [] → AllZip (IsNearInStimuli text) [] spans
-none_near text spans none = subst (λ (ss : List Span). AllZip (IsNearInStimuli text) [] ss) (sym none) tt
-
 -- one span more
 pub one_near :
     (text : Text) (positions : List StimuliPosition) (i : ℕ) (spans more : List Span) (span : Span) (d : StimuliPosition) → i < length positions → more ≡ spans ++ span ∷ []

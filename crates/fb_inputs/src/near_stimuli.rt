@@ -172,9 +172,9 @@ fn all_nearest<'a>(
     requires { IsSearch text.now search.old }
     ensures { IfOk result (λ spans. AllZip (IsNearInStimuli text.now) positions.now spans.items) }
 {
-    let mut spans = Vec::new(alloc);
+    let mut spans = Vec::with_capacity(alloc, positions.len())?;
     for position in positions {
-        spans.push(nearest_at(alloc, text, search, *position)?)?;
+        spans.push_reserved(nearest_at(alloc, text, search, *position)?);
     }
     Ok(spans)
 }

@@ -144,7 +144,7 @@ fn entries_of(alloc: Global, table: &[LatencyDraft]) -> Result<Items<Entry>, All
 {
     let mut entries = Vec::with_capacity(alloc, table.len())?;
     for pair in table {
-        entries.push(entry_of(*pair))?;
+        entries.push_reserved(entry_of(*pair));
     }
     Ok(Items::from_vec(entries))
 }

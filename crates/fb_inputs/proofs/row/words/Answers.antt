@@ -1,4 +1,4 @@
-use Rattle.std.proofs.Common.{◌≡◌, not, ◌==◌, true, false, List, [], length, nat_eq, drop, ap, ◌∙◌, arith, refl, rules, tests}
+use Rattle.std.proofs.Common.{◌≡◌, not, ◌==◌, true, false, List, [], length, nat_eq, drop, sym, ap, ◌∙◌, arith, refl, rules, tests}
 use Rattle.std.specs.List.{filter, slice_split}
 use Rattle.std.proofs.lemmas.List.{length_push, drop_all}
 use Rattle.std.proofs.lemmas.Result.{err_from_is_err_and}
@@ -23,7 +23,7 @@ loop-part-preserved-then-is_empty c =
     let split = c.split-part-items.ensures in
     let all = YieldsList-from_slice_split _ (nat_eq 32) c.args.text.now (rw start split.rest) (rw start split.done) refl (λ x r q k. search (rules, tests)) in
     let t = YieldsList-turn all c.loop-part.yielded _ c.loop-part.yielded_by _ _ c.in-Some.part c.in-Some.is c.next.ensures.steps in
-    let none : not (length c.in-Some.part.now == 0) ≡ false = search rules in
+    let none : not (length c.in-Some.part.now == 0) ≡ false = ap not (sym c.is_empty.ensures ∙ c.if-is_empty.true) in
     let skips = filter_skips (λ w. not (length w == 0)) (slice_split (nat_eq 32) c.args.text.now) (length c.loop-part.yielded) c.in-Some.part.now t none in
     rw (length_push c.loop-part.yielded c.in-Some.part) (c.loop-part.invariant ∙ ap (λ (rest : List Text). all_after c.loop-part.found (each_at word_at word (length c.loop-part.found) rest)) skips)
 
@@ -33,7 +33,7 @@ returns-in_err-word c =
     let split = c.split-part-items.ensures in
     let all = YieldsList-from_slice_split _ (nat_eq 32) c.args.text.now (rw start split.rest) (rw start split.done) refl (λ x r q k. search (rules, tests)) in
     let t = YieldsList-turn all c.loop-part.yielded _ c.loop-part.yielded_by _ _ c.in-Some.part c.in-Some.is c.next.ensures.steps in
-    let some : not (length c.in-Some.part.now == 0) ≡ true = search rules in
+    let some : not (length c.in-Some.part.now == 0) ≡ true = ap not (sym c.is_empty.ensures ∙ c.if-is_empty.false) in
     let takes = filter_takes (λ w. not (length w == 0)) (slice_split (nat_eq 32) c.args.text.now) (length c.loop-part.yielded) c.in-Some.part.now t some in
     let p = err_from_is_err_and c.from_residual.result c.from_residual.ensures.1 in
     let f = c.in_err-word.field-0.0 in
@@ -46,7 +46,7 @@ loop-part-preserved c =
     let split = c.split-part-items.ensures in
     let all = YieldsList-from_slice_split _ (nat_eq 32) c.args.text.now (rw start split.rest) (rw start split.done) refl (λ x r q k. search (rules, tests)) in
     let t = YieldsList-turn all c.loop-part.yielded _ c.loop-part.yielded_by _ _ c.in-Some.part c.in-Some.is c.next.ensures.steps in
-    let some : not (length c.in-Some.part.now == 0) ≡ true = search rules in
+    let some : not (length c.in-Some.part.now == 0) ≡ true = ap not (sym c.is_empty.ensures ∙ c.if-is_empty.false) in
     let takes = filter_takes (λ w. not (length w == 0)) (slice_split (nat_eq 32) c.args.text.now) (length c.loop-part.yielded) c.in-Some.part.now t some in
     rw (c.in_ok-push.ensures.ok, length_push c.loop-part.yielded c.in-Some.part) (more_at word_at word c.loop-part.found c.in-Some.part.now _ _ _ _ takes (not_refused _ _ _ (rw c.len.ensures at c.in_ok-word.ensures)) c.loop-part.invariant)
 
