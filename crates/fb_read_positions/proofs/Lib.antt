@@ -1,6 +1,7 @@
 pub mod Steps
 pub mod Passing
 pub mod Named
+mod Looking
 mod ClauseSteps
 mod StatementSteps
 mod Leaving

@@ -1,0 +1,13 @@
+use Rattle.std.proofs.Common.{ap, ◌∙◌}
+use Rattle.std.specs.Option.{option_copied}
+use Rattle.fb_read_positions.specs.Places.{name_of_transition}
+use Rattle.fb_read_positions.proofs.Looking.{found, none_found}
+use Rattle.fb_read_positions.proofs.names.name_in_transition.Goals as goal
+
+pub returns-in_err-get : goal.returns-in_err-get
+returns-in_err-get c = ap option_copied c.from_residual.ensures ∙ none_found c.args.transitions.now c.args.index (name_of_transition c.args.part) c.in_err-get.ensures.lookup.3
+
+pub returns : goal.returns
+returns c =
+    let at = c.in_ok-get.ensures.lookup in
+    found c.args.transitions.now c.args.index (name_of_transition c.args.part) c.in_ok-get.field-0.now (option_copied c.name_of_transition.result) at.3.0 at.1 c.name_of_transition.ensures
