@@ -1,5 +1,5 @@
-use Rattle.std.proofs.Common.{ℕ, ◌∙◌, rules, arith}
-use Rattle.std.proofs.lemmas.Grind.{common_steps}
+use Rattle.std.proofs.Common.{ℕ, ◌∙◌}
+use Rattle.std.proofs.lemmas.Result.{err_from_is_err_and}
 use Rattle.fb_read.proofs.Turns.{one_more, no_more}
 use Rattle.fb_read_positions.specs.Walks.{pass}
 use Rattle.fb_read_positions.proofs.Steps.{fault_at, from_start, pass_fault, pass_more}
@@ -10,10 +10,10 @@ loop-turn-init c = from_start (λ (n : ℕ). pass c.args.steps.now n c.args.curs
 
 pub returns-in_err-take_all : goal.returns-in_err-take_all
 returns-in_err-take_all c =
-    let r =
-    fault_at _ _ _ _ (one_more (λ (n : ℕ). pass c.args.steps.now n c.loop-turn.cursor) _ c.loop-turn._turn c.loop-turn-test.true c.loop-turn.invariant)
-    (pass_fault c.args.steps.now _ c.loop-turn.cursor _ _ c.in_err-take_all.ensures) in
-    first_of (search rules, grind (arith, common_steps))
+    let p = err_from_is_err_and c.from_residual.result c.from_residual.ensures.1 in
+    rw (p.1, p.2)
+    (fault_at _ _ _ _ (one_more (λ (n : ℕ). pass c.args.steps.now n c.loop-turn.cursor) _ c.loop-turn._turn c.loop-turn-test.true c.loop-turn.invariant)
+    (pass_fault c.args.steps.now _ c.loop-turn.cursor _ _ c.in_err-take_all.ensures))
 
 pub loop-turn-preserved : goal.loop-turn-preserved
 loop-turn-preserved c =

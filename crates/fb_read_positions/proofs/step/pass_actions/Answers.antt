@@ -1,5 +1,5 @@
-use Rattle.std.proofs.Common.{ℕ, ◌∙◌, rules, arith}
-use Rattle.std.proofs.lemmas.Grind.{common_steps}
+use Rattle.std.proofs.Common.{ℕ, ◌∙◌}
+use Rattle.std.proofs.lemmas.Result.{err_from_is_err_and}
 use Rattle.fb_read.proofs.Turns.{one_more, no_more}
 use Rattle.fb_read_positions.specs.Walks.{pass, pass_actions}
 use Rattle.fb_read_positions.proofs.Passing.{action_fault, action_more, comma_fault}
@@ -11,17 +11,17 @@ loop-turn-init c = from_start (λ (n : ℕ). pass_actions n c.args.cursor.now) c
 
 pub returns-in_err-past_action : goal.returns-in_err-past_action
 returns-in_err-past_action c =
-    let r =
-    fault_at _ _ _ _ (one_more (λ (n : ℕ). pass_actions n c.loop-turn.cursor) _ c.loop-turn._turn c.loop-turn-test.true c.loop-turn.invariant)
-    (action_fault _ c.loop-turn.cursor _ _ c.in_err-past_action.ensures) in
-    first_of (search rules, grind (arith, common_steps))
+    let p = err_from_is_err_and c.from_residual.result c.from_residual.ensures.1 in
+    rw (p.1, p.2)
+    (fault_at _ _ _ _ (one_more (λ (n : ℕ). pass_actions n c.loop-turn.cursor) _ c.loop-turn._turn c.loop-turn-test.true c.loop-turn.invariant)
+    (action_fault _ c.loop-turn.cursor _ _ c.in_err-past_action.ensures))
 
 pub returns-in_err-expect : goal.returns-in_err-expect
 returns-in_err-expect c =
-    let r =
-    fault_at _ _ _ _ (one_more (λ (n : ℕ). pass_actions n c.loop-turn.cursor) _ c.loop-turn._turn c.loop-turn-test.true c.loop-turn.invariant)
-    (comma_fault _ c.loop-turn.cursor _ _ _ c.in_ok-past_action.ensures c.in_err-expect.ensures) in
-    first_of (search rules, grind (arith, common_steps))
+    let p = err_from_is_err_and c.from_residual-in_err-expect.result c.from_residual-in_err-expect.ensures.1 in
+    rw (p.1, p.2)
+    (fault_at _ _ _ _ (one_more (λ (n : ℕ). pass_actions n c.loop-turn.cursor) _ c.loop-turn._turn c.loop-turn-test.true c.loop-turn.invariant)
+    (comma_fault _ c.loop-turn.cursor _ _ _ c.in_ok-past_action.ensures c.in_err-expect.ensures))
 
 pub loop-turn-preserved : goal.loop-turn-preserved
 loop-turn-preserved c =
