@@ -12,11 +12,15 @@ use Rattle.fb_read_positions.specs.Walks.{Walk}
 was_read : (o : Outcome (Unit {0})) (new : Tokens) (r : Result (Unit {0}) ParseFault) → Reads o r new → r ≡ Ok tt → o ≡ Ok (tt, new)
 was_read o new r reads ok = subst (λ (x : Result (Unit {0}) ParseFault). Reads o x new) ok reads
 
+-- what holds of a number of tokens, if there is one, of another such walk
+pub some_as : (P Q : ℕ → Type 0) (o : Option ℕ) → ((n : ℕ) → P n → Q n) → IfSome o P → IfSome o Q
+some_as P Q None f h = tt
+some_as P Q (Some n) f h = f n h
+
 -- what holds where a number of tokens is left, of another such walk
-pub left_as : {E : Type 0} (P Q : ℕ → Type 0) (r : Result (Option ℕ) E) → ((n : ℕ) → P n → Q n) → IfOk r (λ o. IfSome o P) → IfOk r (λ o. IfSome o Q)
+left_as : {E : Type 0} (P Q : ℕ → Type 0) (r : Result (Option ℕ) E) → ((n : ℕ) → P n → Q n) → IfOk r (λ o. IfSome o P) → IfOk r (λ o. IfSome o Q)
 left_as P Q (Err e) f h = tt
-left_as P Q (Ok None) f h = tt
-left_as P Q (Ok (Some n)) f h = f n h
+left_as P Q (Ok o) f h = some_as P Q o f h
 
 -- a walk from all these tokens, and what is left after it
 pub leaves_if :

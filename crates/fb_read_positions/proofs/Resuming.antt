@@ -206,6 +206,13 @@ owner_is (item_list.Clauses l n k) = refl
 
 -- ---- Up to a position
 
+-- steps that were taken once
+pub taken_once : (steps : List Step) (ts here : Tokens) → pass steps 1 ts ≡ Ok (tt, here) → take_all steps ts ≡ Ok (tt, here)
+unfolding pass
+taken_once steps ts here e =
+    let w = both_ok (take_all steps ts) (λ x. pass steps zero) (tt, here) e in
+    w.2 ∙ ap (λ (us : Tokens). Ok (w.0, us)) (nothing_read w.1 here tt w.3)
+
 pub at_position :
     (ps : List Located) (p : Position) (n : ℕ) (ts here : Tokens) → Leaves (to_item_if (item_of p)) ps n → ts ≡ tokens_of (drop (length ps - n) ps)
     → take_all (to_part p) ts ≡ Ok (tt, here) → to_position p (tokens_of ps) ≡ Ok (tt, here)

@@ -12,7 +12,7 @@ use crate::clauses::clause_left;
 use crate::lists::{InnerList, Item, ItemList, OuterList, is_same, item_of, owner_of};
 use crate::position::Position;
 use crate::statements::statement_left;
-use crate::step::{Step, pass, pass_actions, take_all, to_name};
+use crate::step::{Step, pass, pass_actions, to_name};
 use crate::walk::{past_outer, to_first, to_part};
 use fb_read::cursor::Cursor;
 use fb_read::fault::ParseFault;
@@ -136,14 +136,15 @@ fn with_list(reached: Reached, listed: Listed) -> Reached
     }
 }
 
-/// The end of a walk up to an item, at which this number of tokens is left.
-fn stop_at(reached: Reached, item: Item, left: usize) -> Stop
-    ensures { (tokens : List Located) → IsReached tokens reached → Leaves (to_item item) tokens left → IsStop tokens (to_item item) result }
+/// The end of a walk up to an item, if this number of tokens is left there.
+fn stop_at(reached: Reached, item: Item, left: Option<usize>) -> Option<Stop>
+    ensures { (tokens : List Located) → IsReached tokens reached → IfSome left (Leaves (to_item item) tokens) → IfSome result (IsStop tokens (to_item item)) }
 {
-    Stop {
+    let left = left?;
+    Some(Stop {
         left,
         reached: with_list(reached, Listed { item, left }),
-    }
+    })
 }
 
 /// The number of tokens that are left where these steps were taken this many times from these tokens on.
@@ -224,22 +225,6 @@ fn left_past_items(
     }
 }
 
-/// The number of tokens that are left at an item, from an earlier one of its list on.
-fn left_after(
-    alloc: Global,
-    tokens: &[Located],
-    from: Listed,
-    item: Item,
-) -> Result<Option<usize>, AllocError>
-    requires few { length tokens.now ≤ most_bytes }
-    requires listed { IsListed tokens.now from }
-    requires ahead { IsAhead item from }
-    ensures { IfOk result (λ o. IfSome o (Leaves (to_item item) tokens.now)) }
-{
-    let count = item.index - from.item.index;
-    left_past_items(alloc, last(tokens, from.left), item.list, count)
-}
-
 /// The number of tokens that are left at the first item of a list, from where what has it begins.
 fn left_at_first(
     alloc: Global,
@@ -251,24 +236,6 @@ fn left_at_first(
 {
     let mut cursor = Cursor::new(alloc, tokens);
     left_if(to_first(&mut cursor, list), cursor.left())
-}
-
-/// The number of tokens that are left at an item, from where what has its list begins.
-fn left_within(
-    alloc: Global,
-    tokens: &[Located],
-    owner: usize,
-    item: Item,
-) -> Result<Option<usize>, AllocError>
-    requires few { length tokens.now ≤ most_bytes }
-    requires owner { Leaves (to_owner item.list) tokens.now owner }
-    ensures { IfOk result (λ o. IfSome o (Leaves (to_item item) tokens.now)) }
-{
-    let tokens = last(tokens, owner);
-    match left_at_first(alloc, tokens, item.list)? {
-        Some(left) => left_past_items(alloc, last(tokens, left), item.list, item.index),
-        None => Ok(None),
-    }
 }
 
 /// Reads up to an item, if its list was read before and not past it.
@@ -285,10 +252,9 @@ fn reach_again(
     let Some(from) = earlier(reached, item) else {
         return Ok(None);
     };
-    match left_after(alloc, tokens, from, item)? {
-        Some(left) => Ok(Some(stop_at(reached, item, left))),
-        None => Ok(None),
-    }
+    let count = item.index - from.item.index;
+    let left = left_past_items(alloc, last(tokens, from.left), item.list, count)?;
+    Ok(stop_at(reached, item, left))
 }
 
 /// Reads up to an item, from where what has its list begins.
@@ -302,20 +268,12 @@ fn reach_within(
     requires owner { IsStop tokens.now (to_owner item.list) owner }
     ensures { IfOk result (λ o. IfSome o (IsStop tokens.now (to_item item))) }
 {
-    match left_within(alloc, tokens, owner.left, item)? {
-        Some(left) => Ok(Some(stop_at(owner.reached, item, left))),
-        None => Ok(None),
-    }
-}
-
-/// Before all tokens of the text.
-fn before_all(tokens: &[Located], reached: Reached) -> Stop
-    ensures { IsReached tokens.now reached → IsStop tokens.now (pure tt) result }
-{
-    Stop {
-        left: tokens.len(),
-        reached,
-    }
+    let here = last(tokens, owner.left);
+    let Some(first) = left_at_first(alloc, here, item.list)? else {
+        return Ok(None);
+    };
+    let left = left_past_items(alloc, last(here, first), item.list, item.index)?;
+    Ok(stop_at(owner.reached, item, left))
 }
 
 /// Reads up to an item, from the last place on the way to it that was reached before, or up to the beginning of the text
@@ -331,7 +289,10 @@ fn reach_item(
     ensures { IfOk result (λ o. IfSome o (IsStop tokens.now (to_item_if item))) }
 {
     let Some(item) = item else {
-        return Ok(Some(before_all(tokens, reached)));
+        return Ok(Some(Stop {
+            left: tokens.len(),
+            reached,
+        }));
     };
     if let Some(stop) = reach_again(alloc, tokens, reached, item)? {
         return Ok(Some(stop));
@@ -340,19 +301,6 @@ fn reach_item(
         Some(owner) => reach_within(alloc, tokens, owner, item),
         None => Ok(None),
     }
-}
-
-/// The number of tokens that are left at a position, from the item to which it belongs.
-fn left_at_part(
-    alloc: Global,
-    tokens: &[Located],
-    position: Position,
-) -> Result<Option<usize>, AllocError>
-    requires { length tokens.now ≤ most_bytes }
-    ensures { IfOk result (λ o. IfSome o (Leaves (spec.take_all (spec.to_part position)) tokens.now)) }
-{
-    let mut cursor = Cursor::new(alloc, tokens);
-    left_if(take_all(&mut cursor, to_part(position)), cursor.left())
 }
 
 /// Reads up to a position of a declaration, from where these tokens were read before.
@@ -369,7 +317,7 @@ pub(crate) fn reach(
     let Some(at_item) = reach_item(alloc, tokens, reached, item_of(position))? else {
         return Ok(None);
     };
-    match left_at_part(alloc, last(tokens, at_item.left), position)? {
+    match left_past(alloc, last(tokens, at_item.left), to_part(position), 1)? {
         Some(left) => Ok(Some(Stop {
             left,
             reached: at_item.reached,

@@ -1,9 +1,12 @@
-use Rattle.std.proofs.Common.{sym, ◌∙◌, ap}
+use Rattle.std.proofs.Common.{refl, sym, ◌∙◌, ap}
 use Rattle.fb_read_positions.specs.Resumed.{IsStop}
 use Rattle.fb_read_positions.specs.Walks.{to_item_if}
 use Rattle.fb_read_positions.proofs.Placed.{of_some}
-use Rattle.fb_read_positions.proofs.Resuming.{owner_is, stop_as}
+use Rattle.fb_read_positions.proofs.Resuming.{owner_is, stop_as, stop_at_start}
 use Rattle.fb_read_positions.proofs.resume.+reach_item.Goals as goal
+
+pub returns-in_default : goal.returns-in_default
+returns-in_default t c = stop_at_start c.args.tokens.now _ _ (ap to_item_if c.in_default.is) refl c.requires.reached
 
 pub reach_within-requires-clause-owner : goal.reach_within-requires-clause-owner
 reach_within-requires-clause-owner t c =

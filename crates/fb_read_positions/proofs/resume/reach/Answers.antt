@@ -1,10 +1,11 @@
-use Rattle.std.proofs.Common.{sym, ap}
+use Rattle.std.proofs.Common.{List, sym, ap, subst}
 use Rattle.fb_read.specs.Tokens.{tokens_of}
 use Rattle.fb_read_positions.specs.Lists.{item_of}
 use Rattle.fb_read_positions.specs.Resumed.{IsStop, Leaves}
-use Rattle.fb_read_positions.specs.Walks.{take_all, to_item_if, to_part}
+use Rattle.fb_read_positions.specs.Walks.{pass, to_item_if, to_part}
+use Rattle.fb_read_positions.specs.declared.step.Step.{Step}
 use Rattle.fb_read_positions.proofs.Placed.{of_some}
-use Rattle.fb_read_positions.proofs.Resuming.{at_position, stop_as}
+use Rattle.fb_read_positions.proofs.Resuming.{at_position, stop_as, taken_once}
 use Rattle.fb_read_positions.proofs.resume.reach.Goals as goal
 
 pub returns-in-Some-2 : goal.returns-in-Some-2
@@ -16,8 +17,10 @@ returns-in-Some-2 c =
     let stop : IsStop ps (to_item_if (item_of p)) at_item =
     stop_as ps _ (to_item_if c.item_of.result) at_item (ap to_item_if (sym c.item_of.ensures))
     (of_some (IsStop ps (to_item_if c.item_of.result)) _ at_item c.in-Some.is c.in_ok-at_item.ensures) in
-    let part : Leaves (take_all (to_part p)) rest c.in-Some-2.left = of_some (Leaves (take_all (to_part p)) rest) _ c.in-Some-2.left c.in-Some-2.is c.in_ok-left.ensures in
+    let steps = c.to_part.result.now in
+    let passed : Leaves (pass steps 1) rest c.in-Some-2.left = of_some (Leaves (pass steps 1) rest) _ c.in-Some-2.left c.in-Some-2.is c.in_ok-left.ensures in
+    let part : Leaves (pass (to_part p) 1) rest c.in-Some-2.left = subst (λ (taken : List Step). Leaves (pass taken 1) rest c.in-Some-2.left) c.to_part.ensures passed in
     record {
-      at = (part.0, at_position ps p at_item.left (tokens_of rest) part.0 stop.at (ap tokens_of c.last.ensures) part.1, part.2);
+      at = (part.0, at_position ps p at_item.left (tokens_of rest) part.0 stop.at (ap tokens_of c.last.ensures) (taken_once (to_part p) (tokens_of rest) part.0 part.1), part.2);
       reached = stop.reached;
     }
