@@ -27,9 +27,6 @@ found_at text library p (Some place) h = h.located
 
 -- ---- Places one after another
 
-pub none_placed : (text : Text) (library : Library) (places : List (Option TextLocation)) → places ≡ [] → AllZip (IsPlaceFor text library) [] places
-none_placed text library places none = subst (λ (os : List (Option TextLocation)). AllZip (IsPlaceFor text library) [] os) (sym none) tt
-
 -- one place more
 pub one_placed :
     (text : Text) (library : Library) (positions : List (Option Position)) (i : ℕ) (places more : List (Option TextLocation)) (p : Option Position) (place : Option TextLocation) → i < length positions

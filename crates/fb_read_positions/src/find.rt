@@ -15,7 +15,6 @@ ghost use Rattle.fb_read_positions.specs.Walks.{to_position};
 use crate::names::name_at;
 use crate::position::Position;
 use crate::resume::{Reached, Stop, beginning, reach};
-use fb_read::ReadFault;
 use fb_read::front::{LexFault, front};
 use fb_read::read::span_before;
 use fb_read::token::{Located, Span, Token};
@@ -159,23 +158,15 @@ pub fn span_of(
 ) -> Result<Option<Span>, AllocError>
     ensures { IfOk result (λ o. IfSome o (IsAt text.now library.now position)) }
 {
-    if text.len() > MOST_BYTES {
-        return Ok(None);
-    }
-    match lex(alloc, text) {
-        Ok(tokens) => {
-            let found = span_from(
-                alloc,
-                text,
-                tokens.as_slice(),
-                library,
-                beginning(),
-                position,
-            );
-            discard(tokens);
-            Ok(found?.span)
-        }
-        Err(ReadFault::Memory) => Err(AllocError),
-        Err(_) => Ok(None),
-    }
+    let tokens = tokens_of(alloc, text)?;
+    let found = span_from(
+        alloc,
+        text,
+        tokens.as_slice(),
+        library,
+        beginning(),
+        position,
+    );
+    discard(tokens);
+    Ok(found?.span)
 }

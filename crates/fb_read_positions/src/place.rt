@@ -15,7 +15,7 @@ ghost use Rattle.fb_types.specs.declared.library.Library.{Library};
 use crate::find::{discard, span_from, span_of, tokens_of};
 use crate::position::Position;
 use crate::resume::{Reached, beginning};
-use crate::text_locations::{TextLocation, location_at, location_from};
+use crate::text_locations::{TextLocation, location_from};
 use fb_read::token::{Located, Span};
 use fb_types::Library;
 use std::alloc::{AllocError, Global};
@@ -33,10 +33,8 @@ pub fn place_at(
 ) -> Result<Option<TextLocation>, AllocError>
     ensures { IfOk result (λ o. IfSome o (IsPlaceAt declaration.now library.now position)) }
 {
-    match span_of(alloc, declaration, library, position)? {
-        Some(span) => Ok(location_at(declaration, span.start, span.end)),
-        None => Ok(None),
-    }
+    let span = span_of(alloc, declaration, library, position)?;
+    Ok(place_of(declaration, None, span))
 }
 
 /// A place in a text, and how far the text was read for it.
@@ -46,16 +44,6 @@ struct FoundPlace {
     place: Option<TextLocation>,
     /// How far the text was read.
     reached: Reached,
-}
-
-/// Before all places.
-fn no_place() -> FoundPlace
-    ensures { (text : Text) (tokens : List Located) → IsFound text tokens result }
-{
-    FoundPlace {
-        place: None,
-        reached: beginning(),
-    }
 }
 
 /// The place of these bytes, if there are any, with lines that are counted on from an earlier place.
@@ -114,11 +102,14 @@ fn places_among(
     requires located { AreLocated declaration.now tokens.now (after_mark declaration.now) }
     ensures { IfOk result (λ places. AllZip (IsPlaceFor declaration.now library.now) positions.now places.items) }
 {
-    let mut places = Vec::new(alloc);
-    let mut found = no_place();
+    let mut places = Vec::with_capacity(alloc, positions.len())?;
+    let mut found = FoundPlace {
+        place: None,
+        reached: beginning(),
+    };
     for position in positions {
         found = next_place(alloc, declaration, tokens, library, found, *position)?;
-        places.push(found.place)?;
+        places.push_reserved(found.place);
     }
     Ok(places)
 }
