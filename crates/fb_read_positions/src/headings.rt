@@ -1,10 +1,11 @@
 //! Words for positions of a declaration, and what is there.
 
 pub use crate::finding_positions::network_at;
+use crate::names::name_in_ports;
 use crate::position::{BasicPart, NetworkPart, PortPart, Position};
 use crate::words::Text;
 use fb_check_names::{Named, Site};
-use fb_types::{BasicType, BlockType, Connection, EventPort, Instance, Library, Network, Ports};
+use fb_types::{BasicType, BlockType, Connection, Instance, Library, Network, Ports};
 
 /// The basic type at this index.
 pub fn basic_at(library: &Library, block: usize) -> Option<&BasicType> {
@@ -29,30 +30,32 @@ pub fn push_item<T: Named>(text: &mut Text, words: &str, items: &[T], index: usi
     }
 }
 
-fn push_with(text: &mut Text, words: &str, events: &[EventPort], event: usize, variable: usize) {
-    push_item(text, words, events, event);
-    if let Some(event) = events.get(event) {
-        push_item(text, " WITH ", event.with.as_slice(), variable);
+/// Words before the name of a part of an interface.
+fn words_for(part: PortPart) -> &'static str {
+    match part {
+        PortPart::EventInput(_) => ": event input ",
+        PortPart::EventOutput(_) => ": event output ",
+        PortPart::WithInput(_, _) | PortPart::WithOutput(_, _) => " WITH ",
+        PortPart::Input(_) => ": data input ",
+        PortPart::Output(_) => ": data output ",
     }
 }
 
-fn push_in_ports(text: &mut Text, ports: &Ports, part: PortPart) {
-    let inputs = ports.event_inputs.as_slice();
-    let outputs = ports.event_outputs.as_slice();
-    match part {
-        PortPart::EventInput(event) => push_item(text, ": event input ", inputs, event),
-        PortPart::WithInput(event, variable) => {
-            push_with(text, ": event input ", inputs, event, variable);
-        }
-        PortPart::EventOutput(event) => push_item(text, ": event output ", outputs, event),
-        PortPart::WithOutput(event, variable) => {
-            push_with(text, ": event output ", outputs, event, variable);
-        }
-        PortPart::Input(index) => push_item(text, ": data input ", ports.inputs.as_slice(), index),
-        PortPart::Output(index) => {
-            push_item(text, ": data output ", ports.outputs.as_slice(), index);
-        }
+/// Adds words, and the name of a part of an interface, if it is there.
+fn push_port(text: &mut Text, ports: &Ports, part: PortPart) {
+    if let Some(name) = name_in_ports(part, ports) {
+        text.named(words_for(part), name);
     }
+}
+
+/// Adds words for a part of an interface. Of a variable WITH an event, the event is among them.
+fn push_in_ports(text: &mut Text, ports: &Ports, part: PortPart) {
+    match part {
+        PortPart::WithInput(event, _) => push_port(text, ports, PortPart::EventInput(event)),
+        PortPart::WithOutput(event, _) => push_port(text, ports, PortPart::EventOutput(event)),
+        _ => {}
+    }
+    push_port(text, ports, part);
 }
 
 fn push_transition(text: &mut Text, basic: &BasicType, transition: usize) {
@@ -85,17 +88,11 @@ fn push_in_basic(text: &mut Text, basic: &BasicType, part: BasicPart) {
     }
 }
 
-/// Adds words for the instance and its type, if it is there.
-fn push_instance(text: &mut Text, instance: Option<&Instance>) {
-    if let Some(instance) = instance {
-        text.named(": instance ", &instance.name);
-        text.named(" : ", &instance.block_type);
-    }
-}
-
-/// Adds words for a parameter of the instance, if it is there.
-fn push_parameter(text: &mut Text, instance: Option<&Instance>, parameter: usize) {
-    if let Some(instance) = instance {
+/// Adds words for an instance and its type, and for a parameter of it, if the part is one.
+fn push_instance(text: &mut Text, instance: &Instance, part: NetworkPart) {
+    text.named(": instance ", &instance.name);
+    text.named(" : ", &instance.block_type);
+    if let NetworkPart::Parameter(_, parameter) = part {
         push_item(
             text,
             ", parameter ",
@@ -116,10 +113,10 @@ fn push_in_network(text: &mut Text, network: &Network, part: NetworkPart) {
     let instances = network.instances.as_slice();
     match part {
         NetworkPart::Instance(index) => push_item(text, ": instance ", instances, index),
-        NetworkPart::InstanceType(index) => push_instance(text, instances.get(index)),
-        NetworkPart::Parameter(index, parameter) => {
-            push_instance(text, instances.get(index));
-            push_parameter(text, instances.get(index), parameter);
+        NetworkPart::InstanceType(index) | NetworkPart::Parameter(index, _) => {
+            if let Some(instance) = instances.get(index) {
+                push_instance(text, instance, part);
+            }
         }
         NetworkPart::EventConnection(index, _) => {
             let connection = network.event_connections.get(index);
@@ -132,15 +129,19 @@ fn push_in_network(text: &mut Text, network: &Network, part: NetworkPart) {
     }
 }
 
-/// Adds words for a part of the block type, if it is there and has such a part.
-fn push_in_block(text: &mut Text, block: Option<&BlockType>, position: Position) {
-    match (block, position) {
-        (Some(block), Position::InPorts(_, part)) => push_in_ports(text, block.ports(), part),
-        (Some(BlockType::Basic(basic)), Position::InBasic(_, part)) => {
-            push_in_basic(text, basic, part);
+/// Adds words for a part of the block type, if it has such a part.
+fn push_in_block(text: &mut Text, block: &BlockType, position: Position) {
+    match position {
+        Position::InPorts(_, part) => push_in_ports(text, block.ports(), part),
+        Position::InBasic(_, part) => {
+            if let BlockType::Basic(basic) = block {
+                push_in_basic(text, basic, part);
+            }
         }
-        (Some(BlockType::Composite(composite)), Position::InComposite(_, part)) => {
-            push_in_network(text, &composite.network, part);
+        Position::InComposite(_, part) => {
+            if let BlockType::Composite(composite) = block {
+                push_in_network(text, &composite.network, part);
+            }
         }
         _ => {}
     }
@@ -150,7 +151,6 @@ fn push_in_block(text: &mut Text, block: Option<&BlockType>, position: Position)
 /// position is, the type is among them.
 pub fn push_position(text: &mut Text, library: &Library, position: Position) {
     let application = &library.application;
-    let blocks = library.blocks.as_slice();
     match position {
         Position::Application => text.named("application ", &application.name),
         Position::InApplication(part) => {
@@ -161,8 +161,10 @@ pub fn push_position(text: &mut Text, library: &Library, position: Position) {
         | Position::InPorts(block, _)
         | Position::InBasic(block, _)
         | Position::InComposite(block, _) => {
-            push_item(text, "block type ", blocks, block);
-            push_in_block(text, blocks.get(block), position);
+            if let Some(block) = library.blocks.get(block) {
+                text.named("block type ", block.name());
+                push_in_block(text, block, position);
+            }
         }
     }
 }

@@ -82,7 +82,7 @@ fn with_name(events: &[EventPort], event: usize, variable: usize) -> Option<&Nam
     events.get(event)?.with.get(variable)
 }
 
-fn name_in_ports(part: PortPart, ports: &Ports) -> Option<&Name>
+pub(crate) fn name_in_ports(part: PortPart, ports: &Ports) -> Option<&Name>
     ensures { option_copied result ≡ spec.name_in_ports part ports.now }
 {
     match part {
