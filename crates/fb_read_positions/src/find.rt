@@ -1,6 +1,6 @@
 //! Finds a position of a declaration in its text.
 
-ghost use Rattle.std.specs.Prelude.{◌≡◌, ◌≤◌, ◌<◌, ◌^◌, ◌-◌, IfOk, IfSome, IsTrue, ℕ, List, Ok, length, drop};
+ghost use Rattle.std.specs.Prelude.{◌≡◌, ◌≤◌, ◌<◌, ◌^◌, ◌-◌, IfOk, IfSome, IsTrue, List, Ok, length, drop};
 ghost use Rattle.std.specs.Option.{option_copied};
 ghost use Rattle.fb_read.specs.declared.token.Located.{Located};
 ghost use Rattle.fb_read.specs.declared.token.Token.TheVariants as variant;
@@ -8,14 +8,14 @@ ghost use Rattle.fb_read.specs.Located.{AreLocated};
 ghost use Rattle.fb_read.specs.Refusals.{IsNext};
 ghost use Rattle.fb_read.specs.Tokens.{after_mark};
 ghost use Rattle.fb_read.specs.Whole.{most_bytes};
-ghost use Rattle.fb_read_positions.specs.Places.{IsAt, IsNameOf, IsNamed};
+ghost use Rattle.fb_read_positions.specs.Places.{IsAt, IsNamed};
 ghost use Rattle.fb_read_positions.specs.Resumed.{IsReached, IsStop};
 ghost use Rattle.fb_read_positions.specs.Walks.{to_position};
 
 use crate::names::name_at;
 use crate::position::Position;
 use crate::resume::{Reached, Stop, beginning, reach};
-use fb_read::front::{LexFault, front};
+use fb_read::front::front;
 use fb_read::read::span_before;
 use fb_read::token::{Located, Span, Token};
 use fb_read::tokens::lex;
@@ -32,16 +32,6 @@ fn is_name(token: &Token, name: &Name) -> bool
     }
 }
 
-/// Whether the token at the front of these bytes is this name.
-fn begins_with(alloc: Global, here: &[u8], name: &Name) -> Result<bool, LexFault>
-    ensures { IfOk result (λ b. IsTrue b → (len : ℕ) × IsNameOf here.now name.now len) }
-{
-    let (token, _len) = front(alloc, here)?;
-    let found = is_name(&token, name);
-    drop(token);
-    Ok(found)
-}
-
 /// Whether the first of these tokens, which is at these bytes, is the name that is asked for, if one is.
 fn is_named(alloc: Global, text: &[u8], span: Span, name: Option<&Name>) -> Result<bool, AllocError>
     requires { (left : List Located) × IsNext left text.now span.start span.end }
@@ -51,8 +41,12 @@ fn is_named(alloc: Global, text: &[u8], span: Span, name: Option<&Name>) -> Resu
         return Ok(true);
     };
     // It has been read before, so it fails for memory alone.
-    match begins_with(alloc, &text[span.start..], name) {
-        Ok(found) => Ok(found),
+    match front(alloc, &text[span.start..]) {
+        Ok((token, _len)) => {
+            let found = is_name(&token, name);
+            drop(token);
+            Ok(found)
+        }
         Err(_) => Err(AllocError),
     }
 }

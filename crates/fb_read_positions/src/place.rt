@@ -2,7 +2,6 @@
 
 ghost use Rattle.std.specs.Prelude.{◌≤◌, List, IfOk, IfSome, length};
 ghost use Rattle.std.specs.List.{AllZip};
-ghost use Rattle.fb_read.specs.Blank.{Text};
 ghost use Rattle.fb_read.specs.Located.{AreLocated};
 ghost use Rattle.fb_read.specs.Tokens.{after_mark};
 ghost use Rattle.fb_read.specs.Whole.{most_bytes};

@@ -1,7 +1,6 @@
 //! Positions one after another: a position goes on from where an earlier one of the same list was.
 
 ghost use Rattle.std.specs.Prelude.{◌≡◌, ◌≤◌, ◌-◌, List, IfOk, IfSome, IsTrue, Ok, drop, length};
-ghost use Rattle.fb_read.specs.Parser.{pure};
 ghost use Rattle.fb_read.specs.Whole.{most_bytes};
 ghost use Rattle.fb_read.specs.declared.token.Located.{Located};
 ghost use Rattle.fb_read_positions.specs.Resumed.{IsAhead, IsListed, IsReached, IsStop, Leaves};
