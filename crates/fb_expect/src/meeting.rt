@@ -77,36 +77,31 @@ fn is_named_by(condition: &Condition, word: &[u8]) -> bool
     }
 }
 
-/// Whether one of the values of a line meets a condition.
-fn is_met(condition: &Condition, values: &[u8]) -> bool
-    ensures { result ≡ spec.is_met condition.now values.now }
+/// Whether a word `VAR=value` is of the variable of a condition, and meets the condition if its value counts.
+fn is_found_by(condition: &Condition, counts: bool, word: &[u8]) -> bool
+    ensures { result ≡ spec.is_found_by condition.now counts word.now }
 {
-    let Some(mut rest) = after_blank(values) else {
-        return false;
-    };
-    while let Some((word, after)) = split_at_mark(rest, b' ') {
-        if is_met_by(condition, word) {
-            return true;
-        }
-        rest = after;
+    if counts {
+        is_met_by(condition, word)
+    } else {
+        is_named_by(condition, word)
     }
-    is_met_by(condition, rest)
 }
 
-/// Whether one of the values of a line is of the variable of a condition.
-fn is_named(condition: &Condition, values: &[u8]) -> bool
-    ensures { result ≡ spec.is_named condition.now values.now }
+/// Whether one of the values of a line is of the variable of a condition, and meets the condition if values count.
+fn is_found(condition: &Condition, counts: bool, values: &[u8]) -> bool
+    ensures { result ≡ spec.is_found condition.now counts values.now }
 {
     let Some(mut rest) = after_blank(values) else {
         return false;
     };
     while let Some((word, after)) = split_at_mark(rest, b' ') {
-        if is_named_by(condition, word) {
+        if is_found_by(condition, counts, word) {
             return true;
         }
         rest = after;
     }
-    is_named_by(condition, rest)
+    is_found_by(condition, counts, rest)
 }
 
 fn is_way(way: Way, taken: bool) -> bool
@@ -149,24 +144,12 @@ pub fn is_at(pattern: &Pattern, entry: &Entry<'_>) -> bool
         && is_in(&pattern.resource, entry.resource)
 }
 
-/// Whether each condition is met by one of the values of a line.
-fn are_met(conditions: &[Condition], values: &[u8]) -> bool
-    ensures { result ≡ list_all (λ c. spec.is_met c values.now) conditions.now }
+/// Whether one of the values of a line is of the variable of each condition, and meets the condition if values count.
+fn are_found(conditions: &[Condition], counts: bool, values: &[u8]) -> bool
+    ensures { result ≡ list_all (λ c. spec.is_found c counts values.now) conditions.now }
 {
     for condition in conditions {
-        if !is_met(condition, values) {
-            return false;
-        }
-    }
-    true
-}
-
-/// Whether one of the values of a line is of the variable of each condition.
-fn are_named(conditions: &[Condition], values: &[u8]) -> bool
-    ensures { result ≡ list_all (λ c. spec.is_named c values.now) conditions.now }
-{
-    for condition in conditions {
-        if !is_named(condition, values) {
+        if !is_found(condition, counts, values) {
             return false;
         }
     }
@@ -178,7 +161,7 @@ fn are_named(conditions: &[Condition], values: &[u8]) -> bool
 pub(crate) fn meets(pattern: &Pattern, entry: &Entry<'_>) -> bool
     ensures { result ≡ spec.meets pattern.now (event_of entry.now) }
 {
-    is_at(pattern, entry) && are_met(pattern.conditions.as_slice(), entry.values)
+    is_at(pattern, entry) && are_found(pattern.conditions.as_slice(), true, entry.values)
 }
 
 /// Whether a line is of the ports of a pattern and has all variables of its conditions.
@@ -186,5 +169,5 @@ pub(crate) fn meets(pattern: &Pattern, entry: &Entry<'_>) -> bool
 pub(crate) fn has_all(pattern: &Pattern, entry: &Entry<'_>) -> bool
     ensures { result ≡ spec.has_all pattern.now (event_of entry.now) }
 {
-    is_at(pattern, entry) && are_named(pattern.conditions.as_slice(), entry.values)
+    is_at(pattern, entry) && are_found(pattern.conditions.as_slice(), false, entry.values)
 }

@@ -1,0 +1,7 @@
+use Rattle.std.proofs.Common.{◌≡◌, drop}
+use Rattle.std.specs.List.{list_all}
+use Rattle.fb_expect.specs.Patterns.{is_found}
+use Rattle.fb_expect.proofs.meeting.are_found.Given as goal
+
+abbrev pub invariant-loop-condition : goal.invariant-loop-condition
+invariant-loop-condition l = list_all (λ c. is_found c l.counts l.values) l.conditions ≡ list_all (λ c. is_found c l.counts l.values) (drop l.condition-index l.conditions)
