@@ -1,6 +1,6 @@
 //! The result of a rule.
 
-ghost use Rattle.std.specs.Prelude.{◌≡◌, List};
+ghost use Rattle.std.specs.Prelude.{◌≡◌, ℕ, Bool, List};
 ghost use Rattle.fb_expect.specs.Rules as spec;
 ghost use Rattle.fb_expect.specs.Rules.{IsVerdict};
 ghost use Rattle.fb_expect.specs.Traces.{tick_of};
@@ -103,17 +103,10 @@ fn conclude_not(within: u64, watch: Watch, line: u64, end: End) -> Verdict
     }
 }
 
-fn conclude_before(within: u64, watch: Watch, line: u64, end: End) -> Verdict
-    ensures { Concludes (Need.Before within) watch line end result }
-{
-    match watch {
-        Watch::Broken(breach) => Verdict::Broken(breach),
-        _ => Verdict::Holds,
-    }
-}
-
-fn conclude_never(from_start: bool, watch: Watch, line: u64, end: End) -> Verdict
-    ensures { Concludes (Need.Never from_start) watch line end result }
+/// The result of a rule of which each line decides at once.
+fn conclude_at_lines(watch: Watch) -> Verdict
+    ensures before { (within line : ℕ) (end : End) → Concludes (Need.Before within) watch line end result }
+    ensures never { (from_start : Bool) (line : ℕ) (end : End) → Concludes (Need.Never from_start) watch line end result }
 {
     match watch {
         Watch::Broken(breach) => Verdict::Broken(breach),
@@ -183,8 +176,8 @@ pub(crate) fn verdict_of(need: Need, watch: Watch, line: u64, end: End) -> Verdi
     match need {
         Need::See { within } => conclude_see(within, watch, line, end),
         Need::Not { within } => conclude_not(within, watch, line, end),
-        Need::Before { within } => conclude_before(within, watch, line, end),
-        Need::Never { from_start } => conclude_never(from_start, watch, line, end),
+        Need::Before { .. } => conclude_at_lines(watch),
+        Need::Never { .. } => conclude_at_lines(watch),
         Need::Count { least, most, every } => {
             conclude_count(Bounds { least, most, every }, watch, line, end)
         }
