@@ -1,12 +1,17 @@
 -- Where a document is refused, its bytes are.
-use Rattle.std.proofs.Common.{◌≡◌, Option, Some, None, Result, Ok, Err}
-use Rattle.std.specs.Prelude.{IfOk, IfSome}
+use Rattle.std.proofs.Common.{◌≡◌, Bool, true, false, Option, Some, None, Result, Ok, Err, refl, sym, ap, subst}
+use Rattle.std.proofs.lemmas.Bool.{true≢false}
+use Rattle.std.specs.Option.{option_or}
+use Rattle.std.specs.Prelude.{IfOk, IfSome, is_some, not}
 use Rattle.toml.specs.Data.{Members}
-use Rattle.fb_expect.specs.Locations.{IsDocumentFault, IsLocation}
+use Rattle.fb_expect.specs.Lists.{◌>>=◌, may}
+use Rattle.fb_expect.specs.Locations.{IsDocumentFault, IsLocation, is_bad}
 use Rattle.fb_expect.specs.Reading.{document}
 use Rattle.fb_expect.specs.Words.{Text}
+use Rattle.fb_expect.specs.Written.{pattern_of}
 use Rattle.fb_expect.specs.declared.location.RulesLocation.{RulesLocation}
 use Rattle.fb_expect.specs.declared.location.RulesLocation.TheVariants as location
+use Rattle.fb_expect.specs.declared.pattern.Pattern.{Pattern}
 
 location-of : (bytes : Text) (keys : Members) (p : RulesLocation) → document bytes ≡ Some keys → IsDocumentFault keys p → IsLocation bytes p
 location-of bytes keys location.Bytes is at = absurd at.2
@@ -23,3 +28,20 @@ pub located :
 located bytes keys (Err e) is at = tt
 located bytes keys (Ok None) is at = tt
 located bytes keys (Ok (Some p)) is at = location-of bytes keys p is at
+
+-- what is so of the first that is found, or else of the second
+pub one_of : {A : Type 0} (P : A → Type 0) (x y z : Option A) → z ≡ option_or x y → IfSome x P → IfSome y P → IfSome z P
+one_of {A} P None y z is first second = subst (λ (o : Option A). IfSome o P) (sym is) second
+one_of {A} P (Some a) y z is first second = subst (λ (o : Option A). IfSome o P) (sym is) first
+
+pub the_one : {A : Type 0} (P : A → Type 0) (x y z : Option A) (a : A) → z ≡ Some a → z ≡ option_or x y → IfSome x P → IfSome y P → P a
+the_one {A} P x y z a found is first second = subst (λ (o : Option A). IfSome o P) found (one_of P x y z is first second)
+
+-- a text that is there and no pattern
+none_read : (p : Option Pattern) → is_some (p >>= λ q. Some (Some q)) ≡ false → not (is_some p) ≡ true
+none_read None off = refl
+none_read (Some p) off = absurd (true≢false off)
+
+pub bad : (o : Option Text) → is_some (may pattern_of o) ≡ false → is_bad o ≡ true
+bad None off = absurd (true≢false off)
+bad (Some t) off = none_read (pattern_of t) off

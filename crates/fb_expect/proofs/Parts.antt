@@ -1,13 +1,13 @@
 -- The parts of a text before and after a mark.
-use Rattle.std.proofs.Common.{◌≡◌, ℕ, ◌+◌, ◌-◌, ◌<◌, ◌≤◌, Bool, [], ◌∷◌, inl, inr, ltb, nat_eq, true, false, length, get_or, take, drop, Some, None, refl, sym, ap, ap₂, ◌∙◌, arith}
-use Rattle.std.specs.Prelude.{Option, ◌&&◌, ◌||◌, if◌then◌else◌, is_some, unwrap_or}
+use Rattle.std.proofs.Common.{◌≡◌, ℕ, ◌+◌, ◌-◌, ◌<◌, ◌≤◌, Bool, List, [], ◌∷◌, ◌++◌, cond, filter, inl, inr, ltb, nat_eq, true, false, length, get_or, take, drop, Some, None, Result, Ok, Err, refl, sym, ap, ap₂, ◌∙◌, append_assoc, arith}
+use Rattle.std.specs.Prelude.{OnOk, Option, ◌&&◌, ◌||◌, if◌then◌else◌, is_some, unwrap_or}
 use Rattle.std.proofs.lemmas.List.{take_all, length-drop}
 use Rattle.std.proofs.lemmas.Bool.{cases_lt, lt-ltb}
 use Rattle.std.proofs.lemmas.List.Splits.{slice_split_first, slice_split_none}
 use Rattle.std.proofs.lemmas.List.Sums.{fails_before_first, position_or_len_is}
 use Rattle.std.specs.List.{after_first, before_first, list_all, list_any, position_or_len, slice_split}
 use Rattle.fb_expect.specs.Words.{Text, split_at_mark}
-use Rattle.fb_expect.specs.Written.{at_comparison, is_sign}
+use Rattle.fb_expect.specs.Written.{at_comparison, is_sign, is_word, words_of}
 
 pub parted_at : (mark : ℕ) (z : Text) (i : ℕ) → i < length z → ((k : ℕ) → k < i → nat_eq mark (get_or z k 0) ≡ false) → nat_eq mark (get_or z i 0) ≡ true
     → Some (take i z, take (length z - (i + 1)) (drop (i + 1) z)) ≡ split_at_mark mark z
@@ -94,6 +94,27 @@ module _ (test : Text → Bool) (mark : ℕ) where
 
   pub any-last : (z : Text) → None ≡ split_at_mark mark z → any_in z ≡ test z
   any-last z is = ap (list_any test) (part_last mark z is) ∙ or-no (test z)
+
+-- ---- Words
+
+one_more : (here : Bool) (w : Text) (ws : List Text) → cond here (w ∷ ws) ws ≡ cond here (w ∷ []) [] ++ ws
+one_more true w ws = refl
+one_more false w ws = refl
+
+-- with the first word of a text, and with its only one
+pub with-first : (old mid : List Text) (z a b : Text) → Some (a, b) ≡ split_at_mark 32 z → mid ≡ old ++ filter is_word (a ∷ []) → old ++ words_of z ≡ mid ++ words_of b
+with-first old mid z a b is more =
+    ap (λ (ws : List Text). old ++ filter is_word ws) (part_first 32 z a b is) ∙ ap (λ (ws : List Text). old ++ ws) (one_more (is_word a) a (words_of b))
+    ∙ sym (append_assoc old (filter is_word (a ∷ [])) (words_of b)) ∙ ap (λ (ws : List Text). ws ++ words_of b) (sym more)
+
+with-last : (old new : List Text) (z : Text) → None ≡ split_at_mark 32 z → new ≡ old ++ filter is_word (z ∷ []) → new ≡ old ++ words_of z
+with-last old new z is more = more ∙ ap (λ (ws : List Text). old ++ filter is_word ws) (sym (part_last 32 z is))
+
+pub all-words :
+    {T E : Type 0} (r : Result T E) (old mid new : List Text) (y z : Text) → None ≡ split_at_mark 32 z → old ++ words_of y ≡ mid ++ words_of z → OnOk r (new ≡ mid ++ filter is_word (z ∷ []))
+    → OnOk r (new ≡ old ++ words_of y)
+all-words (Ok x) old mid new y z last so_far ends = with-last mid new z last ends ∙ sym so_far
+all-words (Err e) old mid new y z last so_far ends = tt
 
 -- the parts before and from a comparison on
 pub sign_at : (z : Text) (i : ℕ) → i < length z → ((k : ℕ) → k < i → is_sign (get_or z k 0) ≡ false) → is_sign (get_or z i 0) ≡ true

@@ -7,7 +7,7 @@ ghost use Rattle.fb_expect.specs.Locations as spec;
 
 use crate::document::{Draft, NeedDraft, draft_of, drafts_of, rules_in};
 use crate::rule::Need;
-use crate::rules::{MOST_RULES, is_pattern, may_within, need_of};
+use crate::rules::{MOST_RULES, is_pattern, may_be_pattern, may_within, need_of};
 use fb_types::MOST_BYTES;
 use std::alloc::{AllocError, Global};
 use toml::{Table, Value};
@@ -163,30 +163,6 @@ fn key_fault(keys: &Table, key: RuleKey) -> Option<RuleFault>
     }
 }
 
-/// What is wrong with keys that must be there.
-fn keys_fault(keys: &Table, needed: &[RuleKey]) -> Option<RuleFault>
-    ensures { IfSome result (spec.IsFault (table_view keys.now)) }
-{
-    for key in needed {
-        if let Some(fault) = key_fault(keys, *key) {
-            return Some(fault);
-        }
-    }
-    None
-}
-
-/// What is wrong with the values of keys that may be there.
-fn kinds_fault(keys: &Table, allowed: &[RuleKey]) -> Option<RuleFault>
-    ensures { IfSome result (spec.IsFault (table_view keys.now)) }
-{
-    for key in allowed {
-        if let Some(fault) = kind_fault(keys, *key) {
-            return Some(fault);
-        }
-    }
-    None
-}
-
 /// What is wrong where one of two keys must be there.
 fn either_fault(keys: &Table, first: RuleKey, second: RuleKey) -> Option<RuleFault>
     ensures { IfSome result (spec.IsFault (table_view keys.now)) }
@@ -201,20 +177,16 @@ fn either_fault(keys: &Table, first: RuleKey, second: RuleKey) -> Option<RuleFau
 fn after_fault(keys: &Table) -> Option<RuleFault>
     ensures { IfSome result (spec.IsFault (table_view keys.now)) }
 {
-    match key_fault(keys, RuleKey::Within) {
-        Some(fault) => Some(fault),
-        None => either_fault(keys, RuleKey::See, RuleKey::Not),
-    }
+    key_fault(keys, RuleKey::Within).or(either_fault(keys, RuleKey::See, RuleKey::Not))
 }
 
 /// What is wrong with a rule `count`.
 fn count_fault(keys: &Table) -> Option<RuleFault>
     ensures { IfSome result (spec.IsFault (table_view keys.now)) }
 {
-    match kinds_fault(keys, &[RuleKey::Most, RuleKey::Every]) {
-        Some(fault) => Some(fault),
-        None => either_fault(keys, RuleKey::Least, RuleKey::Most),
-    }
+    kind_fault(keys, RuleKey::Most)
+        .or(kind_fault(keys, RuleKey::Every))
+        .or(either_fault(keys, RuleKey::Least, RuleKey::Most))
 }
 
 /// What is wrong with the keys of a rule of a form, also that of the form.
@@ -223,8 +195,8 @@ fn rest_fault(keys: &Table, form: RuleKey) -> Option<RuleFault>
 {
     match form {
         RuleKey::After => after_fault(keys),
-        RuleKey::Before => keys_fault(keys, &[RuleKey::Within, RuleKey::See]),
-        RuleKey::Never => kinds_fault(keys, &[RuleKey::From, RuleKey::To]),
+        RuleKey::Before => key_fault(keys, RuleKey::Within).or(key_fault(keys, RuleKey::See)),
+        RuleKey::Never => kind_fault(keys, RuleKey::From).or(kind_fault(keys, RuleKey::To)),
         _ => count_fault(keys),
     }
 }
@@ -233,10 +205,7 @@ fn rest_fault(keys: &Table, form: RuleKey) -> Option<RuleFault>
 fn form_fault(keys: &Table, form: RuleKey) -> RuleFault
     ensures { spec.IsFault (table_view keys.now) result }
 {
-    if let Some(fault) = kind_fault(keys, form) {
-        return fault;
-    }
-    match rest_fault(keys, form) {
+    match kind_fault(keys, form).or(rest_fault(keys, form)) {
         Some(fault) => fault,
         None => RuleFault::Further,
     }
@@ -327,16 +296,6 @@ fn second_key(need: NeedDraft) -> RuleKey
     }
 }
 
-/// Whether a text is there that is no pattern.
-fn is_bad(alloc: Global, text: Option<&str>) -> Result<bool, AllocError>
-    ensures { IfOk result (λ b. b ≡ spec.is_bad (option_map (λ t. t.now) text.entry)) }
-{
-    match text {
-        Some(text) => Ok(!is_pattern(alloc, text)?),
-        None => Ok(false),
-    }
-}
-
 /// The key of the first text of a rule that is no pattern.
 fn pattern_key(alloc: Global, draft: &Draft<'_>) -> Result<Option<RuleKey>, AllocError>
     ensures { IfOk result (λ o. IfSome o (spec.IsPatternFault (text_of draft.now))) }
@@ -344,10 +303,10 @@ fn pattern_key(alloc: Global, draft: &Draft<'_>) -> Result<Option<RuleKey>, Allo
     if !is_pattern(alloc, draft.first)? {
         return Ok(Some(first_key(draft.need)));
     }
-    if is_bad(alloc, draft.second)? {
+    if !may_be_pattern(alloc, draft.second)? {
         return Ok(Some(second_key(draft.need)));
     }
-    if is_bad(alloc, draft.third)? {
+    if !may_be_pattern(alloc, draft.third)? {
         return Ok(Some(RuleKey::To));
     }
     Ok(None)

@@ -1,6 +1,6 @@
 //! Patterns of lines, as they are written: `RESOURCE > PATH.EVENT VAR=value ..`.
 
-ghost use Rattle.std.specs.Prelude.{◌≡◌, ℕ, List, IfOk, map, option_map};
+ghost use Rattle.std.specs.Prelude.{◌≡◌, ◌++◌, ◌∷◌, [], ℕ, List, IfOk, OnOk, filter, map, option_map};
 ghost use Rattle.std.specs.Borrow.{Bor};
 ghost use Rattle.fb_expect.specs.Lists as lists;
 ghost use Rattle.fb_expect.specs.Written as spec;
@@ -8,7 +8,7 @@ ghost use Rattle.fb_expect.specs.Written as spec;
 use crate::names::{is_name, is_path, is_port};
 use crate::number::value_of;
 use crate::port_pattern::PortPattern;
-use crate::words::{after_front, before};
+use crate::words::{after_front, before, split_at_mark};
 use fb_types::{Items, Name, Value};
 use std::alloc::{AllocError, Global};
 
@@ -283,13 +283,35 @@ fn pattern_in(alloc: Global, words: &[&[u8]], text: &[u8]) -> Result<Option<Patt
     }
 }
 
+/// Adds a word to others, unless it is empty.
+fn put_word<'a>(words: &mut Vec<&'a [u8]>, word: &'a [u8]) -> Result<(), AllocError>
+    ensures { OnOk result (map (λ (w : Bor (List ℕ)). w.now) words.new.items ≡ map (λ (w : Bor (List ℕ)). w.now) words.old.items ++ filter spec.is_word (word.entry.now ∷ [])) }
+{
+    if !word.is_empty() {
+        words.push(word)?;
+    }
+    Ok(())
+}
+
+/// Adds the words that blanks separate to others.
+fn put_words<'a>(words: &mut Vec<&'a [u8]>, text: &'a [u8]) -> Result<(), AllocError>
+    ensures { OnOk result (map (λ (w : Bor (List ℕ)). w.now) words.new.items ≡ map (λ (w : Bor (List ℕ)). w.now) words.old.items ++ spec.words_of text.entry.now) }
+{
+    let mut rest = text;
+    while let Some((word, after)) = split_at_mark(rest, b' ') {
+        put_word(words, word)?;
+        rest = after;
+    }
+    put_word(words, rest)
+}
+
 /// The words that blanks separate.
 fn words_of<'a>(alloc: Global, text: &'a [u8]) -> Result<Vec<&'a [u8]>, AllocError>
     ensures { IfOk result (λ ws. map (λ (w : Bor (List ℕ)). w.now) ws.items ≡ spec.words_of text.entry.now) }
 {
-    text.split(|byte| *byte == b' ')
-        .filter(|word| !word.is_empty())
-        .collect(alloc)
+    let mut words = Vec::new(alloc);
+    put_words(&mut words, text)?;
+    Ok(words)
 }
 
 fn upper(byte: u8) -> u8
@@ -307,16 +329,16 @@ fn in_upper(alloc: Global, text: &[u8]) -> Result<Vec<u8>, AllocError>
 {
     let mut bytes = Vec::with_capacity(alloc, text.len())?;
     for byte in text {
-        bytes.push(upper(*byte))?;
+        bytes.push_reserved(upper(*byte));
     }
     Ok(bytes)
 }
 
 /// The pattern that a text is, in any letter case, where it is one.
-pub(crate) fn pattern_of(alloc: Global, text: &[u8]) -> Result<Option<Pattern>, AllocError>
+pub(crate) fn pattern_of(alloc: Global, text: &str) -> Result<Option<Pattern>, AllocError>
     ensures { IfOk result (λ p. p ≡ spec.pattern_of text.now) }
 {
-    let text = in_upper(alloc, text)?;
+    let text = in_upper(alloc, text.as_bytes())?;
     let words = words_of(alloc, text.as_slice())?;
     pattern_in(alloc, words.as_slice(), text.as_slice())
 }

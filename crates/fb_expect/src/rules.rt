@@ -108,19 +108,12 @@ pub(crate) fn need_of(need: NeedDraft) -> Option<Need>
     }
 }
 
-/// The pattern that a text is, where it is one.
-fn pattern(alloc: Global, text: &str) -> Result<Option<Pattern>, AllocError>
-    ensures { IfOk result (λ p. p ≡ written.pattern_of text.now) }
-{
-    pattern_of(alloc, text.as_bytes())
-}
-
-/// The same of a text that may be absent.
+/// The pattern that a text is, where it is one and not absent.
 fn may_pattern(alloc: Global, text: Option<&str>) -> Result<Option<Option<Pattern>>, AllocError>
     ensures { IfOk result (λ p. p ≡ lists.may written.pattern_of (option_map (λ t. t.now) text.entry)) }
 {
     match text {
-        Some(text) => match pattern(alloc, text)? {
+        Some(text) => match pattern_of(alloc, text)? {
             Some(pattern) => Ok(Some(Some(pattern))),
             None => Ok(None),
         },
@@ -132,11 +125,11 @@ fn may_pattern(alloc: Global, text: Option<&str>) -> Result<Option<Option<Patter
 pub(crate) fn is_pattern(alloc: Global, text: &str) -> Result<bool, AllocError>
     ensures { IfOk result (λ b. b ≡ is_some (written.pattern_of text.now)) }
 {
-    Ok(pattern(alloc, text)?.is_some())
+    Ok(pattern_of(alloc, text)?.is_some())
 }
 
 /// The same of a text that may be absent.
-fn may_be_pattern(alloc: Global, text: Option<&str>) -> Result<bool, AllocError>
+pub(crate) fn may_be_pattern(alloc: Global, text: Option<&str>) -> Result<bool, AllocError>
     ensures { IfOk result (λ b. b ≡ is_some (lists.may written.pattern_of (option_map (λ t. t.now) text.entry))) }
 {
     match text {
@@ -176,7 +169,7 @@ fn rule_of(alloc: Global, draft: &Draft<'_>) -> Result<Option<Rule>, AllocError>
     let Some(need) = need_of(draft.need) else {
         return Ok(None);
     };
-    let Some(first) = pattern(alloc, draft.first)? else {
+    let Some(first) = pattern_of(alloc, draft.first)? else {
         return Ok(None);
     };
     let Some(second) = may_pattern(alloc, draft.second)? else {

@@ -9,8 +9,8 @@ pub returns : goal.returns
 unfolding pattern_of
 returns c =
     let u = map upper c.args.text.now in
-    let first : c.as_slice.result.now ≡ u = c.as_slice.ensures.value ∙ c.in_ok-text.ensures in
-    let third : c.as_slice-3.result.now ≡ u = c.as_slice-3.ensures.value ∙ c.in_ok-text.ensures in
+    let first : c.as_slice.result.now ≡ u = c.as_slice.ensures.value ∙ c.in_ok-text.ensures ∙ ap (map upper) c.as_bytes.ensures.value in
+    let third : c.as_slice-3.result.now ≡ u = c.as_slice-3.ensures.value ∙ c.in_ok-text.ensures ∙ ap (map upper) c.as_bytes.ensures.value in
     let words : map (λ (w : Bor Text). w.now) c.as_slice-2.result.now ≡ words_of u =
     ap (map (λ (w : Bor Text). w.now)) c.as_slice-2.ensures.value ∙ c.in_ok-words.ensures ∙ ap words_of first
     in
