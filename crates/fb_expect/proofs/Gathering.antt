@@ -1,19 +1,21 @@
 -- A trace, line by line.
-use Rattle.std.proofs.Common.{ℕ, ◌+◌, ◌≤◌, List, [], ◌∷◌, ◌++◌, refl, sym, ap, subst, ◌∙◌, arith, append_assoc, append-nil}
-use Rattle.std.specs.Prelude.{Option}
+use Rattle.std.proofs.Common.{◌≡◌, ℕ, ◌+◌, ◌≤◌, List, [], ◌∷◌, ◌++◌, Some, None, length, refl, sym, ap, subst, ◌∙◌, arith, append_assoc, append-nil}
+use Rattle.std.specs.Prelude.{Option, IfSome}
 use Rattle.std.specs.Io.KnownBytes.{Consumes, IsAtEnd}
 use Rattle.std.proofs.KnownBytes.{Consumes-trans, Consumes-whole}
 use Rattle.std.proofs.lemmas.List.{length_push}
 use Rattle.fb_types.specs.declared.run.Form.{Form}
 use Rattle.fb_expect.specs.Events.{Event, IsLine}
-use Rattle.fb_expect.specs.Judging.{AllMove, IsFollowed, IsRead}
+use Rattle.fb_expect.specs.Judging.{AllFollow, AllMove, AreJudged, IsFollowed, IsRead, Judges, rules_of}
 use Rattle.fb_expect.specs.Lines.{IsOneLine}
-use Rattle.fb_expect.specs.Traces.{AreLines, EndsAfter, IsLast, IsTrace, last_tick, tick_of}
+use Rattle.fb_expect.specs.Traces.{AreBelow, AreLines, EndsAfter, IsLast, IsTrace, last_tick, tick_of}
 use Rattle.fb_expect.specs.Words.{Text}
 use Rattle.fb_expect.specs.declared.ending.End.{End}
 use Rattle.fb_expect.specs.declared.ending.End.TheVariants.{Horizon, Stop, Cut}
 use Rattle.fb_expect.specs.declared.judging.Cut.{Cut as MayCut}
+use Rattle.fb_expect.specs.declared.judging.Judged.{Judged}
 use Rattle.fb_expect.specs.declared.judging.Watcher.{Watcher}
+use Rattle.fb_expect.specs.declared.rule.Rule.{Rule}
 use Rattle.fb_expect.proofs.Following.{all-below, below-later, last-one, rise-one}
 
 lines-one : (form : Form) (text : Text) (es : List Event) (line : Text) (e : Event) → AreLines form text es → IsLine form line e → AreLines form (text ++ line) (es ++ e ∷ [])
@@ -61,3 +63,10 @@ followed form cut input left line tick number end ws r is after over =
           Consumes-whole input left (r.lines ++ line) (λ text. IsTrace cut text r.events end) r.read over
           (record { form = form; lines = r.lines; last = line; are_lines = r.are_lines; rise = r.rise; is_last = is; ends = ends; parts = refl });
     }
+
+pub judges_all :
+    (cut : MayCut) (input : Option Text) (ws : List Watcher) (rules : List Rule) (number : ℕ) (end : End) (js : List Judged) → IsFollowed cut input ws number end → rules_of ws ≡ rules
+    → ((es : List Event) → number ≡ length es + 1 → AreBelow es (tick_of end) → AllFollow es ws → AreJudged es end (rules_of ws) js) → IfSome input (λ text. Judges cut text rules js)
+judges_all cut None ws rules number end js f same judged = tt
+judges_all cut (Some text) ws rules number end js f same judged =
+    record { events = f.events; end = end; trace = f.trace; judged = subst (λ (rs : List Rule). AreJudged f.events end rs js) same (judged f.events f.counted f.below f.follow) }

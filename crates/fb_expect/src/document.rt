@@ -120,14 +120,8 @@ fn answer_of(within: i64, keys: &Table) -> Option<(NeedDraft, &str)>
     ensures { option_map (λ p. (p.0, p.1.now)) result ≡ spec.answer_of within (get_member (codes "see") (table_view keys.now)) (table_view keys.now) }
 {
     match value_at(keys, "see") {
-        Some(second) => match text_in(second) {
-            Some(second) => Some((NeedDraft::See { within }, second)),
-            None => None,
-        },
-        None => match text_at(keys, "not") {
-            Some(second) => Some((NeedDraft::Not { within }, second)),
-            None => None,
-        },
+        Some(second) => Some(NeedDraft::See { within }).zip(text_in(second)),
+        None => Some(NeedDraft::Not { within }).zip(text_at(keys, "not")),
     }
 }
 
@@ -268,7 +262,7 @@ fn each_draft<'a>(alloc: Global, values: &'a [Value]) -> Result<Option<Vec<Draft
     let mut drafts = Vec::with_capacity(alloc, values.len())?;
     for value in values {
         match draft_of(value) {
-            Some(draft) => drafts.push(draft)?,
+            Some(draft) => drafts.push_reserved(draft),
             None => return Ok(None),
         }
     }

@@ -64,12 +64,12 @@ fn begun<'a>(alloc: Global, rules: &'a [Rule]) -> Result<Vec<Watcher<'a>>, Alloc
 {
     let mut watchers = Vec::with_capacity(alloc, rules.len())?;
     for rule in rules {
-        watchers.push(Watcher {
+        watchers.push_reserved(Watcher {
             rule,
             watch: begin(rule.need),
             sights: begin_sights(rule),
             ports: ports_of(rule),
-        })?;
+        });
     }
     Ok(watchers)
 }

@@ -1,4 +1,4 @@
-use Rattle.std.proofs.Common.{[], length, ap, ◌∙◌, arith}
+use Rattle.std.proofs.Common.{◌+◌, [], length, ap, ◌∙◌, arith}
 use Rattle.std.proofs.lemmas.List.{take_all}
 use Rattle.fb_expect.specs.Judging.{rules_of}
 use Rattle.fb_expect.proofs.Following.{all-one, begun-one}
@@ -7,14 +7,29 @@ use Rattle.fb_expect.proofs.judging.begun.Goals as goal
 pub loop-rule-init : goal.loop-rule-init
 loop-rule-init c =
     let none = c.in_ok-watchers.ensures.items in
-    record { rules = ap rules_of none; follow = λ k d lt. (let long = ap length none in absurd (omega (arith, long, lt))) }
+    record {
+      rules = ap rules_of none;
+      follow = λ k d lt. (let long = ap length none in absurd (omega (arith, long, lt)));
+      len = c.in_ok-watchers.ensures.len;
+      room = c.in_ok-watchers.ensures.capacity;
+    }
+
+pub push_reserved-requires : goal.push_reserved-requires
+push_reserved-requires c =
+    let inv = c.loop-rule.invariant in
+    let within = c.loop-rule-test.true in
+    omega (arith, inv.len, inv.room, within)
 
 pub loop-rule-preserved : goal.loop-rule-preserved
 loop-rule-preserved c =
     let ws = c.loop-rule.watchers.items in
+    let inv = c.loop-rule.invariant in
+    let one = c.push_reserved.ensures in
     record {
-      rules = begun-one ws _ c.args.rules.now c.loop-rule.rule-index c.rule-item.result _ c.loop-rule-test.true c.rule-item.is c.loop-rule.invariant.rules c.in_ok-push.ensures.items;
-      follow = all-one [] ws _ _ c.in_ok-push.ensures.items c.loop-rule.invariant.follow (record { knows = c.begin.ensures; saw = c.begin_sights.ensures; covers = c.ports_of.ensures });
+      rules = begun-one ws _ c.args.rules.now c.loop-rule.rule-index c.rule-item.result _ c.loop-rule-test.true c.rule-item.is inv.rules one.items;
+      follow = all-one [] ws _ _ one.items inv.follow (record { knows = c.begin.ensures; saw = c.begin_sights.ensures; covers = c.ports_of.ensures });
+      len = omega (arith, inv.len, one.len);
+      room = omega (arith, inv.room, one.capacity);
     }
 
 pub returns-clause-rules : goal.returns-clause-rules
