@@ -1,14 +1,15 @@
 -- Commands that are made argument by argument, none of them global.
-use Rattle.std.proofs.Common.{◌≡◌, ◌||◌, ◌<◌, ◌≤◌, ◌+◌, ℕ, Bool, List, Result, Ok, Err, Some, false, true, ap, ap₂, drop, get_or, length, refl, sym, subst, ◌∙◌}
+use Rattle.std.proofs.Common.{◌≡◌, ◌||◌, ◌<◌, ◌≤◌, ◌+◌, ℕ, Bool, List, Some, false, true, ap, ap₂, drop, get_or, length, refl, sym, subst, ◌∙◌}
 use Rattle.std.specs.Borrow.{Bor}
-use Rattle.std.specs.Prelude.{IfOk}
 use Rattle.std.proofs.lemmas.List.{drop_all, drop_more}
 use Rattle.clap.specs.Words.{App, Rule, Text, AddsArg, AddsSubcommand, app_of, rule_of, with_rule, with_subcommand}
 use Rattle.clap.specs.declared.builder.action.ArgAction.{ArgAction}
 use Rattle.clap.specs.declared.builder.arg.Arg.{Arg}
 use Rattle.clap.specs.declared.builder.command.Command.{Command}
-use Rattle.fbsim_command.specs.Line.{rule_for, with_arguments}
+use Rattle.fbsim_command.specs.Line.{command_for, kinds, program, rule_for, simulator_with, with_arguments, with_kinds}
 use Rattle.fbsim_command.specs.declared.arguments.Argument.{Argument}
+use Rattle.fbsim_command.specs.declared.line.Kind.{Kind}
+use Rattle.clap.specs.declared.builder.value_parser.ValueParser.{ValueParser}
 use Rattle.clap.specs.declared.builder.command.Command.TheViews.{out-Command as fields_of}
 
 -- what a command represents, and that nothing in it is global
@@ -27,16 +28,6 @@ grown old new x a r adds local is at =
 -- one more subcommand
 pub joined : (old new sub : Command) (a b : App) → AddsSubcommand old sub new → (fields_of sub).has_globals ≡ false → app_of old ≡ a → app_of sub ≡ b → app_of new ≡ with_subcommand a b.top
 joined old new sub a b adds local is of = adds.shape local ∙ ap₂ with_subcommand is (ap (λ (x : App). x.top) of)
-
--- what holds of all that may be made holds of what was made
-pub made_so : {M E : Type 0} (r : Result M E) (x : M) (P : M → Type 0) → IfOk r P → r ≡ Ok x → P x
-made_so {M} {E} r x P holds is = subst (λ (s : Result M E). IfOk s P) is holds
-
--- what a command that may not be there represents, and that nothing in it is global
-pub stands_well :
-    {E : Type 0} (made : Result Command E) (a : App) → IfOk made (λ c. app_of c ≡ a) → IfOk made (λ c. (fields_of c).has_globals ≡ false) → IfOk made (λ c. Builds c a)
-stands_well (Err e) a app local = tt
-stands_well (Ok c) a app local = record { app = app; local = local }
 
 -- ---- An argument
 
@@ -80,20 +71,27 @@ goes-on a xs i d old new x lt adds local is goes =
 pub goes-past : (a : App) (xs : List Argument) (i : ℕ) (c : Command) → length xs ≤ i → Goes a xs i c → app_of c ≡ with_arguments a xs
 goes-past a xs i c end goes = sym (goes.app ∙ ap (with_arguments (app_of c)) (drop_all i xs end))
 
--- one more subcommand, where both may not be there
-abbrev pub AddsSubcommandTo : {E : Type 0} → (before sub : Result Command E) → Command → Type 0
-AddsSubcommandTo before sub new = (old : Command) × (s : Command) × (before ≡ Ok old) × (sub ≡ Ok s) × AddsSubcommand old s new
+-- ---- A list of subcommands
 
-pub subcommand_added :
-    {E : Type 0} (before sub made : Result Command E) (old s : Command) → before ≡ Ok old → sub ≡ Ok s → IfOk made (AddsSubcommand old s)
-    → IfOk made (AddsSubcommandTo before sub)
-subcommand_added before sub (Err e) old s is of adds = tt
-subcommand_added before sub (Ok new) old s is of adds = (old, s, is, of, adds)
+-- with the subcommands from here on this is the command that is asked for
+pub record Joins (values : ValueParser) (a : App) (ks : List Kind) (i : ℕ) (c : Command) : Type 0 where
+  pub app : with_kinds values a ks ≡ with_kinds values (app_of c) (drop i ks)
 
-pub joined_on :
-    {E : Type 0} (before sub made : Result Command E) (a b : App) → IfOk made (AddsSubcommandTo before sub) → IfOk before (λ c. app_of c ≡ a)
-    → IfOk sub (λ c. Builds c b) → IfOk made (λ c. app_of c ≡ with_subcommand a b.top)
-joined_on before sub (Err e) a b adds is of = tt
-joined_on before sub (Ok new) a b adds is of =
-    let joins : Builds adds.1 b = made_so sub adds.1 (λ c. Builds c b) of adds.3 in
-    joined adds.0 new adds.1 a b adds.4 joins.local (made_so before adds.0 (λ c. app_of c ≡ a) is adds.2) joins.app
+pub joins-first : (values : ValueParser) (a : App) (ks : List Kind) (c : Command) → app_of c ≡ a → Joins values a ks 0 c
+joins-first values a ks c is = record { app = ap (λ (b : App). with_kinds values b ks) (sym is) }
+
+pub joins-on :
+    (values : ValueParser) (a : App) (ks : List Kind) (i : ℕ) (d : Kind) (old sub new : Command) → i < length ks → AddsSubcommand old sub new → (fields_of sub).has_globals ≡ false
+    → app_of sub ≡ command_for values (get_or ks i d) → Joins values a ks i old → Joins values a ks (i + 1) new
+joins-on values a ks i d old sub new lt adds local is joins =
+    record {
+      app = joins.app ∙ ap (with_kinds values (app_of old)) (drop_more ks i d lt)
+          ∙ ap (λ (b : App). with_kinds values b (drop (i + 1) ks)) (sym (joined old new sub (app_of old) (command_for values (get_or ks i d)) adds local refl is));
+    }
+
+pub joins-past : (values : ValueParser) (a : App) (ks : List Kind) (i : ℕ) (c : Command) → length ks ≤ i → Joins values a ks i c → app_of c ≡ with_kinds values a ks
+joins-past values a ks i c end joins = sym (joins.app ∙ ap (with_kinds values (app_of c)) (drop_all i ks end))
+
+-- with all of them this is the command of the program
+pub kinds_are : (values : ValueParser) → with_kinds values program kinds ≡ simulator_with values
+kinds_are values = refl

@@ -102,7 +102,12 @@ fn arg_of<'a>(alloc: Global, argument: Argument<'a>) -> Arg<'a>
 }
 
 /// A command with its help texts and no arguments.
-fn titled<'a>(alloc: Global, name: &'a str, about: &'a str, example: &'a str) -> Command<'a>
+pub(crate) fn titled<'a>(
+    alloc: Global,
+    name: &'a str,
+    about: &'a str,
+    example: &'a str,
+) -> Command<'a>
     ensures app { app_of result ≡ new_app name.entry.now }
     ensures globals { (fields_of result).has_globals ≡ false }
 {

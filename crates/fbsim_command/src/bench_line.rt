@@ -9,7 +9,7 @@ ghost use Rattle.fbsim_command.specs.declared.bench_line.Diff.{Diff};
 ghost use Rattle.fbsim_command.specs.declared.bench_line.Expect.{Expect};
 
 use crate::arguments::{Argument, TYPES_HELP, made};
-use crate::line::{Call, has_flag, types_of};
+use crate::line::{Call, has_flag, texts_of};
 use clap::{ArgMatches, Command};
 use std::alloc::{AllocError, Global};
 
@@ -135,7 +135,7 @@ pub(crate) fn expect_of<'a>(
     };
     let declaration = found.get_str("decl");
     let deploy = found.get_str("deploy");
-    let types = types_of(alloc, found)?;
+    let types = texts_of(alloc, found, "types")?;
     if declares_nothing(declaration, deploy, types.as_slice()) {
         return Ok(None);
     }

@@ -9,7 +9,7 @@ ghost use Rattle.fbsim_command.specs.declared.coverage_line.Coverage.{Coverage};
 
 use crate::arguments::{Argument, deployed};
 use crate::bench_line::TRACES_HELP;
-use crate::line::{Call, WHY_HELP, has_flag, number, types_of};
+use crate::line::{Call, WHY_HELP, has_flag, number, texts_of};
 use clap::{ArgMatches, Command};
 use fb_types::MOST_STEPS;
 use std::alloc::{AllocError, Global};
@@ -76,7 +76,7 @@ pub(crate) fn coverage_of<'a>(
         return Ok(None);
     };
     let traces = Vec::from_slice(alloc, names)?;
-    let types = types_of(alloc, found)?;
+    let types = texts_of(alloc, found, "types")?;
     let coverage = Coverage {
         declaration,
         deploy,

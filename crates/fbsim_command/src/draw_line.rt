@@ -8,7 +8,7 @@ ghost use Rattle.fbsim_command.specs.Line.{AsksDraw, IsCall, call_name};
 ghost use Rattle.fbsim_command.specs.declared.draw_line.Draw.{Draw};
 
 use crate::arguments::{Argument, deployed};
-use crate::line::{Call, types_of};
+use crate::line::{Call, texts_of};
 use clap::{ArgMatches, Command};
 use std::alloc::{AllocError, Global};
 
@@ -54,7 +54,7 @@ pub(crate) fn draw_of<'a>(
     };
     let deploy = found.get_str("deploy");
     let block_type = found.get_str("type");
-    let types = types_of(alloc, found)?;
+    let types = texts_of(alloc, found, "types")?;
     let draw = Draw {
         declaration,
         deploy,

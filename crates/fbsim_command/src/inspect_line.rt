@@ -1,14 +1,14 @@
 //! The call that inspects a trace.
 
-ghost use Rattle.std.specs.Prelude.{◌≡◌, IfNone, IfOk, IfSome, codes, false, map};
-ghost use Rattle.clap.specs.Words.{all_of, app_of, found_of, rows_of};
+ghost use Rattle.std.specs.Prelude.{◌≡◌, IfNone, IfOk, IfSome, codes, false};
+ghost use Rattle.clap.specs.Words.{app_of, found_of, rows_of};
 ghost use Rattle.clap.specs.declared.builder.command.Command.TheViews.{out-Command as fields_of};
 ghost use Rattle.fbsim_command.specs.Line as spec;
-ghost use Rattle.fbsim_command.specs.Line.{AsksInspect, IsCall, call_name, or_none};
+ghost use Rattle.fbsim_command.specs.Line.{AsksInspect, IsCall, call_name};
 ghost use Rattle.fbsim_command.specs.declared.inspect_line.Inspect.{Inspect};
 
 use crate::arguments::{Argument, deployed};
-use crate::line::{Call, WHY_HELP, has_flag, number, types_of};
+use crate::line::{Call, WHY_HELP, has_flag, number, texts_of};
 use clap::{ArgMatches, Command};
 use fb_types::MOST_STEPS;
 use std::alloc::{AllocError, Global};
@@ -64,16 +64,6 @@ pub(crate) fn inspect_command<'a>(alloc: Global) -> Result<Command<'a>, AllocErr
     deployed(alloc, "inspect", ABOUT, EXAMPLE, &arguments)
 }
 
-/// The paths of the instances that are shown.
-fn only_of<'a>(alloc: Global, found: &ArgMatches<'a>) -> Result<Vec<&'a str>, AllocError>
-    ensures { IfOk result (λ paths. or_none (all_of (codes "only") (rows_of (found_of found.now))) ≡ map (λ t. t.now) paths.items) }
-{
-    match found.get_strs("only") {
-        Some(paths) => Vec::from_slice(alloc, paths),
-        None => Ok(Vec::new(alloc)),
-    }
-}
-
 /// The call that inspects a trace, from the parser's matches.
 pub(crate) fn inspect_of<'a>(
     alloc: Global,
@@ -93,8 +83,8 @@ pub(crate) fn inspect_of<'a>(
     let Some(steps) = number(found, "steps") else {
         return Ok(None);
     };
-    let only = only_of(alloc, found)?;
-    let types = types_of(alloc, found)?;
+    let only = texts_of(alloc, found, "only")?;
+    let types = texts_of(alloc, found, "types")?;
     let inspect = Inspect {
         declaration,
         deploy,

@@ -1,19 +1,18 @@
 //! The command line.
 
-ghost use Rattle.std.specs.Prelude.{◌≡◌, ◌≢◌, ℕ, Ok, IfOk, IfErr, IfSome, IfNone, None, OnOk, map, codes, false};
+ghost use Rattle.std.specs.Prelude.{◌≡◌, ◌≢◌, ℕ, IfOk, IfErr, IfSome, IfNone, None, OnOk, map, codes, false};
 ghost use Rattle.fbsim_command.specs.Line as spec;
-ghost use Rattle.fbsim_command.specs.Line.{AreCall, AreNoCall, AreTypes, AskHelp, AsksWave, AreForms, IsTask, IsFault, IsFlag, IsForm, IsHelp, IsText, IsNumber, IsAction, IsCall, IsCallOf, IsTaken, command_name, call_name};
+ghost use Rattle.fbsim_command.specs.Line.{AreCall, AreNoCall, AskHelp, AsksWave, AreForms, IsTask, IsFault, IsFlag, IsForm, IsHelp, IsText, IsNumber, IsAction, IsCall, IsCallOf, IsTaken, command_name, call_name, or_none};
 ghost use Rattle.fbsim_command.specs.declared.line.LineFault.TheVariants.{Memory};
 ghost use Rattle.fbsim_command.specs.declared.line.Task.{Task};
 ghost use Rattle.fbsim_command.specs.declared.line.Action.{Action};
 ghost use Rattle.fbsim_command.specs.declared.line.Call.{Call};
 ghost use Rattle.fbsim_command.specs.declared.line.Wave.{Wave};
 ghost use Rattle.fb_types.specs.declared.run.Form.{Form};
-ghost use Rattle.clap.specs.Words.{AddsSubcommand, App, app_of, first_of, rows_of, found_of, kind_of, subcommand_rows_of};
-ghost use Rattle.clap.specs.declared.builder.command.Command.{Command as Cmd};
+ghost use Rattle.clap.specs.Words.{all_of, app_of, first_of, rows_of, found_of, kind_of, subcommand_rows_of};
 ghost use Rattle.clap.specs.declared.builder.command.Command.TheViews.{out-Command as fields_of};
 
-use crate::arguments::{Argument, deployed, made};
+use crate::arguments::{Argument, deployed, made, titled};
 use crate::bench_line::{Diff, Expect, diff_command, diff_of, expect_command, expect_of};
 use crate::coverage_line::{Coverage, coverage_command, coverage_of};
 use crate::draw_line::{Draw, draw_command, draw_of};
@@ -259,83 +258,78 @@ fn explain<'a>(alloc: Global) -> Result<Command<'a>, AllocError>
     made(alloc, "explain", EXPLAIN_ABOUT, EXPLAIN_EXAMPLE, &arguments)
 }
 
-/// Both of two values, if there was memory for both. It takes values of any types: dropping a known type on the way is
-/// proved part by part, dropping a type parameter in one step.
-fn both<F: Drop, S: Drop>(
-    first: Result<F, AllocError>,
-    second: Result<S, AllocError>,
-) -> Result<(F, S), AllocError>
-    ensures first { IfOk result (λ pair. first ≡ Ok pair.0) }
-    ensures second { IfOk result (λ pair. second ≡ Ok pair.1) }
-{
-    Ok((first?, second?))
-}
-
-/// The command with one more subcommand, if there was memory for both.
-fn with_subcommand<'a>(
-    command: Result<Command<'a>, AllocError>,
-    subcommand: Result<Command<'a>, AllocError>,
-) -> Result<Command<'a>, AllocError>
-    ensures { IfOk result (λ new. (old : Cmd) × (sub : Cmd) × (command.entry ≡ Ok old) × (subcommand.entry ≡ Ok sub) × AddsSubcommand old sub new) }
-{
-    let (command, subcommand) = both(command, subcommand)?;
-    command.subcommand(subcommand)
-}
-
 /// The command of the program, without its subcommands.
 fn program<'a>(alloc: Global) -> Command<'a>
     ensures { app_of result ≡ spec.program }
 {
-    Command::new(alloc, "fbsim")
+    titled(alloc, "fbsim", ABOUT, EXAMPLE)
         .version(VERSION)
-        .about(ABOUT)
-        .after_help(EXAMPLE)
         .subcommand_required(true)
 }
 
-/// The command with those of a run, a check and a dump.
-fn with_runs<'a>(
+/// The name of a subcommand.
+#[derive(Clone, Copy)]
+pub(crate) enum Kind {
+    Run,
+    Check,
+    Wave,
+    Expect,
+    Diff,
+    Draw,
+    Inspect,
+    Coverage,
+    Explain,
+}
+
+/// The subcommands in the order in which the help lists them.
+const KINDS: &[Kind] = &[
+    Kind::Run,
+    Kind::Check,
+    Kind::Wave,
+    Kind::Expect,
+    Kind::Diff,
+    Kind::Draw,
+    Kind::Inspect,
+    Kind::Coverage,
+    Kind::Explain,
+];
+
+/// The subcommand of this name.
+fn command_for<'a>(
     alloc: Global,
-    command: Result<Command<'a>, AllocError>,
+    kind: Kind,
     forms: ValueParser<'a>,
 ) -> Result<Command<'a>, AllocError>
-    ensures { (a : App) → IfOk command.entry (λ c. app_of c ≡ a) → IfOk result (λ c. app_of c ≡ spec.with_runs forms.entry a) }
+    ensures app { IfOk result (λ c. app_of c ≡ spec.command_for forms.entry kind) }
+    ensures globals { IfOk result (λ c. (fields_of c).has_globals ≡ false) }
 {
-    let command = with_subcommand(command, run(alloc, forms));
-    let command = with_subcommand(command, check_command(alloc));
-    with_subcommand(command, wave_command(alloc))
-}
-
-/// The command with those that hold traces against rules, compare them, and draw.
-fn with_benches<'a>(
-    alloc: Global,
-    command: Result<Command<'a>, AllocError>,
-) -> Result<Command<'a>, AllocError>
-    ensures { (a : App) → IfOk command.entry (λ c. app_of c ≡ a) → IfOk result (λ c. app_of c ≡ spec.with_benches a) }
-{
-    let command = with_subcommand(command, expect_command(alloc));
-    let command = with_subcommand(command, diff_command(alloc));
-    with_subcommand(command, draw_command(alloc))
-}
-
-/// The command with those that show what traces leave out, and that explain.
-fn with_insides<'a>(
-    alloc: Global,
-    command: Result<Command<'a>, AllocError>,
-) -> Result<Command<'a>, AllocError>
-    ensures { (a : App) → IfOk command.entry (λ c. app_of c ≡ a) → IfOk result (λ c. app_of c ≡ spec.with_insides a) }
-{
-    let command = with_subcommand(command, inspect_command(alloc));
-    let command = with_subcommand(command, coverage_command(alloc));
-    with_subcommand(command, explain(alloc))
+    match kind {
+        Kind::Run => run(alloc, forms),
+        Kind::Check => check_command(alloc),
+        Kind::Wave => wave_command(alloc),
+        Kind::Expect => expect_command(alloc),
+        Kind::Diff => diff_command(alloc),
+        Kind::Draw => draw_command(alloc),
+        Kind::Inspect => inspect_command(alloc),
+        Kind::Coverage => coverage_command(alloc),
+        Kind::Explain => explain(alloc),
+    }
 }
 
 /// The command of the program.
 fn simulator<'a>(alloc: Global, forms: ValueParser<'a>) -> Result<Command<'a>, AllocError>
     ensures { IfOk result (λ c. app_of c ≡ spec.simulator_with forms.entry) }
 {
-    let command = with_runs(alloc, Ok(program(alloc)), forms);
-    with_insides(alloc, with_benches(alloc, command))
+    let mut command = program(alloc);
+    for kind in KINDS {
+        let Ok(made) = command_for(alloc, *kind, forms) else {
+            // Dropped by one call: the end of its scope would prove the drop part by part.
+            drop(command);
+            return Err(AllocError);
+        };
+        command = command.subcommand(made)?;
+    }
+    Ok(command)
 }
 
 pub(crate) fn number(found: &ArgMatches<'_>, id: &str) -> Option<u64>
@@ -397,15 +391,16 @@ fn action_of(name: &str, found: &ArgMatches<'_>) -> Option<Action>
     }
 }
 
-/// The names of the files of block types, in their order.
-pub(crate) fn types_of<'a>(
+/// The texts of an option that may be given several times, in their order.
+pub(crate) fn texts_of<'a>(
     alloc: Global,
     found: &ArgMatches<'a>,
+    id: &str,
 ) -> Result<Vec<&'a str>, AllocError>
-    ensures { IfOk result (λ names. AreTypes (rows_of (found_of found.now)) names.items) }
+    ensures { IfOk result (λ texts. or_none (all_of id.now (rows_of (found_of found.now))) ≡ map (λ t. t.now) texts.items) }
 {
-    match found.get_strs("types") {
-        Some(names) => Vec::from_slice(alloc, names),
+    match found.get_strs(id) {
+        Some(texts) => Vec::from_slice(alloc, texts),
         None => Ok(Vec::new(alloc)),
     }
 }
@@ -447,7 +442,7 @@ fn task_call<'a>(
     let Some(task) = task_of(name, found) else {
         return Ok(None);
     };
-    let types = types_of(alloc, found)?;
+    let types = texts_of(alloc, found, "types")?;
     Ok(Some(Call::Task(task, types)))
 }
 
@@ -467,7 +462,7 @@ fn wave_of<'a>(alloc: Global, found: &ArgMatches<'a>) -> Result<Option<Call<'a>>
     let Some(steps) = number(found, "steps") else {
         return Ok(None);
     };
-    let types = types_of(alloc, found)?;
+    let types = texts_of(alloc, found, "types")?;
     let wave = Wave {
         declaration,
         deploy,

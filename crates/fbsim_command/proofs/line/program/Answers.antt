@@ -7,5 +7,4 @@ pub returns : goal.returns
 returns c =
     ap app_of_fields c.subcommand_required.ensures
     ∙ ap (λ (a : App). record a { top = record a.top { subcommand_required = true } })
-    (ap app_of_fields c.after_help.ensures ∙ ap app_of_fields c.about.ensures ∙ ap app_of_fields c.version.ensures
-    ∙ ap (λ (a : App). record a { top = record a.top { has_version = true } }) c.new.ensures.app)
+    (ap app_of_fields c.version.ensures ∙ ap (λ (a : App). record a { top = record a.top { has_version = true } }) c.titled.ensures.app)
