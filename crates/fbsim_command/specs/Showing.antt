@@ -36,8 +36,11 @@ abbrev pub files_of : Wave → Task
 files_of w = record { action = Check false; declaration = w.declaration; deploy = w.deploy; stimuli = None; why = w.why }
 
 -- whether the trace may be cut off
+abbrev pub may_be_cut : Bool → Cut
+may_be_cut is_cut = if is_cut then cut.Allowed else cut.Refused
+
 abbrev pub cut_of : Wave → Cut
-cut_of w = if w.is_cut then cut.Allowed else cut.Refused
+cut_of w = may_be_cut w.is_cut
 
 -- ---- What is written
 

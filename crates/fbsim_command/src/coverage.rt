@@ -3,8 +3,9 @@
 ghost use Rattle.std.specs.Prelude.{◌≡◌, ◌++◌, IfErr, IfOk, IfSome, OnOk, codes, decimal, map, option_map, string_bytes};
 ghost use Rattle.fbsim_command.specs.declared.coverage.Gleaned.{Gleaned};
 ghost use Rattle.fbsim_command.specs.Covering as spec;
-ghost use Rattle.fbsim_command.specs.Covering.{AreGoneThrough, AreStopped, GoesThrough, IsFirst, IsReport, IsStopped, IsUnreported, NotesTrace, RefusesAt, ReportsCoverage, WritesReport, are_several, coverage_text, cut_line, cut_of, files_of, note_front};
+ghost use Rattle.fbsim_command.specs.Covering.{AreGoneThrough, AreStopped, GoesThrough, IsFirst, IsReport, IsStopped, IsUnreported, NotesTrace, RefusesAt, ReportsCoverage, WritesReport, are_several, coverage_text, cut_line, note_front};
 
+use crate::Coverage;
 use crate::expect::refused_trace;
 use crate::failure::{Failure, RefusalLine};
 use crate::inside_notes::note_of_inside;
@@ -14,39 +15,14 @@ use crate::output::write_text;
 use crate::own_lines::end_with;
 use crate::sources::{Source, Streams};
 use crate::statuses::Done;
-use crate::texts::read_files;
-use crate::{Action, Coverage, Task};
+use crate::texts::{files_of, read_files};
+use crate::wave::cut_of;
 use fb_coverage::{Marks, report_of};
 use fb_inspect::{Covered, Extent, InspectError, RefusedLine, Terms, cover};
 use fb_sim::{Inputs, discard, open};
 use fb_system::System;
-use fb_wave::Cut;
 use std::alloc::{AllocError, Global};
 use std::io::Write;
-
-/// The call that checks what traces are of.
-fn files_of<'a>(coverage: &Coverage<'a>) -> Task<'a>
-    ensures { result ≡ files_of coverage.now }
-{
-    Task {
-        action: Action::Check { lint: false },
-        declaration: coverage.declaration,
-        deploy: coverage.deploy,
-        stimuli: None,
-        why: coverage.why,
-    }
-}
-
-/// Whether traces may be cut off.
-fn cut_of(coverage: &Coverage<'_>) -> Cut
-    ensures { result ≡ cut_of coverage.now }
-{
-    if coverage.is_cut {
-        Cut::Allowed
-    } else {
-        Cut::Refused
-    }
-}
 
 /// Whether there are several traces, so that a refusal names one.
 fn are_several(coverage: &Coverage<'_>) -> bool
@@ -175,7 +151,7 @@ fn cover_one<S: Streams>(
     let mut trace = source.open(alloc, name)?;
     let mut refused = RefusedLine::new(alloc);
     let terms = Terms {
-        cut: cut_of(coverage),
+        cut: cut_of(coverage.is_cut),
         steps: coverage.steps,
     };
     let (marks, cut) = gleaned.parts();
@@ -306,7 +282,7 @@ pub(crate) fn show_coverage<S: Source + Streams, W: Write>(
 ) -> (Result<Done, Failure>, Option<String>)
     ensures { ReportsCoverage S.gives S.opens source.old source.new (map (λ t. t.now) types.now) coverage.now (W.contents out.old) (W.contents out.new) result.0 (option_map string_bytes result.1) }
 {
-    let task = files_of(coverage);
+    let task = files_of(coverage.declaration, coverage.deploy, coverage.why);
     let texts = match read_files(alloc, types, &task, source) {
         Ok(texts) => texts,
         Err(unread) => {

@@ -2,15 +2,15 @@
 
 ghost use Rattle.std.specs.Prelude.{◌≡◌, IfErr, IfNone, IfOk, IfSome, codes, false, map, option_map};
 ghost use Rattle.fb_types.specs.Headline.{inputs};
-ghost use Rattle.fbsim_command.specs.Drawing.{Draws, IsGraph, IsUndrawn, WritesGraph, files_of, graph_of};
+ghost use Rattle.fbsim_command.specs.Drawing.{Draws, IsGraph, IsUndrawn, WritesGraph, graph_of};
 
+use crate::Draw;
 use crate::failure::{Failure, RefusalLine};
 use crate::output::write_text;
 use crate::own_lines::end_with;
 use crate::sources::Source;
 use crate::statuses::Done;
-use crate::texts::read_files;
-use crate::{Action, Draw, Task};
+use crate::texts::{files_of, read_files};
 use fb_inputs::name;
 use fb_sim::{Inputs, discard, open};
 use fb_system::System;
@@ -19,19 +19,6 @@ use std::io::Write;
 
 /// The number of the refusal of an unknown name.
 const UNKNOWN: u8 = 21;
-
-/// The call that checks what is drawn.
-fn files_of<'a>(draw: &Draw<'a>) -> Task<'a>
-    ensures { result ≡ files_of draw.now }
-{
-    Task {
-        action: Action::Check { lint: false },
-        declaration: draw.declaration,
-        deploy: draw.deploy,
-        stimuli: None,
-        why: false,
-    }
-}
 
 /// The graph of the application, or of the declared type that a text names, if there is one.
 fn graph(
@@ -93,7 +80,12 @@ pub(crate) fn show_graph<S: Source, W: Write>(
 ) -> Result<Done, Failure>
     ensures { Draws S.gives source.old source.new (map (λ t. t.now) types.now) draw.now (W.contents out.old) (W.contents out.new) result }
 {
-    let texts = match read_files(alloc, types, &files_of(draw), source) {
+    let texts = match read_files(
+        alloc,
+        types,
+        &files_of(draw.declaration, draw.deploy, false),
+        source,
+    ) {
         Ok(texts) => texts,
         Err(unread) => return Err(Failure::from(unread.fault)),
     };

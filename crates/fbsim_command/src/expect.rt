@@ -2,7 +2,7 @@
 
 ghost use Rattle.std.specs.Prelude.{◌≡◌, ◌&&◌, IfErr, IfOk, OnOk, length, nat_lt, option_map, string_bytes, true};
 ghost use Rattle.fbsim_command.specs.Comparing.{Compares, Differs};
-ghost use Rattle.fbsim_command.specs.Expecting.{AreRules, AreUnheld, Expects, Holds, IsHeld, IsRefusedAt, IsUndeclared, IsUnheld, IsUnnamed, MayDeclare, Names, PutsAll, PutsOne, RefusesFor, Reports, cut_of, files_of, own_of, types_of};
+ghost use Rattle.fbsim_command.specs.Expecting.{AreRules, AreUnheld, Expects, Holds, IsHeld, IsRefusedAt, IsUndeclared, IsUnheld, IsUnnamed, MayDeclare, Names, PutsAll, PutsOne, RefusesFor, Reports, cut_of, own_of, types_of};
 ghost use Rattle.fbsim_command.specs.OwnLines.{EndsIn};
 ghost use Rattle.fbsim_command.specs.Texts.{given_of, may_lines_of};
 
@@ -13,8 +13,8 @@ use crate::own_lines::end_in;
 use crate::rules_notes::{note_of_names, note_of_rules, note_to_rules};
 use crate::sources::{Source, Streams};
 use crate::statuses::Done;
-use crate::texts::{Texts, Unread, lines_in, read_files};
-use crate::{Action, Diff, Expect, Task};
+use crate::texts::{Texts, Unread, files_of, lines_in, read_files};
+use crate::{Diff, Expect};
 use fb_expect::{
     Cut, Judged, Of, Rule, TraceError, UNKNOWN_NAME, are_well, difference_text, judge, part, plan,
     put_points, read_rules,
@@ -26,19 +26,6 @@ use std::io::{BufRead, Write};
 
 /// One byte more than rules may have, so that some that are too long show.
 const RULES_BYTES: usize = 1_048_577;
-
-/// The call that checks the declaration in which the names of the rules must be.
-pub(crate) fn files_of<'a>(expect: &Expect<'a>, declaration: &'a str) -> Task<'a>
-    ensures { result ≡ files_of expect.now declaration.entry }
-{
-    Task {
-        action: Action::Check { lint: false },
-        declaration,
-        deploy: expect.deploy,
-        stimuli: None,
-        why: expect.why,
-    }
-}
 
 /// Whether traces may be cut off.
 fn cut_of(expect: &Expect<'_>) -> Cut
@@ -173,7 +160,12 @@ fn read_declared<S: Source>(
         return Ok(None);
     };
     let types = expect.types.as_slice();
-    match read_files(alloc, types, &files_of(expect, declaration), source) {
+    match read_files(
+        alloc,
+        types,
+        &files_of(declaration, expect.deploy, expect.why),
+        source,
+    ) {
         Ok(texts) => Ok(Some(texts)),
         Err(unread) => Err(unread),
     }

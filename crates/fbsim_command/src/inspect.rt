@@ -3,8 +3,9 @@
 ghost use Rattle.std.specs.Prelude.{◌≡◌, IfOk, IfSome, OnErr, OnOk, map, option_map, string_bytes};
 ghost use Rattle.fb_inspect.specs.OfSystem.{IsShownBy, ShowsFront};
 ghost use Rattle.fbsim_command.specs.InsideNotes.{NotesInside};
-ghost use Rattle.fbsim_command.specs.Inspecting.{Inspects, ShowsInsides, cut_of, files_of, paths_of, upper};
+ghost use Rattle.fbsim_command.specs.Inspecting.{Inspects, ShowsInsides, cut_of, paths_of, upper};
 
+use crate::Inspect;
 use crate::failure::Failure;
 use crate::inside_notes::{note_of_gone, note_of_open};
 use crate::line_notes::note_of_wave;
@@ -12,57 +13,33 @@ use crate::notes::note_of_file;
 use crate::own_lines::end_with;
 use crate::sources::{Source, Streams};
 use crate::statuses::Done;
-use crate::texts::read_files;
-use crate::{Action, Inspect, Task};
+use crate::texts::{files_of, read_files};
+use crate::wave::cut_of;
 use fb_inspect::{InspectError, Inspection, RefusedLine, Terms};
 use fb_sim::{Inputs, discard, open};
 use fb_system::System;
 use fb_types::Name;
-use fb_wave::Cut;
 use std::alloc::{AllocError, Global};
 use std::io::{BufRead, Write};
-
-/// The call that checks what a trace is of.
-fn files_of<'a>(inspect: &Inspect<'a>) -> Task<'a>
-    ensures { result ≡ files_of inspect.now }
-{
-    Task {
-        action: Action::Check { lint: false },
-        declaration: inspect.declaration,
-        deploy: inspect.deploy,
-        stimuli: None,
-        why: inspect.why,
-    }
-}
-
-/// Whether the trace may be cut off.
-fn cut_of(inspect: &Inspect<'_>) -> Cut
-    ensures { result ≡ cut_of inspect.now }
-{
-    if inspect.is_cut {
-        Cut::Allowed
-    } else {
-        Cut::Refused
-    }
-}
 
 /// A path in upper case.
 fn path_of(alloc: Global, text: &str) -> Result<Name, AllocError>
     ensures { IfOk result (λ path. path ≡ upper text.now) }
 {
-    let mut bytes = Vec::new(alloc);
-    for byte in text.as_bytes() {
-        bytes.push(byte.to_ascii_uppercase())?;
+    let bytes = text.as_bytes();
+    let mut path = Vec::with_capacity(alloc, bytes.len())?;
+    for byte in bytes {
+        path.push_reserved(byte.to_ascii_uppercase());
     }
-    Name::from_slice(alloc, bytes.as_slice())
+    Name::from_slice(alloc, path.as_slice())
 }
 
 fn paths_of(alloc: Global, texts: &[&str]) -> Result<Vec<Name>, AllocError>
     ensures { IfOk result (λ paths. paths.items ≡ map (λ t. upper t.now) texts.now) }
 {
-    let mut names = Vec::new(alloc);
+    let mut names = Vec::with_capacity(alloc, texts.len())?;
     for text in texts {
-        names.push(path_of(alloc, text)?)?;
+        names.push_reserved(path_of(alloc, text)?);
     }
     Ok(names)
 }
@@ -83,7 +60,7 @@ fn go<R: BufRead, W: Write>(
     let inspection = Inspection {
         only: only.as_slice(),
         terms: Terms {
-            cut: cut_of(inspect),
+            cut: cut_of(inspect.is_cut),
             steps: inspect.steps,
         },
     };
@@ -128,7 +105,7 @@ pub(crate) fn show_insides<S: Source + Streams, W: Write>(
 ) -> (Result<Done, Failure>, Option<String>)
     ensures { ShowsInsides S.gives S.opens source.old source.new (map (λ t. t.now) types.now) inspect.now (W.contents out.old) (W.contents out.new) result.0 (option_map string_bytes result.1) }
 {
-    let task = files_of(inspect);
+    let task = files_of(inspect.declaration, inspect.deploy, inspect.why);
     let texts = match read_files(alloc, types, &task, source) {
         Ok(texts) => texts,
         Err(unread) => {

@@ -10,14 +10,14 @@ ghost use Rattle.fbsim_command.specs.Texts.{given_of, lines_of, may_lines_of};
 ghost use Rattle.fbsim_command.specs.OfSystem.{IsUnknownAt};
 
 use crate::Expect;
-use crate::expect::{files_of, own_name};
+use crate::expect::own_name;
 use crate::failure::Failure;
 use crate::input_notes::InputNames;
 use crate::known::unknown_location;
 use crate::notes::{note_of_file, note_of_name, note_of_number, number_of};
 use crate::sources::SourceFault;
 use crate::statuses::Done;
-use crate::texts::{Texts, Unread};
+use crate::texts::{Texts, Unread, files_of};
 use fb_expect::{Rule, RuleKey, UNKNOWN_NAME, read_rules, rules_location};
 use fb_sim::{discard, open};
 use fb_why::{rules_message, unknown_key_message};
@@ -47,7 +47,12 @@ pub(crate) fn note_of_names(alloc: Global, expect: &Expect<'_>, unread: Unread) 
     match expect.declaration {
         Some(declaration) => {
             let types = expect.types.as_slice();
-            note_of_file(alloc, types, &files_of(expect, declaration), unread)
+            note_of_file(
+                alloc,
+                types,
+                &files_of(declaration, expect.deploy, expect.why),
+                unread,
+            )
         }
         None => None,
     }

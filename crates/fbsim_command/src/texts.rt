@@ -1,15 +1,15 @@
 //! The files of a call, in the order in which they are read.
 
-ghost use Rattle.std.specs.Prelude.{◌≡◌, ◌<◌, ◌++◌, ◌∷◌, [], ℕ, IfOk, IfErr, Ok, Err, OnOk, length, map, option_map};
+ghost use Rattle.std.specs.Prelude.{◌≡◌, ◌<◌, ◌++◌, ◌∷◌, [], ℕ, IfOk, IfErr, Ok, Err, None, OnOk, false, length, map, option_map};
 ghost use Rattle.clap.specs.Words.{Text};
 ghost use Rattle.fbsim_command.specs.Joining.{line_count, text_of};
 ghost use Rattle.fbsim_command.specs.Reading.{AreRead, AreTextsRead, IsDeclarationRead, IsDeclarationUnread, IsTypeUnread, IsUnread, LacksText, MayRead, asked};
 ghost use Rattle.fbsim_command.specs.Texts.{contents_of, given_of, lines_of, may_lines_of, texts_of};
 ghost use Rattle.fbsim_command.specs.declared.texts.Part.TheVariants.{BlockTypes, Declaration};
 
-use crate::Task;
 use crate::join::{line_counts, text_of};
 use crate::sources::{Source, SourceFault};
+use crate::{Action, Task};
 use fb_sim::Inputs;
 use std::alloc::{AllocError, Global};
 
@@ -80,6 +80,19 @@ pub fn lines_in(declared: &Option<Texts>) -> &[usize]
     match declared {
         Some(texts) => texts.lines.as_slice(),
         None => &[],
+    }
+}
+
+/// The call that checks a declaration with its deployment. Its files are those that other calls are about.
+pub fn files_of<'a>(declaration: &'a str, deployment: Option<&'a str>, why: bool) -> Task<'a>
+    ensures { result ≡ record { action = Action.Check false; declaration = declaration.entry; deploy = deployment.entry; stimuli = None; why = why } }
+{
+    Task {
+        action: Action::Check { lint: false },
+        declaration,
+        deploy: deployment,
+        stimuli: None,
+        why,
     }
 }
 

@@ -3,8 +3,9 @@
 ghost use Rattle.std.specs.Prelude.{◌≡◌, map, option_map, string_bytes};
 ghost use Rattle.fbsim_command.specs.LineNotes.{NotesLine};
 ghost use Rattle.fbsim_command.specs.Notes.{Notes};
-ghost use Rattle.fbsim_command.specs.Showing.{Dumps, DumpsAs, IsTraceFileNote, NotesAs, Shows, cut_of, files_of};
+ghost use Rattle.fbsim_command.specs.Showing.{Dumps, DumpsAs, IsTraceFileNote, NotesAs, Shows, cut_of, may_be_cut};
 
+use crate::Wave;
 use crate::failure::Failure;
 use crate::line_notes::{note_of_trace_line, note_of_wave};
 use crate::notes::{note_of_file, note_of_name};
@@ -12,36 +13,18 @@ use crate::own_lines::end_with;
 use crate::sources::{Source, SourceFault, Streams};
 use crate::state_dump::dump_states;
 use crate::statuses::Done;
-use crate::texts::read_files;
-use crate::{Action, Task, Wave};
+use crate::texts::{files_of, read_files};
 use fb_inspect::Terms;
 use fb_sim::{Inputs, discard, open};
 use fb_wave::{CurrentLine, Cut, write_wave_with};
 use std::alloc::Global;
 use std::io::{BufRead, Write};
 
-/// The call that checks what a trace is of.
-fn files_of<'a>(wave: &Wave<'a>) -> Task<'a>
-    ensures { result ≡ files_of wave.now }
+/// Whether traces may be cut off.
+pub(crate) fn cut_of(is_cut: bool) -> Cut
+    ensures { result ≡ may_be_cut is_cut }
 {
-    Task {
-        action: Action::Check { lint: false },
-        declaration: wave.declaration,
-        deploy: wave.deploy,
-        stimuli: None,
-        why: wave.why,
-    }
-}
-
-/// Whether the trace may be cut off.
-fn cut_of(wave: &Wave<'_>) -> Cut
-    ensures { result ≡ cut_of wave.now }
-{
-    if wave.is_cut {
-        Cut::Allowed
-    } else {
-        Cut::Refused
-    }
+    if is_cut { Cut::Allowed } else { Cut::Refused }
 }
 
 /// Reads a trace of what is declared, and writes its waveforms. It says how that ends, and what is reported of the line
@@ -61,7 +44,14 @@ fn dump_ports<R: BufRead, W: Write>(
         Err(error) => return (Err(Failure::from(error)), None),
     };
     let mut current = CurrentLine::new(alloc);
-    let written = write_wave_with(alloc, &system, cut_of(wave), &mut current, trace, out);
+    let written = write_wave_with(
+        alloc,
+        &system,
+        cut_of(wave.is_cut),
+        &mut current,
+        trace,
+        out,
+    );
     let note = note_of_trace_line(alloc, wave.why, &system, &written, &current);
     // Dropped by one call: the end of its scope would prove the drop part by part.
     discard(system);
@@ -84,7 +74,7 @@ fn dump<R: BufRead, W: Write>(
 {
     if wave.has_states {
         let terms = Terms {
-            cut: cut_of(wave),
+            cut: cut_of(wave.is_cut),
             steps: wave.steps,
         };
         return dump_states(alloc, wave.why, terms, inputs, trace, out);
@@ -113,7 +103,7 @@ pub fn show<S: Source + Streams, W: Write>(
 ) -> (Result<Done, Failure>, Option<String>)
     ensures { Shows S.gives S.opens source.old source.new (map (λ t. t.now) types.now) wave.now (W.contents out.old) (W.contents out.new) result.0 (option_map string_bytes result.1) }
 {
-    let task = files_of(wave);
+    let task = files_of(wave.declaration, wave.deploy, wave.why);
     let texts = match read_files(alloc, types, &task, source) {
         Ok(texts) => texts,
         Err(unread) => {

@@ -1,5 +1,5 @@
 use Rattle.std.proofs.Common.{refl}
-use Rattle.fbsim_command.proofs.draw.files_of.Goals as goal
+use Rattle.fbsim_command.proofs.texts.files_of.Goals as goal
 
 pub returns : goal.returns
 returns c = refl
