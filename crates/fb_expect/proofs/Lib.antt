@@ -22,3 +22,4 @@ pub mod Gathering
 pub mod Parted
 mod Locating
 mod Numbering
+mod Shapes
