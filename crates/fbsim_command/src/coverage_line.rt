@@ -65,16 +65,14 @@ pub(crate) fn coverage_of<'a>(
     ensures rows { IfOk result (λ o. IfSome o (IsCall (rows_of (found_of found.now)))) }
     ensures none { IfOk result (λ o. IfNone o ((x : Coverage) → AsksCoverage (rows_of (found_of found.now)) x → ⊥)) }
 {
-    let Some(declaration) = found.get_str("DECL") else {
+    let (Some(declaration), Some(names), Some(steps)) = (
+        found.get_str("DECL"),
+        found.get_strs("TRACE"),
+        number(found, "steps"),
+    ) else {
         return Ok(None);
     };
     let deploy = found.get_str("deploy");
-    let Some(names) = found.get_strs("TRACE") else {
-        return Ok(None);
-    };
-    let Some(steps) = number(found, "steps") else {
-        return Ok(None);
-    };
     let traces = Vec::from_slice(alloc, names)?;
     let types = texts_of(alloc, found, "types")?;
     let coverage = Coverage {

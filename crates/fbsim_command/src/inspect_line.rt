@@ -73,16 +73,14 @@ pub(crate) fn inspect_of<'a>(
     ensures rows { IfOk result (λ o. IfSome o (IsCall (rows_of (found_of found.now)))) }
     ensures none { IfOk result (λ o. IfNone o ((x : Inspect) → AsksInspect (rows_of (found_of found.now)) x → ⊥)) }
 {
-    let Some(declaration) = found.get_str("DECL") else {
+    let (Some(declaration), Some(trace), Some(steps)) = (
+        found.get_str("DECL"),
+        found.get_str("TRACE"),
+        number(found, "steps"),
+    ) else {
         return Ok(None);
     };
     let deploy = found.get_str("deploy");
-    let Some(trace) = found.get_str("TRACE") else {
-        return Ok(None);
-    };
-    let Some(steps) = number(found, "steps") else {
-        return Ok(None);
-    };
     let only = texts_of(alloc, found, "only")?;
     let types = texts_of(alloc, found, "types")?;
     let inspect = Inspect {

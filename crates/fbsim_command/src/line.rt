@@ -452,16 +452,14 @@ fn wave_of<'a>(alloc: Global, found: &ArgMatches<'a>) -> Result<Option<Call<'a>>
     ensures rows { IfOk result (λ o. IfSome o (IsCall (rows_of (found_of found.now)))) }
     ensures none { IfOk result (λ o. IfNone o ((w : Wave) → AsksWave (rows_of (found_of found.now)) w → ⊥)) }
 {
-    let Some(declaration) = found.get_str("DECL") else {
+    let (Some(declaration), Some(trace), Some(steps)) = (
+        found.get_str("DECL"),
+        found.get_str("TRACE"),
+        number(found, "steps"),
+    ) else {
         return Ok(None);
     };
     let deploy = found.get_str("deploy");
-    let Some(trace) = found.get_str("TRACE") else {
-        return Ok(None);
-    };
-    let Some(steps) = number(found, "steps") else {
-        return Ok(None);
-    };
     let types = texts_of(alloc, found, "types")?;
     let wave = Wave {
         declaration,
