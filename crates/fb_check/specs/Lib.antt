@@ -1,3 +1,5 @@
+pub mod networks
+pub mod types
 pub mod Refusals
 pub mod Faults
 pub mod Verdicts

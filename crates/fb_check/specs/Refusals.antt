@@ -6,14 +6,14 @@ use Rattle.fb_types.specs.declared.library.Library.{Library}
 use Rattle.fb_types.specs.declared.deploy.Plan.{Plan}
 use Rattle.fb_types.specs.declared.deploy.Stimulus.{Stimulus}
 use Rattle.fb_check_names.specs.TwiceLists.{twice_all}
-use Rattle.fb_check_types.specs.MisfitLists.{misfits_all}
-use Rattle.fb_check_types.specs.Unknowns.{unknown_all}
-use Rattle.fb_check_networks.specs.Heights.{IsTooHighAt}
-use Rattle.fb_check_networks.specs.Links.{unlinked_all}
-use Rattle.fb_check_networks.specs.Misjoins.{misjoins_all}
-use Rattle.fb_check_networks.specs.Sources.{joined_all}
-use Rattle.fb_check_networks.specs.Unmapped.{unmapped_all}
-use Rattle.fb_check_networks.specs.Unserved.{unserved_all}
+use Rattle.fb_check.specs.types.MisfitLists.{misfits_all}
+use Rattle.fb_check.specs.types.Unknowns.{unknown_all}
+use Rattle.fb_check.specs.networks.Heights.{IsTooHighAt}
+use Rattle.fb_check.specs.networks.Links.{unlinked_all}
+use Rattle.fb_check.specs.networks.Misjoins.{misjoins_all}
+use Rattle.fb_check.specs.networks.Sources.{joined_all}
+use Rattle.fb_check.specs.networks.Unmapped.{unmapped_all}
+use Rattle.fb_check.specs.networks.Unserved.{unserved_all}
 use Rattle.fb_check.specs.Faults as fault
 use Rattle.fb_check.specs.Stimuli.{AreAllBad, IsBadAt, IsOver}
 use Rattle.fb_check.specs.declared.case.Case.{Case}

@@ -21,8 +21,10 @@ pub mod judgement;
 pub mod location;
 mod mapping_checks;
 mod network_checks;
+pub mod networks;
 pub mod refusal;
 mod stimuli;
+pub mod types;
 
 pub use acceptance::accept;
 pub use case::{Case, Judged};

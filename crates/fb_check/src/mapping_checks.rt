@@ -1,16 +1,16 @@
 //! The checks of how instances and connections are mapped, from E26 to E28.
 
 ghost use Rattle.std.specs.Prelude.{◌≡◌, IfOk, IfErr};
-ghost use Rattle.fb_check_networks.specs.Mapping.{IsMapping};
+ghost use Rattle.fb_check.specs.networks.Mapping.{IsMapping};
 ghost use Rattle.fb_check_names.specs.Numbers.{IsResolved};
 ghost use Rattle.fb_system.specs.Linking.{holders_of};
 ghost use Rattle.fb_check.specs.Refusals.{IsStop, inputs_in};
 ghost use Rattle.fb_check.specs.Verdicts.{HasPassed};
 
 use crate::case::Case;
+use crate::networks::{Mapping, holders_of, mapping_of, unlinked_locations, unserved_locations};
 use crate::refusal::{Refusal, Stop, passed};
 use fb_check_names::Resolved;
-use fb_check_networks::{Mapping, holders_of, mapping_of, unlinked_locations, unserved_locations};
 use fb_types::Items;
 use std::alloc::Global;
 

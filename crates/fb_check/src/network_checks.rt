@@ -7,10 +7,10 @@ ghost use Rattle.fb_check.specs.Refusals.{IsStop, inputs_in};
 ghost use Rattle.fb_check.specs.Verdicts.{HasPassed};
 
 use crate::case::Case;
+use crate::networks::{joined_locations, misjoin_locations, too_high_location};
 use crate::refusal::{Refusal, Stop, passed};
+use crate::types::misfit_locations;
 use fb_check_names::{Catalog, Resolved};
-use fb_check_networks::{joined_locations, misjoin_locations, too_high_location};
-use fb_check_types::misfit_locations;
 use std::alloc::Global;
 
 /// E22: expressions, statements and values of the right kind.

@@ -23,7 +23,7 @@ use Rattle.fb_types.specs.declared.library.Variable.{Variable}
 use Rattle.fb_check_names.specs.PortKinds.{names_of_kind}
 use Rattle.fb_check_names.specs.declared.ports.PortKind.{PortKind}
 use Rattle.fb_check_names.specs.declared.ports.PortKind.TheVariants as kind
-use Rattle.fb_check_types.specs.Checks.{guard_mentions}
+use Rattle.fb_check.specs.types.Checks.{guard_mentions}
 use Rattle.fb_check_names.specs.Sites.{network_at}
 use Rattle.fb_check_names.specs.declared.location.Site.{Site}
 use Rattle.fb_check_names.specs.declared.location.Site.TheVariants.{Application, Inside}

@@ -12,8 +12,8 @@ use Rattle.fb_types.specs.declared.library.State.{State}
 use Rattle.fb_types.specs.declared.library.Transition.{Transition}
 use Rattle.fb_types.specs.declared.library.Variable.{Variable}
 use Rattle.fb_check_names.specs.declared.ports.PortKind.{PortKind}
-use Rattle.fb_check_types.specs.Checks.{guard_mentions}
-use Rattle.fb_check_types.specs.Statements.{Standing, each_in_body}
+use Rattle.fb_check.specs.types.Checks.{guard_mentions}
+use Rattle.fb_check.specs.types.Statements.{Standing, each_in_body}
 use Rattle.fb_lint.specs.Charts.{runs}
 use Rattle.fb_lint.specs.Findings.{when, each_from}
 use Rattle.fb_lint.specs.declared.algorithms.Chart as code

@@ -2,7 +2,7 @@
 
 ghost use Rattle.std.specs.Prelude.{◌≡◌, ◌++◌, OnOk};
 ghost use Rattle.std.specs.List.{list_any};
-ghost use Rattle.fb_check_types.specs.Mentions.{meant_all};
+ghost use Rattle.fb_check.specs.types.Mentions.{meant_all};
 ghost use Rattle.fb_lint.specs.Reads as spec;
 ghost use Rattle.fb_lint.specs.Reads.{chart_of};
 
@@ -10,7 +10,7 @@ use crate::charts::runs;
 use crate::findings::push_if;
 use crate::reads::{is_mentioned, is_unsampled};
 use crate::warning::Warning;
-use fb_check_types::mentions::{Mention, push_body};
+use fb_check::types::mentions::{Mention, push_body};
 use fb_types::{Algorithm, EventPort, Name, State, Transition, Variable};
 use std::alloc::{AllocError, Global};
 

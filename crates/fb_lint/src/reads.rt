@@ -3,14 +3,14 @@
 ghost use Rattle.std.specs.Prelude.{◌≡◌, ◌++◌, IfOk, OnOk};
 ghost use Rattle.std.specs.List.{list_any};
 ghost use Rattle.fb_types.specs.Blocks.{goes_with};
-ghost use Rattle.fb_check_types.specs.Checks.{guard_mentions};
-ghost use Rattle.fb_check_types.specs.Mentions.{meant, meant_all};
+ghost use Rattle.fb_check.specs.types.Checks.{guard_mentions};
+ghost use Rattle.fb_check.specs.types.Mentions.{meant, meant_all};
 ghost use Rattle.fb_lint.specs.Reads as spec;
 
 use crate::findings::push_if;
 use crate::names::is_among;
 use crate::warning::Warning;
-use fb_check_types::mentions::{Mention, push_expression};
+use fb_check::types::mentions::{Mention, push_expression};
 use fb_types::{EventPort, Name, Transition, Variable};
 use std::alloc::{AllocError, Global};
 

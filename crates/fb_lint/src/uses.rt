@@ -4,9 +4,9 @@
 ghost use Rattle.std.specs.Prelude.{◌≡◌, ◌++◌, IfOk, OnOk, flat_map};
 ghost use Rattle.std.specs.List.{list_any};
 ghost use Rattle.fb_types.specs.Blocks.{among};
-ghost use Rattle.fb_check_types.specs.Checks.{guard_mentions};
-ghost use Rattle.fb_check_types.specs.Mentions.{meant_all};
-ghost use Rattle.fb_check_types.specs.Statements.{all_standing, standing_of};
+ghost use Rattle.fb_check.specs.types.Checks.{guard_mentions};
+ghost use Rattle.fb_check.specs.types.Mentions.{meant_all};
+ghost use Rattle.fb_check.specs.types.Statements.{all_standing, standing_of};
 ghost use Rattle.fb_lint.specs.Reads as spec;
 ghost use Rattle.fb_lint.specs.Findings.{names_are};
 
@@ -14,9 +14,9 @@ use crate::findings::push_if;
 use crate::names::is_listed;
 use crate::reads::{is_mentioned, push_guard};
 use crate::warning::Warning;
+use fb_check::types::mentions::{Mention, push_body};
+use fb_check::types::{Standing, all_statements};
 use fb_check_names::PortKind;
-use fb_check_types::mentions::{Mention, push_body};
-use fb_check_types::{Standing, all_statements};
 use fb_types::{Algorithm, EventPort, Name, Stmt, Transition, Variable};
 use std::alloc::{AllocError, Global};
 

@@ -21,20 +21,20 @@ use Rattle.fb_check_names.specs.declared.location.Misjoin.{Misjoin}
 use Rattle.fb_check_names.specs.declared.location.UnknownName.{UnknownName}
 use Rattle.fb_check_names.specs.declared.location.Unlinked.{Unlinked}
 use Rattle.fb_check_names.specs.declared.location.Unmapped.{Unmapped}
-use Rattle.fb_check_types.specs.Unknowns.{unknown_all}
-use Rattle.fb_check_types.proofs.Witnesses.{each_unknown, none_unknown}
-use Rattle.fb_check_types.specs.MisfitLists.{misfits_all}
-use Rattle.fb_check_types.proofs.KindWitnesses.{each_misfit, none_misfit}
-use Rattle.fb_check_networks.specs.Links.{unlinked_all}
-use Rattle.fb_check_networks.specs.Misjoins.{misjoins_all}
-use Rattle.fb_check_networks.specs.Sources.{joined_all}
-use Rattle.fb_check_networks.specs.Unmapped.{unmapped_all}
-use Rattle.fb_check_networks.specs.Unserved.{unserved_all}
-use Rattle.fb_check_networks.proofs.Joined.{each_misjoin, none_misjoin}
-use Rattle.fb_check_networks.proofs.Mapped.{each_unmapped, none_unmapped}
-use Rattle.fb_check_networks.proofs.Targets.{each_joined, none_joined}
-use Rattle.fb_check_networks.proofs.Unlinked.{each_unlinked, none_unlinked}
-use Rattle.fb_check_networks.proofs.Unserved.{each_unserved, none_unserved}
+use Rattle.fb_check.specs.types.Unknowns.{unknown_all}
+use Rattle.fb_check.proofs.types.Witnesses.{each_unknown, none_unknown}
+use Rattle.fb_check.specs.types.MisfitLists.{misfits_all}
+use Rattle.fb_check.proofs.types.KindWitnesses.{each_misfit, none_misfit}
+use Rattle.fb_check.specs.networks.Links.{unlinked_all}
+use Rattle.fb_check.specs.networks.Misjoins.{misjoins_all}
+use Rattle.fb_check.specs.networks.Sources.{joined_all}
+use Rattle.fb_check.specs.networks.Unmapped.{unmapped_all}
+use Rattle.fb_check.specs.networks.Unserved.{unserved_all}
+use Rattle.fb_check.proofs.networks.Joined.{each_misjoin, none_misjoin}
+use Rattle.fb_check.proofs.networks.Mapped.{each_unmapped, none_unmapped}
+use Rattle.fb_check.proofs.networks.Targets.{each_joined, none_joined}
+use Rattle.fb_check.proofs.networks.Unlinked.{each_unlinked, none_unlinked}
+use Rattle.fb_check.proofs.networks.Unserved.{each_unserved, none_unserved}
 use Rattle.fb_check.specs.Faults.{number_of}
 use Rattle.fb_check.specs.Refusals.{IsRefusal, fault_of}
 use Rattle.fb_check.specs.declared.location.StimulusLocation.{StimulusLocation}

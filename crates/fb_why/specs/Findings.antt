@@ -14,7 +14,7 @@ use Rattle.fb_types.specs.declared.library.Library.{Library}
 use Rattle.fb_check.specs.Faults.{number_of as check_number}
 use Rattle.fb_why.specs.Causes.{IsCause, is_of_stimuli}
 use Rattle.fb_read.specs.Errors.{number_of}
-use Rattle.fb_check_types.specs.Unknown.{IsUnknownAt}
+use Rattle.fb_check.specs.types.Unknown.{IsUnknownAt}
 use Rattle.fb_why.specs.declared.cause.Cause.TheVariants as cause
 use Rattle.fb_why.specs.declared.cause.Cause.{Cause}
 use Rattle.fb_check.specs.declared.fault.Fault.TheVariants as check
@@ -22,12 +22,12 @@ use Rattle.fb_check.specs.declared.fault.Fault.{Fault}
 use Rattle.fb_why.specs.declared.spot.Spot.TheVariants as spot
 use Rattle.fb_why.specs.declared.place.PlacedFinding.{PlacedFinding}
 use Rattle.fb_why.specs.declared.spot.Spot.{Spot}
-use Rattle.fb_check_networks.specs.Heights.{IsTooHighAt}
-use Rattle.fb_check_networks.specs.Sources.{IsJoinedAt}
+use Rattle.fb_check.specs.networks.Heights.{IsTooHighAt}
+use Rattle.fb_check.specs.networks.Sources.{IsJoinedAt}
 use Rattle.fb_check_names.specs.Twice.{IsTwiceAt}
-use Rattle.fb_check_networks.specs.Links.{IsUnlinkedAt}
-use Rattle.fb_check_networks.specs.Unmapped.{IsUnmappedAt}
-use Rattle.fb_check_networks.specs.Unserved.{IsUnservedAt}
+use Rattle.fb_check.specs.networks.Links.{IsUnlinkedAt}
+use Rattle.fb_check.specs.networks.Unmapped.{IsUnmappedAt}
+use Rattle.fb_check.specs.networks.Unserved.{IsUnservedAt}
 use Rattle.fb_inputs.specs.Faults as rows
 use Rattle.fb_inputs.specs.Faults.{AreTaken}
 use Rattle.fb_inputs.specs.Places.{number_at}
@@ -39,8 +39,8 @@ use Rattle.fb_why.specs.Faults.{FindsFault}
 use Rattle.fb_read_positions.specs.declared.text_locations.TextLocation.{TextLocation}
 use Rattle.fb_inputs.specs.declared.deploy_location.DeployLocation.{DeployLocation}
 use Rattle.fb_inputs.specs.declared.location.StimuliLocation.{StimuliLocation}
-use Rattle.fb_check_types.specs.Misfits.{IsMisfitAt}
-use Rattle.fb_check_networks.specs.Misjoins.{IsMisjoinedAt}
+use Rattle.fb_check.specs.types.Misfits.{IsMisfitAt}
+use Rattle.fb_check.specs.networks.Misjoins.{IsMisjoinedAt}
 
 -- ---- What is found
 

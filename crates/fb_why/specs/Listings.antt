@@ -5,9 +5,9 @@ use Rattle.fb_read.specs.Whole.{IsLibraryText}
 use Rattle.fb_types.specs.declared.deploy.Plan.{Plan}
 use Rattle.fb_types.specs.declared.deploy.Stimulus.{Stimulus}
 use Rattle.fb_types.specs.declared.library.Library.{Library}
-use Rattle.fb_check_networks.specs.Misjoins.{misjoins_all}
-use Rattle.fb_check_types.specs.MisfitLists.{misfits_all}
-use Rattle.fb_check_types.specs.Unknowns.{unknown_all}
+use Rattle.fb_check.specs.networks.Misjoins.{misjoins_all}
+use Rattle.fb_check.specs.types.MisfitLists.{misfits_all}
+use Rattle.fb_check.specs.types.Unknowns.{unknown_all}
 use Rattle.fb_types.specs.Accepted.{IsLeastFault}
 use Rattle.fb_check.specs.Stimuli.{AreAllBad}
 use Rattle.fb_check.specs.declared.location.StimulusLocation.{StimulusLocation}
@@ -17,10 +17,10 @@ use Rattle.fb_check.specs.Faults.{number_of}
 use Rattle.fb_why.specs.Causes.{IsCause}
 use Rattle.fb_why.specs.Findings.{AppliesAt, AppliesNowhere, AreFed, Finds, FindsOf, IsPlan, IsSilent, IsSilentOf, IsUnread}
 use Rattle.fb_check_names.specs.TwiceLists.{twice_all}
-use Rattle.fb_check_networks.specs.Sources.{joined_all}
-use Rattle.fb_check_networks.specs.Links.{unlinked_all}
-use Rattle.fb_check_networks.specs.Unmapped.{unmapped_all}
-use Rattle.fb_check_networks.specs.Unserved.{unserved_all}
+use Rattle.fb_check.specs.networks.Sources.{joined_all}
+use Rattle.fb_check.specs.networks.Links.{unlinked_all}
+use Rattle.fb_check.specs.networks.Unmapped.{unmapped_all}
+use Rattle.fb_check.specs.networks.Unserved.{unserved_all}
 use Rattle.fb_why.specs.declared.cause.Cause.{Cause}
 use Rattle.fb_why.specs.declared.cause.Cause.TheVariants as cause
 use Rattle.fb_check.specs.declared.fault.Fault.{Fault}

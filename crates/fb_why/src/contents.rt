@@ -1,8 +1,8 @@
 //! What an algorithm or a guard consists of, and the names of a list, for the words of findings.
 
+use fb_check::types::mentions::{Mention, push_body, push_expression};
+use fb_check::types::{Standing, all_statements};
 use fb_check_names::Named;
-use fb_check_types::mentions::{Mention, push_body, push_expression};
-use fb_check_types::{Standing, all_statements};
 use fb_read_positions::Text;
 use fb_types::{Body, Expr, Stmt};
 use std::alloc::{AllocError, Global};

@@ -1,8 +1,8 @@
 //! The text for a stimulus that does not fit (E29).
 
 use crate::kind_messages::ports_of_instance;
+use fb_check::types::variable_type;
 use fb_check::{StimulusFault, StimulusLocation};
-use fb_check_types::variable_type;
 use fb_read_positions::{BlockTypes, Text};
 use fb_types::{Connection, Instance, Name, Setting, Stimulus, Ty, instance_named};
 

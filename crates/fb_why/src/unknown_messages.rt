@@ -1,8 +1,8 @@
 //! The text for an unknown name (E21), after the words for its position: what was expected there.
 
 use crate::contents::{Contents, Source, SourceText};
+use fb_check::types::mentions::Mention;
 use fb_check_names::{PortKind, Side, UnknownName};
-use fb_check_types::mentions::Mention;
 use fb_read_positions::headings::basic_at;
 use fb_read_positions::{
     BasicPart, BlockTypes, ConnectionPart, NetworkPart, PortPart, Position, Text, TransitionPart,

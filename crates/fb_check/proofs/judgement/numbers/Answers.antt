@@ -1,10 +1,10 @@
 use Rattle.std.proofs.Common.{◌≡◌, List, ◌++◌, sym, ◌∙◌, ap, vec_len}
 use Rattle.fb_check_names.specs.declared.location.UnknownName.{UnknownName}
 use Rattle.fb_check_names.proofs.Listing.{some_says}
-use Rattle.fb_check_types.specs.Unknown.{IsUnknownAt}
-use Rattle.fb_check_types.specs.Unknowns.{unknown_all}
-use Rattle.fb_check_types.proofs.Applying.{unknown_applies}
-use Rattle.fb_check_types.proofs.Witnesses.{each_unknown}
+use Rattle.fb_check.specs.types.Unknown.{IsUnknownAt}
+use Rattle.fb_check.specs.types.Unknowns.{unknown_all}
+use Rattle.fb_check.proofs.types.Applying.{unknown_applies}
+use Rattle.fb_check.proofs.types.Witnesses.{each_unknown}
 use Rattle.fb_check.specs.Refusals.{inputs_in}
 use Rattle.fb_check.specs.declared.refusal.Refusal.TheVariants.{NameUnknown}
 use Rattle.fb_check.proofs.Verdict.{first, least_21, made_so, no_location, passes_20, some_location, stopped_so}

@@ -1,7 +1,7 @@
 use Rattle.std.proofs.Common.{arith, vec_len}
 use Rattle.fb_check_names.proofs.Listing.{some_says}
-use Rattle.fb_check_networks.specs.Unserved.{IsUnservedAt}
-use Rattle.fb_check_networks.proofs.Unserved.{unserved_applies}
+use Rattle.fb_check.specs.networks.Unserved.{IsUnservedAt}
+use Rattle.fb_check.proofs.networks.Unserved.{unserved_applies}
 use Rattle.fb_check.specs.Refusals.{inputs_in}
 use Rattle.fb_check.specs.declared.refusal.Refusal.TheVariants.{NoEvent}
 use Rattle.fb_check.proofs.Verdict.{least_28, made_so, no_location, once, passes_28, some_location, stopped_so}

@@ -1,7 +1,7 @@
 use Rattle.std.proofs.Common.{vec_len}
 use Rattle.fb_check_names.proofs.Listing.{some_says}
-use Rattle.fb_check_networks.specs.Links.{IsUnlinkedAt}
-use Rattle.fb_check_networks.proofs.Unlinked.{unlinked_applies}
+use Rattle.fb_check.specs.networks.Links.{IsUnlinkedAt}
+use Rattle.fb_check.proofs.networks.Unlinked.{unlinked_applies}
 use Rattle.fb_check.specs.Refusals.{inputs_in}
 use Rattle.fb_check.specs.declared.refusal.Refusal.TheVariants.{NoLink}
 use Rattle.fb_check.proofs.Verdict.{least_27, made_so, no_location, passes_27, some_location, stopped_so}

@@ -1,8 +1,8 @@
 use Rattle.std.proofs.Common.{◌≡◌, List, ◌++◌, sym, ◌∙◌, ap, arith, vec_len}
 use Rattle.fb_check_names.specs.declared.location.Unmapped.{Unmapped}
 use Rattle.fb_check_names.proofs.Listing.{some_says}
-use Rattle.fb_check_networks.specs.Unmapped.{IsUnmappedAt, unmapped_all}
-use Rattle.fb_check_networks.proofs.Mapped.{each_unmapped, none_unmapped, unmapped_applies}
+use Rattle.fb_check.specs.networks.Unmapped.{IsUnmappedAt, unmapped_all}
+use Rattle.fb_check.proofs.networks.Mapped.{each_unmapped, none_unmapped, unmapped_applies}
 use Rattle.fb_check.specs.Refusals.{inputs_in}
 use Rattle.fb_check.specs.declared.refusal.Refusal.TheVariants.{NotMapped}
 use Rattle.fb_check.proofs.Verdict.{least_26, made_so, no_location, once, passes_26, some_location, stopped_so}

@@ -1,7 +1,7 @@
 use Rattle.std.proofs.lemmas.Option.{MatchOption-at_some, MatchOption-at_none}
 use Rattle.fb_types.specs.Joined.{TooHigh}
-use Rattle.fb_check_networks.specs.Heights.{IsTooHighAt}
-use Rattle.fb_check_networks.proofs.Circles.{height_applies}
+use Rattle.fb_check.specs.networks.Heights.{IsTooHighAt}
+use Rattle.fb_check.proofs.networks.Circles.{height_applies}
 use Rattle.fb_check.proofs.Verdict.{passes_25, least_25}
 use Rattle.fb_check.proofs.network_checks.judge_heights.Goals as goal
 

@@ -1,7 +1,7 @@
 use Rattle.std.proofs.Common.{vec_len}
 use Rattle.fb_check_names.proofs.Listing.{some_says}
-use Rattle.fb_check_types.specs.Misfits.{IsMisfitAt}
-use Rattle.fb_check_types.proofs.KindsApplying.{misfit_applies}
+use Rattle.fb_check.specs.types.Misfits.{IsMisfitAt}
+use Rattle.fb_check.proofs.types.KindsApplying.{misfit_applies}
 use Rattle.fb_check.specs.Refusals.{inputs_in}
 use Rattle.fb_check.specs.declared.refusal.Refusal.TheVariants.{KindWrong}
 use Rattle.fb_check.proofs.Verdict.{least_22, made_so, no_location, passes_22, some_location, stopped_so}

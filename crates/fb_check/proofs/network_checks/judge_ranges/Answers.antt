@@ -1,7 +1,7 @@
 use Rattle.std.proofs.Common.{arith, vec_len}
 use Rattle.fb_check_names.proofs.Listing.{some_says}
-use Rattle.fb_check_networks.specs.Misjoins.{IsMisjoinedAt}
-use Rattle.fb_check_networks.proofs.Joined.{misjoin_applies}
+use Rattle.fb_check.specs.networks.Misjoins.{IsMisjoinedAt}
+use Rattle.fb_check.proofs.networks.Joined.{misjoin_applies}
 use Rattle.fb_check.specs.Refusals.{inputs_in}
 use Rattle.fb_check.specs.declared.refusal.Refusal.TheVariants.{OutOfRange}
 use Rattle.fb_check.proofs.Verdict.{least_23, made_so, no_location, once, passes_23, some_location, stopped_so}

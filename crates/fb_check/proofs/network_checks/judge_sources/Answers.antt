@@ -1,7 +1,7 @@
 use Rattle.std.proofs.Common.{vec_len}
 use Rattle.fb_check_names.proofs.Listing.{some_says}
-use Rattle.fb_check_networks.specs.Sources.{IsJoinedAt}
-use Rattle.fb_check_networks.proofs.Targets.{joined_applies}
+use Rattle.fb_check.specs.networks.Sources.{IsJoinedAt}
+use Rattle.fb_check.proofs.networks.Targets.{joined_applies}
 use Rattle.fb_check.specs.Refusals.{inputs_in}
 use Rattle.fb_check.specs.declared.refusal.Refusal.TheVariants.{TwoSources}
 use Rattle.fb_check.proofs.Verdict.{least_24, made_so, no_location, passes_24, some_location, stopped_so}

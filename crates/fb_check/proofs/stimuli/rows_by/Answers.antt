@@ -2,7 +2,7 @@ use Rattle.std.proofs.Common.{List, sym, subst, arith}
 use Rattle.std.specs.Prelude.{All}
 use Rattle.std.proofs.lemmas.List.Elements.{All-nil}
 use Rattle.fb_check.specs.declared.location.StimulusLocation.{StimulusLocation}
-use Rattle.fb_check_networks.proofs.Looking.{at_element}
+use Rattle.fb_check.proofs.networks.Looking.{at_element}
 use Rattle.fb_check.specs.Stimuli.{IsBadAt}
 use Rattle.fb_check.proofs.Good.{Known, none_bad}
 use Rattle.fb_check.proofs.Refused.{refused_none, refused_all}

@@ -3,7 +3,7 @@ use Rattle.std.specs.Prelude.{slice_get}
 use Rattle.fb_types.specs.declared.deploy.Setting.{Setting}
 use Rattle.fb_check_names.specs.Numbers.{each_or_none}
 use Rattle.fb_check_names.proofs.Each.{each_more, each_all}
-use Rattle.fb_check_networks.proofs.Looking.{at_element}
+use Rattle.fb_check.proofs.networks.Looking.{at_element}
 use Rattle.fb_check.specs.Directory.{slot_of}
 use Rattle.fb_check.proofs.stimuli.slots_of.Goals as goal
 

@@ -1,6 +1,6 @@
 use Rattle.std.proofs.Common.{◌≡◌, ◌++◌, ◌∙◌, ap}
 use Rattle.fb_check_names.specs.declared.ports.PortKind.TheVariants as kind
-use Rattle.fb_check_types.specs.Mentions.{meant_all}
+use Rattle.fb_check.specs.types.Mentions.{meant_all}
 use Rattle.fb_lint.specs.Charts.{silent_outputs}
 use Rattle.fb_lint.specs.Findings.{names_are}
 use Rattle.fb_lint.specs.Reads.{assigned, mentions_of, unassigned_events, unmentioned_variables}

@@ -1,6 +1,6 @@
 use Rattle.std.proofs.Common.{sym, ◌∙◌, ap}
-use Rattle.fb_check_types.specs.Mentions.{meant}
-use Rattle.fb_check_types.specs.declared.mentions.Mention.{Mention}
+use Rattle.fb_check.specs.types.Mentions.{meant}
+use Rattle.fb_check.specs.declared.types.mentions.Mention.{Mention}
 use Rattle.fb_lint.specs.Reads as spec
 use Rattle.fb_lint.proofs.reads.is_variable.Goals as goal
 

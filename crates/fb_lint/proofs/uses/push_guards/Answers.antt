@@ -1,9 +1,9 @@
 use Rattle.std.proofs.Common.{List, refl}
 use Rattle.std.specs.Prelude.{flat_map}
 use Rattle.fb_types.specs.declared.library.Transition.{Transition}
-use Rattle.fb_check_types.specs.Checks.{guard_mentions}
-use Rattle.fb_check_types.specs.Mentions.{meant_all}
-use Rattle.fb_check_types.proofs.Added.{list_added, one_added}
+use Rattle.fb_check.specs.types.Checks.{guard_mentions}
+use Rattle.fb_check.specs.types.Mentions.{meant_all}
+use Rattle.fb_check.proofs.types.Added.{list_added, one_added}
 use Rattle.fb_lint.proofs.uses.push_guards.Goals as goal
 
 pub loop-transition-preserved : goal.loop-transition-preserved

@@ -1,7 +1,7 @@
 use Rattle.std.proofs.Common.{◌≡◌, ◌++◌, drop}
 use Rattle.std.specs.Prelude.{flat_map}
-use Rattle.fb_check_types.specs.Checks.{guard_mentions}
-use Rattle.fb_check_types.specs.Mentions.{meant_all}
+use Rattle.fb_check.specs.types.Checks.{guard_mentions}
+use Rattle.fb_check.specs.types.Mentions.{meant_all}
 use Rattle.fb_lint.proofs.uses.push_guards.Given as goal
 
 -- with what the rest adds, all is there

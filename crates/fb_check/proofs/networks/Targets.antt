@@ -1,0 +1,68 @@
+-- E24: ports to which two data connections lead.
+use Rattle.std.proofs.Common.{◌≡◌, ℕ, List, [], ◌∷◌, map, Ordering, refl, sym, ◌∙◌, ap, subst}
+use Rattle.std.specs.Prelude.{All}
+use Rattle.std.specs.Ordering.{is_eq, ordering_then}
+use Rattle.std.specs.declared.cmp.Ordering.TheVariants as order
+use Rattle.std.proofs.lemmas.List.Elements.{All-map, All-weaker}
+use Rattle.fb_types.specs.Names.{Port, same_port}
+use Rattle.fb_types.specs.Flat.{pairs_in}
+use Rattle.fb_types.specs.Joined.{TwoSources}
+use Rattle.fb_types.specs.Repeated.{Twice, OwnedNetwork}
+use Rattle.fb_types.specs.declared.library.Connection.{Connection}
+use Rattle.fb_types.specs.declared.library.Library.{Library}
+use Rattle.fb_check_names.specs.Ends.{End, end_port}
+use Rattle.fb_check_names.proofs.Seen.{IsExact, pair_cmp-exact}
+use Rattle.fb_check_names.proofs.Seen as seen
+use Rattle.fb_check_names.specs.Repeats.{IsPair, repeats}
+use Rattle.fb_check_names.specs.declared.location.Joined.{Joined}
+use Rattle.fb_check_names.proofs.InNetworks.{all_in_networks, none_in_networks, site_network}
+use Rattle.fb_check_names.proofs.Repeating.{IsSame, agrees, each_pair, none_mapped, once_of, pair_twice, port_Decides}
+use Rattle.fb_check.specs.networks.Sources.{IsJoinedAt, joined_all, joined_at, joined_in, target, targets}
+
+-- ---- A table of the ports so far
+
+abbrev pub end_cmp : End → End → Ordering
+end_cmp = seen.end_cmp
+
+then_itself : (r : Ordering) → is_eq (ordering_then r r) ≡ is_eq r
+then_itself order.Less = refl
+then_itself order.Equal = refl
+then_itself order.Greater = refl
+
+-- two ends are equal exactly if their ports are
+end_cmp-exact : IsExact end_cmp end_port
+end_cmp-exact a b =
+    let d = pair_cmp-exact (a, a) (b, b) in (
+      λ h. ap (λ (p : Port × Port). p.0) (d.0 (then_itself (end_cmp a b) ∙ h)),
+      λ e. sym (then_itself (end_cmp a b)) ∙ d.1 (λ i. (e i, e i)),
+    )
+
+pub end_agrees : IsSame end_cmp end_port same_port
+end_agrees = agrees end_cmp end_port same_port end_cmp-exact port_Decides
+
+-- ---- All networks
+
+targets_are : (cs : List Connection) → map (λ c. c.1) (pairs_in [] cs) ≡ targets cs
+targets_are [] = refl
+targets_are (c ∷ cs) = ap (λ (ps : List Port). target c ∷ ps) (targets_are cs)
+
+pub each_joined : (lib : Library) → All (IsJoinedAt lib) (joined_all lib)
+each_joined lib =
+    all_in_networks (IsJoinedAt lib) joined_in lib
+    (λ s n at.
+    let ports : List Port = targets n.1.data_connections in
+    All-map (IsJoinedAt lib) (joined_at s) (repeats same_port ports)
+    (All-weaker (IsPair ports) (λ r. IsJoinedAt lib (joined_at s r)) (λ r p. (n, at, p)) (repeats same_port ports) (each_pair same_port port_Decides ports)))
+
+pub none_joined : (lib : Library) → joined_all lib ≡ [] → ¬ (TwoSources lib)
+none_joined lib h w =
+    none_in_networks joined_in (λ (n : OwnedNetwork). ¬ (Twice (targets n.1.data_connections))) lib
+    (λ s n e. once_of same_port port_Decides (targets n.1.data_connections) (none_mapped (joined_at s) (repeats same_port (targets n.1.data_connections)) e)) h w.0 w.1
+    (subst (λ (ps : List Port). Twice ps) (targets_are w.0.1.data_connections) w.2)
+
+pub joined_applies : (lib : Library) (p : Joined) → IsJoinedAt lib p → TwoSources lib
+joined_applies lib p j = (
+  j.0,
+  site_network lib p.site j.0 j.1,
+  subst (λ (ps : List Port). Twice ps) (sym (targets_are j.0.1.data_connections)) (pair_twice (targets j.0.1.data_connections) p.connections j.2),
+)

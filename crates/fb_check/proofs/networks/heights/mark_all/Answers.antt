@@ -1,0 +1,13 @@
+use Rattle.std.proofs.Common.{◌++◌, ◌∷◌, [], map, sym, ◌∙◌, ap}
+use Rattle.std.specs.Prelude.{is_some}
+use Rattle.std.proofs.lemmas.List.{take_all}
+use Rattle.fb_types.proofs.LoopSteps.{map_take_more}
+use Rattle.fb_check.proofs.networks.heights.mark_all.Goals as goal
+
+pub loop-numbers-preserved : goal.loop-numbers-preserved
+loop-numbers-preserved c =
+    c.in_ok-push.ensures.items ∙ (λ i. c.loop-numbers.invariant i ++ (c.is_some.ensures i ∷ []))
+    ∙ sym (map_take_more is_some c.args.blocks.now c.loop-numbers.numbers-index c.numbers-item.result c.loop-numbers-test.true c.numbers-item.is)
+
+pub returns : goal.returns
+returns c = c.loop-numbers.invariant ∙ ap (map is_some) (take_all c.loop-numbers.numbers-index c.args.blocks.now c.loop-numbers-test.false)

@@ -1,0 +1,17 @@
+use Rattle.fb_check.proofs.networks.Circles.{height_applies}
+use Rattle.fb_check.proofs.networks.Joined.{misjoin_applies}
+use Rattle.fb_check.proofs.networks.Mapped.{unmapped_applies}
+use Rattle.fb_check.proofs.networks.Targets.{joined_applies}
+use Rattle.fb_check.proofs.networks.Unlinked.{unlinked_applies}
+use Rattle.fb_check.proofs.networks.Unserved.{unserved_applies}
+use Rattle.fb_check.proofs.networks.laws.locations_apply.Goals as goal
+
+pub returns : goal.returns
+returns c = record {
+  misjoin = misjoin_applies;
+  joined = joined_applies;
+  too_high = height_applies;
+  unmapped = unmapped_applies;
+  unlinked = unlinked_applies;
+  unserved = unserved_applies;
+}

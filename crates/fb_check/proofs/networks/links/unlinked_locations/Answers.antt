@@ -1,0 +1,55 @@
+use Rattle.std.proofs.Common.{◌≡◌, ◌++◌, [], List, Contains, sym, subst, ◌∙◌}
+use Rattle.std.specs.Prelude.{All}
+use Rattle.fb_types.specs.Mapped.{NoLink}
+use Rattle.fb_types.specs.declared.deploy.Link.{Link}
+use Rattle.fb_types.specs.declared.deploy.Plan.{Plan}
+use Rattle.fb_types.specs.declared.library.Connection.{Connection}
+use Rattle.fb_types.specs.declared.library.Library.{Library}
+use Rattle.fb_types.proofs.Elements.{Contains-nil}
+use Rattle.fb_check_names.specs.Listed.{each_at}
+use Rattle.fb_check_names.specs.declared.location.FlowKind.TheVariants.{Events, Data}
+use Rattle.fb_check_names.specs.declared.location.Unlinked.{Unlinked}
+use Rattle.fb_check.specs.networks.Links.{AreWays, IsUnlinkedAt, unlinked_all, unlinked_at}
+use Rattle.fb_check.proofs.networks.Sets.{has_none, pair_cmp, pair_view}
+use Rattle.fb_check.proofs.networks.Unlinked.{each_unlinked, none_unlinked, ways_from}
+use Rattle.fb_check.proofs.networks.links.unlinked_locations.Goals as goal
+
+pub add_ways-requires : goal.add_ways-requires
+add_ways-requires c = ways_from [] _ (has_none pair_cmp pair_view (Contains []) c.new-ways.result c.new-ways.ensures.empty (λ y h. Contains-nil y h))
+
+pub push_unlinked-requires : goal.push_unlinked-requires
+push_unlinked-requires c =
+    let A : List Link → Type 0 = λ ls. AreWays ls c.add_ways.new.ways in
+    record { mapping = c.requires.holds; ways = subst A c.as_slice.ensures c.in_ok-add_ways.ensures }
+
+pub push_unlinked-requires-2 : goal.push_unlinked-requires-2
+push_unlinked-requires-2 c =
+    let A : List Link → Type 0 = λ ls. AreWays ls c.add_ways.new.ways in
+    record { mapping = c.requires.holds; ways = subst A c.as_slice.ensures c.in_ok-add_ways.ensures }
+
+-- what two calls add to the empty list
+are_all :
+    (lib : Library) (plan : Plan) (es ds : List Connection) (f0 f1 f2 : List Unlinked) → es ≡ lib.application.network.event_connections
+    → ds ≡ lib.application.network.data_connections → f0 ≡ [] → f1 ≡ f0 ++ each_at (unlinked_at plan Events) es
+    → f2 ≡ f1 ++ each_at (unlinked_at plan Data) ds → f2 ≡ unlinked_all lib plan
+are_all lib plan es ds f0 f1 f2 events values empty first second =
+    let begun : f1 ≡ each_at (unlinked_at plan Events) lib.application.network.event_connections = first ∙ (λ i. empty i ++ each_at (unlinked_at plan Events) (events i)) in
+    second ∙ (λ i. begun i ++ each_at (unlinked_at plan Data) (values i))
+
+pub returns-clause-listed : goal.returns-clause-listed
+returns-clause-listed c =
+    are_all c.args.library.now c.args.plan.now _ _ _ _ _ c.as_slice-events.ensures c.as_slice-data.ensures c.new-found.ensures.items c.in_ok-push_unlinked.ensures c.in_ok-push_unlinked-2.ensures
+
+pub returns-clause-each : goal.returns-clause-each
+returns-clause-each c =
+    let lib = c.args.library.now in
+    let plan = c.args.plan.now in
+    let are = are_all lib plan _ _ _ _ _ c.as_slice-events.ensures c.as_slice-data.ensures c.new-found.ensures.items c.in_ok-push_unlinked.ensures c.in_ok-push_unlinked-2.ensures in
+    subst (λ (ps : List Unlinked). All (IsUnlinkedAt lib plan) ps) (sym are) (each_unlinked lib plan)
+
+pub returns-clause-none : goal.returns-clause-none
+returns-clause-none c =
+    let lib = c.args.library.now in
+    let plan = c.args.plan.now in
+    let are = are_all lib plan _ _ _ _ _ c.as_slice-events.ensures c.as_slice-data.ensures c.new-found.ensures.items c.in_ok-push_unlinked.ensures c.in_ok-push_unlinked-2.ensures in
+    subst (λ (ps : List Unlinked). ps ≡ [] → ¬ (NoLink lib plan)) (sym are) (none_unlinked lib plan)

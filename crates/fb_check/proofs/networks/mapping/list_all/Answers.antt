@@ -1,0 +1,33 @@
+use Rattle.std.proofs.Common.{◌≡◌, ◌++◌, List, ℕ, append_assoc, map, ◌∙◌, ap, subst}
+use Rattle.std.specs.Prelude.{flat_map}
+use Rattle.fb_types.specs.Names.{Name, same_name}
+use Rattle.fb_check_names.specs.Indexes.{names_in}
+use Rattle.fb_check_names.specs.Listed.{each_at}
+use Rattle.fb_check_names.specs.Repeats.{repeats}
+use Rattle.fb_check_names.specs.declared.location.Unmapped.{Unmapped}
+use Rattle.fb_check_names.specs.declared.location.Unmapped.TheVariants.{Again}
+use Rattle.fb_check_names.specs.Indexes.{AreLastIndexes}
+use Rattle.fb_check.specs.networks.Unmapped.{unlisted_at}
+use Rattle.fb_check.proofs.networks.Owners.{unlisted_are}
+use Rattle.fb_check.proofs.networks.mapping.list_all.Goals as goal
+
+pub returns-clause-found : goal.returns-clause-found
+returns-clause-found c =
+    let is = c.args.instances.now in
+    let ns : List Name = flat_map (λ r. r.instances) c.args.resources.now in
+    let names : names_in c.as_slice.result.now ≡ ns = ap names_in c.as_slice.ensures.value ∙ c.in_ok-names.ensures in
+    let indexes : AreLastIndexes ns c.in_ok-indexes.indexes = subst (λ (ns : List Name). AreLastIndexes ns c.in_ok-indexes.indexes) names c.in_ok-indexes.ensures.indexes in
+    let pairs : c.as_slice-2.result.now ≡ repeats same_name ns =
+    c.as_slice-2.ensures.value ∙ c.in_ok-indexes.ensures.again ∙ ap (λ (rs : List (ℕ × ℕ)). rs ++ repeats same_name (names_in c.as_slice.result.now)) c.new-again.ensures.items ∙ ap (repeats same_name) names in
+    let unlisted : List Unmapped = each_at (unlisted_at ns) is in
+    c.in_ok-push_again.ensures
+    ∙ (λ i. (c.in_ok-push_unlisted.ensures ∙ ap (λ (us : List Unmapped). c.args.found.now.items ++ us) (unlisted_are c.in_ok-indexes.indexes ns is indexes)) i ++ map (λ r. Again r) (pairs i))
+    ∙ append_assoc c.args.found.now.items unlisted (map (λ r. Again r) (repeats same_name ns))
+
+pub returns-clause-indexes : goal.returns-clause-indexes
+returns-clause-indexes c =
+    let names = ap names_in c.as_slice.ensures.value ∙ c.in_ok-names.ensures in
+    subst (λ (ns : List Name). AreLastIndexes ns c.in_ok-indexes.indexes) names c.in_ok-indexes.ensures.indexes
+
+pub returns-clause-owners : goal.returns-clause-owners
+returns-clause-owners c = c.in_ok-owners.ensures

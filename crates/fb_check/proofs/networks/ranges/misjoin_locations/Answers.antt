@@ -1,0 +1,39 @@
+use Rattle.std.proofs.Common.{◌≡◌, ◌++◌, [], List, None, sym, subst, ◌∙◌, ap}
+use Rattle.std.specs.Prelude.{All}
+use Rattle.fb_types.specs.Joined.{OutOfRange}
+use Rattle.fb_types.specs.Repeated.{NameTwice}
+use Rattle.fb_types.specs.declared.deploy.Plan.{Plan}
+use Rattle.fb_types.specs.declared.library.Library.{Library}
+use Rattle.fb_check_names.specs.Listed.{each_at}
+use Rattle.fb_check_names.specs.Numbers.{IsResolved}
+use Rattle.fb_check_names.specs.declared.location.Misjoin.{Misjoin}
+use Rattle.fb_check_names.specs.declared.location.Site.TheVariants.{Application}
+use Rattle.fb_check_names.specs.declared.numbers.Resolved.{Resolved}
+use Rattle.fb_check.specs.networks.Misjoins.{IsMisjoinedAt, misjoins_all, out_at_index, out_in}
+use Rattle.fb_check.proofs.networks.Joined.{each_misjoin, misjoins_are, none_misjoin}
+use Rattle.fb_check.proofs.networks.ranges.misjoin_locations.Goals as goal
+
+-- what two calls add to the empty list
+are_all :
+    (lib : Library) (plan : Plan) (r : Resolved) (f0 f1 f2 : List Misjoin) → ¬ (NameTwice lib plan) → IsResolved lib plan r → f0 ≡ []
+    → f1 ≡ f0 ++ each_at (out_at_index lib r.blocks) lib.blocks → f2 ≡ f1 ++ out_in lib Application None r.application → f2 ≡ misjoins_all lib
+are_all lib plan r f0 f1 f2 once is empty blocks application =
+    let inside : List Misjoin = each_at (out_at_index lib r.blocks) lib.blocks in
+    let last : List Misjoin = out_in lib Application None r.application in
+    application ∙ ap (λ (ps : List Misjoin). ps ++ last) (blocks ∙ ap (λ (ps : List Misjoin). ps ++ inside) empty) ∙ misjoins_are lib plan r once is
+
+pub returns-clause-listed : goal.returns-clause-listed
+returns-clause-listed c =
+    are_all c.args.library.now c.requires.0 c.args.numbers.now _ _ _ c.requires.2 c.requires.1 c.new-found.ensures.items c.in_ok-push_in_blocks.ensures c.in_ok-push_in_network.ensures
+
+pub returns-clause-each : goal.returns-clause-each
+returns-clause-each c =
+    let lib = c.args.library.now in
+    let are = are_all lib c.requires.0 c.args.numbers.now _ _ _ c.requires.2 c.requires.1 c.new-found.ensures.items c.in_ok-push_in_blocks.ensures c.in_ok-push_in_network.ensures in
+    subst (λ (ps : List Misjoin). All (IsMisjoinedAt lib) ps) (sym are) (each_misjoin lib)
+
+pub returns-clause-none : goal.returns-clause-none
+returns-clause-none c =
+    let lib = c.args.library.now in
+    let are = are_all lib c.requires.0 c.args.numbers.now _ _ _ c.requires.2 c.requires.1 c.new-found.ensures.items c.in_ok-push_in_blocks.ensures c.in_ok-push_in_network.ensures in
+    subst (λ (ps : List Misjoin). ps ≡ [] → ¬ (OutOfRange lib)) (sym are) (none_misjoin lib)

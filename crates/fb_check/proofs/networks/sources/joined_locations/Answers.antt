@@ -1,0 +1,37 @@
+use Rattle.std.proofs.Common.{◌≡◌, ◌++◌, [], List, sym, subst, ◌∙◌}
+use Rattle.std.specs.Prelude.{All}
+use Rattle.fb_types.specs.Joined.{TwoSources}
+use Rattle.fb_types.specs.declared.library.BlockType.{BlockType}
+use Rattle.fb_types.specs.declared.library.Connection.{Connection}
+use Rattle.fb_types.specs.declared.library.Library.{Library}
+use Rattle.fb_check_names.specs.Listed.{each_at}
+use Rattle.fb_check_names.specs.Sites.{inside_of}
+use Rattle.fb_check_names.specs.declared.location.Joined.{Joined}
+use Rattle.fb_check_names.specs.declared.location.Site.TheVariants.{Application}
+use Rattle.fb_check.specs.networks.Sources.{IsJoinedAt, joined_all, joined_among, joined_in}
+use Rattle.fb_check.proofs.networks.Targets.{each_joined, none_joined}
+use Rattle.fb_check.proofs.networks.sources.joined_locations.Goals as goal
+
+-- what two calls add to the empty list
+are_all :
+    (lib : Library) (bs : List BlockType) (cs : List Connection) (f0 f1 f2 : List Joined) → bs ≡ lib.blocks → cs ≡ lib.application.network.data_connections
+    → f0 ≡ [] → f1 ≡ f0 ++ each_at (inside_of joined_in) bs → f2 ≡ f1 ++ joined_among Application cs → f2 ≡ joined_all lib
+are_all lib bs cs f0 f1 f2 blocks connections empty first second =
+    let begun : f1 ≡ each_at (inside_of joined_in) lib.blocks = first ∙ (λ i. empty i ++ each_at (inside_of joined_in) (blocks i)) in
+    second ∙ (λ i. begun i ++ joined_among Application (connections i))
+
+pub returns-clause-listed : goal.returns-clause-listed
+returns-clause-listed c =
+    are_all c.args.library.now _ _ _ _ _ c.as_slice.ensures c.as_slice-connections.ensures c.new-found.ensures.items c.in_ok-push_in_blocks.ensures c.in_ok-push_in_network.ensures
+
+pub returns-clause-each : goal.returns-clause-each
+returns-clause-each c =
+    let lib = c.args.library.now in
+    let are = are_all lib _ _ _ _ _ c.as_slice.ensures c.as_slice-connections.ensures c.new-found.ensures.items c.in_ok-push_in_blocks.ensures c.in_ok-push_in_network.ensures in
+    subst (λ (ps : List Joined). All (IsJoinedAt lib) ps) (sym are) (each_joined lib)
+
+pub returns-clause-none : goal.returns-clause-none
+returns-clause-none c =
+    let lib = c.args.library.now in
+    let are = are_all lib _ _ _ _ _ c.as_slice.ensures c.as_slice-connections.ensures c.new-found.ensures.items c.in_ok-push_in_blocks.ensures c.in_ok-push_in_network.ensures in
+    subst (λ (ps : List Joined). ps ≡ [] → ¬ (TwoSources lib)) (sym are) (none_joined lib)

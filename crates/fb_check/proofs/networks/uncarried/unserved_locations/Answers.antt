@@ -1,0 +1,19 @@
+use Rattle.std.proofs.Common.{◌≡◌, ℕ, [], List}
+use Rattle.std.specs.Prelude.{All}
+use Rattle.fb_types.specs.Mapped.{NoEvent}
+use Rattle.fb_check_names.proofs.Listing.{of_list}
+use Rattle.fb_check.specs.networks.Unserved.{IsUnservedAt}
+use Rattle.fb_check.proofs.networks.Unserved.{each_unserved, none_unserved}
+use Rattle.fb_check.proofs.networks.uncarried.unserved_locations.Goals as goal
+
+pub unserved_connections-requires : goal.unserved_connections-requires
+unserved_connections-requires c =
+    record { once = c.requires.once; mapping = c.requires.mapping.holds; numbers = c.requires.resolved.application; served = c.in_ok-served.ensures }
+
+pub returns-clause-each : goal.returns-clause-each
+returns-clause-each c =
+    of_list c.unserved_connections.result (λ (ps : List ℕ). All (IsUnservedAt c.args.library.now c.args.plan.now) ps) c.unserved_connections.ensures (each_unserved c.args.library.now c.args.plan.now)
+
+pub returns-clause-none : goal.returns-clause-none
+returns-clause-none c =
+    of_list c.unserved_connections.result (λ (ps : List ℕ). ps ≡ [] → ¬ (NoEvent c.args.library.now c.args.plan.now)) c.unserved_connections.ensures (none_unserved c.args.library.now c.args.plan.now)

@@ -1,0 +1,15 @@
+use Rattle.std.proofs.Common.{sym, ◌∙◌, ap}
+use Rattle.std.specs.Prelude.{option_map}
+use Rattle.std.proofs.lemmas.Option.{slice_get_past}
+use Rattle.fb_types.specs.declared.library.Variable.{Variable}
+use Rattle.fb_check.proofs.networks.Looking.{at_element}
+use Rattle.fb_check.proofs.networks.variables.type_at.Goals as goal
+
+pub returns-in_err-get : goal.returns-in_err-get
+returns-in_err-get c =
+    c.from_residual.ensures ∙ sym (ap (option_map (λ (v : Variable). v.ty)) (slice_get_past c.args.variables.now c.args.index c.in_err-get.ensures.lookup.3))
+
+pub returns : goal.returns
+returns c =
+    let at = c.in_ok-get.ensures.lookup in
+    sym (ap (option_map (λ (v : Variable). v.ty)) (at_element c.args.variables.now c.args.index c.in_ok-get.field-0.now at.3.0 at.1))

@@ -1,0 +1,10 @@
+use Rattle.std.proofs.Common.{◌≡◌, ◌++◌, [], drop}
+use Rattle.fb_check_names.specs.Listed.{each_at, each_from}
+use Rattle.fb_check.specs.types.Unknowns.{unknown_in_block}
+use Rattle.fb_check.proofs.types.BlockNumbers.{AreFirst}
+use Rattle.fb_check.proofs.types.blocks.blocks_of.Given as goal
+
+abbrev pub invariant-loop-block : goal.invariant-loop-block
+invariant-loop-block l =
+    (l.found.items ++ each_from (unknown_in_block l.types.library.now) l.block (drop l.block l.blocks) ≡ l.fn.found.items ++ each_at (unknown_in_block l.types.library.now) l.blocks)
+    × (each_at (unknown_in_block l.types.library.now) l.blocks ≡ [] → AreFirst l.types.library.now l.block l.all)

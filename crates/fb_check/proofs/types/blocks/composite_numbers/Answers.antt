@@ -1,0 +1,59 @@
+use Rattle.std.proofs.Common.{◌≡◌, ◌++◌, [], length, Some, ℕ, Bor, append_assoc, refl, sym, ◌∙◌, ap, subst, arith}
+use Rattle.std.specs.BTreeMap.{BTreeMap}
+use Rattle.std.proofs.lemmas.Option.{same_Some, slice_get_read}
+use Rattle.fb_types.specs.Names.{Name}
+use Rattle.fb_types.specs.declared.library.BlockType.TheVariants as block
+use Rattle.fb_types.specs.declared.library.CompositeType.{CompositeType}
+use Rattle.fb_check_names.specs.PortKinds.{AreIndexesOf}
+use Rattle.fb_check_names.specs.declared.location.Direction.TheVariants.{Input, Output}
+use Rattle.fb_check_names.specs.declared.location.Site.TheVariants.{Inside}
+use Rattle.fb_check_names.proofs.Listing.{none_right}
+use Rattle.fb_check.specs.types.Roles.{Declared}
+use Rattle.fb_check.specs.types.Unknowns.{unknown_in_network, unknown_withs}
+use Rattle.fb_check.proofs.types.Added.{if_ok, then_added}
+use Rattle.fb_check.proofs.types.BlockNumbers.{composite_ports, composite_instances, has_indexes}
+use Rattle.fb_check.proofs.types.blocks.composite_numbers.Goals as goal
+
+pub index-indexes-requires : goal.index-indexes-requires
+index-indexes-requires c =
+    let types = c.args.types.now in
+    omega (arith, has_indexes types.library.now types.catalog.now c.args.block (block.Composite c.args.composite.now) c.requires.types.has c.requires.index, types.catalog.now.blocks.ok.0)
+
+pub new-interface-requires : goal.new-interface-requires
+new-interface-requires c =
+    let types = c.args.types.now in
+    let ds = types.catalog.now.blocks.items in
+    let t = block.Composite c.args.composite.now in
+    (c.requires.types.has.blocks c.args.block t c.index-indexes.result.now c.requires.index
+    (slice_get_read ds (length ds) c.args.block c.index-indexes.result.now refl (has_indexes types.library.now types.catalog.now c.args.block t c.requires.types.has c.requires.index) c.index-indexes.ensures)).ports
+
+pub network_numbers-requires-clause-scope : goal.network_numbers-requires-clause-scope
+network_numbers-requires-clause-scope c =
+    record {
+      boundary = λ y e.
+          subst (λ (y : Bor CompositeType × Bor (BTreeMap (Bor Name) ℕ)). AreIndexesOf y.0.now.ports y.1.now) (same_Some _ y e)
+          (composite_ports _ _ _ _ c.index-indexes.result.now c.requires.types.has c.requires.index c.index-indexes.ensures);
+      instances = composite_instances _ _ _ _ c.index-indexes.result.now c.requires.types.has c.requires.index c.index-indexes.ensures;
+    }
+
+pub returns-clause-listed : goal.returns-clause-listed
+returns-clause-listed c =
+    let t = c.args.composite.now in
+    let b = c.args.block in
+    let ins = unknown_withs b Input t.ports in
+    let outs = unknown_withs b Output t.ports in
+    let inside = unknown_in_network c.args.types.now.library.now (Inside b) (Some t, t.network) in
+    let f0 = c.args.found.now.items in
+    then_added c.network_numbers.result f0 c.push_in_withs.new.found.items c.network_numbers.new.found.items (ins ++ outs) inside _ (sym (append_assoc ins outs inside))
+    (c.in_ok-push_in_withs.ensures ∙ ap (λ (d : Declared). f0 ++ (unknown_withs b Input d.ports ++ unknown_withs b Output d.ports)) c.new-interface.ensures)
+    c.network_numbers.ensures.listed
+
+pub returns-clause-numbers : goal.returns-clause-numbers
+returns-clause-numbers c =
+    let lib = c.args.types.now.library.now in
+    let t = c.args.composite.now in
+    let p = t.ports in
+    let ins = unknown_withs c.args.block Input p in
+    let outs = unknown_withs c.args.block Output p in
+    let inside = unknown_in_network lib (Inside c.args.block) (Some t, t.network) in
+    if_ok c.network_numbers.result (λ x is h. is (none_right outs inside (none_right ins (outs ++ inside) h))) c.network_numbers.ensures.numbers

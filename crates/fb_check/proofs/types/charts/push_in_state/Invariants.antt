@@ -1,0 +1,8 @@
+use Rattle.std.proofs.Common.{◌≡◌, ◌++◌, drop}
+use Rattle.fb_check.specs.types.Unknowns.{unknown_in_action}
+use Rattle.fb_check_names.specs.Listed.{each_at, each_from}
+use Rattle.fb_check.proofs.types.charts.push_in_state.Given as goal
+
+abbrev pub invariant-loop-action : goal.invariant-loop-action
+invariant-loop-action l =
+    l.found.items ++ each_from (unknown_in_action l.scope l.block l.state) l.action (drop l.action l.actions) ≡ l.fn.found.items ++ each_at (unknown_in_action l.scope l.block l.state) l.actions

@@ -1,0 +1,8 @@
+use Rattle.std.proofs.Common.{◌≡◌, ◌++◌, drop}
+use Rattle.fb_check.specs.types.Unknowns.{unknown_in_state}
+use Rattle.fb_check_names.specs.Listed.{each_at, each_from}
+use Rattle.fb_check.proofs.types.charts.push_in_states.Given as goal
+
+abbrev pub invariant-loop-state : goal.invariant-loop-state
+invariant-loop-state l =
+    l.found.items ++ each_from (unknown_in_state l.scope l.block) l.state (drop l.state l.states) ≡ l.fn.found.items ++ each_at (unknown_in_state l.scope l.block) l.states

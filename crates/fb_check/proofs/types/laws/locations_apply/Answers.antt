@@ -1,0 +1,5 @@
+use Rattle.fb_check.proofs.types.Applying.{unknown_applies}
+use Rattle.fb_check.proofs.types.laws.locations_apply.Goals as goal
+
+pub returns : goal.returns
+returns c = unknown_applies

@@ -1,0 +1,5 @@
+use Rattle.fb_check.proofs.types.AllThere.{there_unknown}
+use Rattle.fb_check.proofs.types.laws.locations_are_all.Goals as goal
+
+pub returns : goal.returns
+returns c = there_unknown

@@ -1,0 +1,51 @@
+use Rattle.std.proofs.Common.{◌≡◌, [], List, None, sym, subst, ◌∙◌, ap, ◌++◌, refl}
+use Rattle.std.specs.Prelude.{All}
+use Rattle.fb_types.specs.Kinds.{KindWrong}
+use Rattle.fb_types.specs.declared.library.Library.{Library}
+use Rattle.fb_check_names.specs.declared.catalog.BlockIndexes.{BlockIndexes}
+use Rattle.fb_check.specs.types.Checks.{AreBlocks}
+use Rattle.fb_check_names.specs.Listed.{each_at}
+use Rattle.fb_check_names.specs.declared.location.Misfit.{Misfit}
+use Rattle.fb_check_names.specs.declared.location.Site.TheVariants.{Application}
+use Rattle.fb_check.specs.networks.Parameters.{misfits_in_network}
+use Rattle.fb_check.specs.types.MisfitLists.{misfits_all, misfits_in_block}
+use Rattle.fb_check.specs.types.Misfits.{IsMisfitAt}
+use Rattle.fb_check.proofs.types.KindWitnesses.{each_misfit, none_misfit}
+use Rattle.fb_check.proofs.types.NumberedKinds.{all_inside}
+use Rattle.fb_check.proofs.types.misfits.misfit_locations.Goals as goal
+
+pub push_in_blocks-requires : goal.push_in_blocks-requires
+push_in_blocks-requires c =
+    let lib = c.args.library.now in
+    let catalog = c.requires.catalog.1 in
+    let right : AreBlocks lib.blocks c.args.catalog.now.blocks.items = record { counted = catalog.counted; blocks = catalog.blocks } in
+    record {
+      indexes = subst (λ (xs : List BlockIndexes). AreBlocks lib.blocks xs) (sym c.as_slice-indexes.ensures.value) right;
+      numbers = all_inside lib c.requires.numbers.0 c.args.numbers.now c.requires.numbers.1;
+    }
+
+pub push_wrong_parameters-requires : goal.push_wrong_parameters-requires
+push_wrong_parameters-requires c = ((None, c.args.library.now.application.network), refl, c.requires.numbers.1.application)
+
+-- what two calls add to the empty list
+are_all :
+    (lib : Library) (f0 f1 f2 : List Misfit) → f0 ≡ [] → f1 ≡ f0 ++ each_at (misfits_in_block lib) lib.blocks
+    → f2 ≡ f1 ++ misfits_in_network lib Application lib.application.network.instances → f2 ≡ misfits_all lib
+are_all lib f0 f1 f2 empty blocks application =
+    let last : List Misfit = misfits_in_network lib Application lib.application.network.instances in
+    application ∙ ap (λ (ps : List Misfit). ps ++ last) (blocks ∙ ap (λ (ps : List Misfit). ps ++ each_at (misfits_in_block lib) lib.blocks) empty)
+
+pub returns-clause-listed : goal.returns-clause-listed
+returns-clause-listed c = are_all c.args.library.now _ _ _ c.new-found.ensures.items c.in_ok-push_in_blocks.ensures c.in_ok-push_wrong_parameters.ensures
+
+pub returns-clause-each : goal.returns-clause-each
+returns-clause-each c =
+    let lib = c.args.library.now in
+    subst (λ (ps : List Misfit). All (IsMisfitAt lib) ps)
+    (sym (are_all lib _ _ _ c.new-found.ensures.items c.in_ok-push_in_blocks.ensures c.in_ok-push_wrong_parameters.ensures)) (each_misfit lib)
+
+pub returns-clause-none : goal.returns-clause-none
+returns-clause-none c =
+    let lib = c.args.library.now in
+    subst (λ (ps : List Misfit). ps ≡ [] → ¬ (KindWrong lib))
+    (sym (are_all lib _ _ _ c.new-found.ensures.items c.in_ok-push_in_blocks.ensures c.in_ok-push_wrong_parameters.ensures)) (none_misfit lib)

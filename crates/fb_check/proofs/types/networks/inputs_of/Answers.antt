@@ -1,0 +1,40 @@
+use Rattle.std.proofs.Common.{ℕ, List, Option, ◌++◌, refl, ◌∙◌, ap}
+use Rattle.std.specs.Prelude.{is_some}
+use Rattle.fb_types.specs.Unknown.{data_ins}
+use Rattle.fb_types.specs.declared.library.Parameter.{Parameter}
+use Rattle.fb_check_names.specs.Types.{port_number}
+use Rattle.fb_check.specs.types.There.{each_there, some_of}
+use Rattle.fb_check_names.specs.Listed.{unless}
+use Rattle.fb_check_names.specs.declared.location.UnknownName.{UnknownName}
+use Rattle.fb_check_names.specs.declared.location.UnknownName.TheVariants as location
+use Rattle.fb_check_names.proofs.Listing.{each_done, each_more}
+use Rattle.fb_check.proofs.types.Added.{list_added, one_added}
+use Rattle.fb_check.proofs.types.networks.inputs_of.Goals as goal
+
+pub loop-parameter-init : goal.loop-parameter-init
+loop-parameter-init c =
+    let f : Parameter → Option ℕ = λ x. port_number c.args.types.now.library.now c.args.number data_ins x.name in
+    (refl, ap (λ (ks : List ℕ). ks ++ each_there f c.args.parameters.now) c.new-inputs.ensures)
+
+pub loop-parameter-preserved : goal.loop-parameter-preserved
+loop-parameter-preserved c =
+    let f : Parameter → Option ℕ = λ x. port_number c.args.types.now.library.now c.args.number data_ins x.name in
+    let at : ℕ → UnknownName = λ p. location.Parameter c.args.site c.args.instance p in
+    let x = c.index-parameters-parameter.result in (
+      each_more (λ p (x : Parameter). unless (is_some (f x)) (at p)) c.args.parameters.now c.loop-parameter.parameter x c.loop-parameter.found.items c.push_found.new.found.items _
+          c.loop-parameter-test.true c.index-parameters-parameter.is
+          (c.in_ok-push_found.ensures.listed ∙ ap (λ (o : Option ℕ). c.loop-parameter.found.items ++ unless (is_some o) (at c.loop-parameter.parameter)) c.port_of-input.ensures)
+          c.loop-parameter.invariant.0,
+      one_added (each_there f) (λ x. some_of (f x)) c.args.parameters.now c.loop-parameter.parameter x c.loop-parameter.inputs c.push_found.new.items _ (λ y ys. refl)
+          c.loop-parameter-test.true c.index-parameters-parameter.is (c.in_ok-push_found.ensures.item ∙ ap (λ (o : Option ℕ). c.loop-parameter.inputs ++ some_of o) c.port_of-input.ensures) c.loop-parameter.invariant.1,
+    )
+
+pub returns-clause-listed : goal.returns-clause-listed
+returns-clause-listed c =
+    let f : Parameter → Option ℕ = λ x. port_number c.args.types.now.library.now c.args.number data_ins x.name in
+    each_done (λ p (x : Parameter). unless (is_some (f x)) (location.Parameter c.args.site c.args.instance p)) c.args.parameters.now c.loop-parameter.parameter c.loop-parameter.found.items _ c.loop-parameter-test.false c.loop-parameter.invariant.0
+
+pub returns-clause-numbers : goal.returns-clause-numbers
+returns-clause-numbers c =
+    let f : Parameter → Option ℕ = λ x. port_number c.args.types.now.library.now c.args.number data_ins x.name in
+    list_added (each_there f) c.args.parameters.now c.loop-parameter.parameter c.loop-parameter.inputs _ refl c.loop-parameter-test.false c.loop-parameter.invariant.1

@@ -1,0 +1,14 @@
+use Rattle.std.proofs.Common.{◌∙◌, ap}
+use Rattle.std.specs.Prelude.{is_some}
+use Rattle.fb_types.specs.Names.{same_name}
+use Rattle.fb_types.specs.Blocks.{among}
+use Rattle.fb_types.specs.Repeated.{state_names}
+use Rattle.fb_types.proofs.Positions.{is_some-position}
+use Rattle.fb_check.proofs.types.scope.Scope.is_state.Goals as goal
+
+pub returns : goal.returns
+returns c =
+    c.is_some.ensures
+    ∙ ap is_some (c.index_of_name.ensures ∙ c.self.invariant.states.index c.args.name.now)
+    ∙ is_some-position (same_name c.args.name.now) (state_names c.self.inside.block.now)
+    ∙ ap (λ t. among (state_names t) c.args.name.now) c.self.view_is

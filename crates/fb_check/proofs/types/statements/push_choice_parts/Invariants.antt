@@ -1,0 +1,10 @@
+use Rattle.std.proofs.Common.{◌≡◌, ◌++◌, drop}
+use Rattle.fb_types.specs.Kinds.{context_in}
+use Rattle.fb_check.specs.types.Trees.{choices_of}
+use Rattle.fb_check.specs.types.MisfitLists.{part_at, wrong_choices}
+use Rattle.fb_check.proofs.types.statements.push_choice_parts.Given as goal
+
+abbrev pub invariant-loop-index : goal.invariant-loop-index
+invariant-loop-index l =
+    l.found.items ++ wrong_choices (part_at l.at) (context_in l.scope) l.index (choices_of (drop l.index l.choices))
+    ≡ l.fn.found.items ++ wrong_choices (part_at l.at) (context_in l.scope) 0 (choices_of l.choices)

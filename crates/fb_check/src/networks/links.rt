@@ -1,0 +1,105 @@
+//! E27: connections between two resources that have no link.
+
+ghost use Rattle.std.specs.Prelude.{◌≡◌, ◌++◌, [], All, IfOk, OnOk};
+ghost use Rattle.fb_types.specs.Flat.{name_of_resource};
+ghost use Rattle.fb_types.specs.Mapped.{NoLink};
+ghost use Rattle.fb_check.specs.networks.Mapping.{IsMapping, IsHolding};
+ghost use Rattle.fb_check_names.specs.Listed.{each_at};
+ghost use Rattle.fb_check.specs.networks.Links.{AreWays, IsUnlinkedAt, is_linked, unlinked_all, unlinked_at};
+
+use crate::networks::mapping::{Mapping, resource_of};
+use fb_check_names::{FlowKind, Unlinked, push_unless};
+use fb_types::{Connection, Library, Link, Plan};
+use std::alloc::{AllocError, Global};
+use std::collections::BTreeSet;
+
+/// The names of two resources: the sender, and the receiver.
+type Way<'a> = (&'a [u8], &'a [u8]);
+
+/// Adds the ordered pairs of resources that have a link to an empty set.
+fn add_ways<'a>(ways: &mut BTreeSet<Way<'a>, Global>, links: &'a [Link]) -> Result<(), AllocError>
+    requires { AreWays [] ways.old }
+    ensures { OnOk result (AreWays links.now ways.new) }
+{
+    for link in links {
+        ways.insert((link.from.as_bytes(), link.to.as_bytes()))?;
+    }
+    Ok(())
+}
+
+/// The name of the resource at an index.
+fn name_of(plan: &Plan, resource: usize) -> &[u8]
+    ensures { result.now ≡ name_of_resource plan.now resource }
+{
+    match plan.resources.get(resource) {
+        Some(resource) => resource.name.as_bytes(),
+        None => &[],
+    }
+}
+
+/// Whether one resource holds both ends of a connection, or there is a link for it.
+fn is_linked<'a>(
+    plan: &'a Plan,
+    mapping: &Mapping,
+    ways: &BTreeSet<Way<'a>, Global>,
+    connection: &Connection,
+) -> bool
+    requires mapping { IsHolding plan.now mapping.now }
+    requires ways { AreWays plan.now.links ways.now }
+    ensures { result ≡ is_linked plan.now connection.now }
+{
+    let from = resource_of(mapping, &connection.from);
+    let to = resource_of(mapping, &connection.to);
+    if from == to {
+        return true;
+    }
+    ways.contains(&(name_of(plan, from), name_of(plan, to)))
+}
+
+/// Adds those of these connections, which carry the same, that go from one resource to another with no link for it.
+fn push_unlinked<'a>(
+    found: &mut Vec<Unlinked>,
+    plan: &'a Plan,
+    mapping: &Mapping,
+    ways: &BTreeSet<Way<'a>, Global>,
+    flow: FlowKind,
+    connections: &[Connection],
+) -> Result<(), AllocError>
+    requires mapping { IsHolding plan.now mapping.now }
+    requires ways { AreWays plan.now.links ways.now }
+    ensures { IfOk result (λ _. found.new.items ≡ found.old.items ++ each_at (unlinked_at plan.now flow) connections.now) }
+{
+    for (connection, declared) in connections.iter().enumerate() {
+        let is_linked = is_linked(plan, mapping, ways, declared);
+        push_unless(found, is_linked, Unlinked { flow, connection })?;
+    }
+    Ok(())
+}
+
+/// All connections of the application, of events or of data, that go from one resource to another with no link from the
+/// one to the other (E27), in the order of the declaration.
+///
+/// # Errors
+///
+/// When memory runs out.
+pub fn unlinked_locations(
+    alloc: Global,
+    library: &Library,
+    plan: &Plan,
+    mapping: &Mapping,
+) -> Result<Vec<Unlinked>, AllocError>
+    requires { IsMapping library.now plan.now mapping.now }
+    ensures listed { IfOk result (λ found. found.items ≡ unlinked_all library.now plan.now) }
+    ensures each { IfOk result (λ found. All (IsUnlinkedAt library.now plan.now) found.items) }
+    ensures none { IfOk result (λ found. found.items ≡ [] → ¬ (NoLink library.now plan.now)) }
+{
+    let mut ways = BTreeSet::new(alloc);
+    add_ways(&mut ways, plan.links.as_slice())?;
+    let network = &library.application.network;
+    let mut found = Vec::new(alloc);
+    let events = network.event_connections.as_slice();
+    push_unlinked(&mut found, plan, mapping, &ways, FlowKind::Events, events)?;
+    let data = network.data_connections.as_slice();
+    push_unlinked(&mut found, plan, mapping, &ways, FlowKind::Data, data)?;
+    Ok(found)
+}

@@ -1,0 +1,98 @@
+//! E28: data connections between two resources that no event serves.
+
+ghost use Rattle.std.specs.Prelude.{◌≡◌, ◌++◌, [], All, None, Contains, IfOk};
+ghost use Rattle.fb_types.specs.Repeated.{NameTwice};
+ghost use Rattle.fb_types.specs.Mapped.{NoEvent};
+ghost use Rattle.fb_check_names.specs.Numbers.{IsNetwork, IsResolved};
+ghost use Rattle.fb_check_names.specs.Listed.{each_at};
+ghost use Rattle.fb_check.specs.networks.Mapping.{IsMapping, IsHolding};
+ghost use Rattle.fb_check.specs.networks.Serving.{AreServed};
+ghost use Rattle.fb_check.specs.networks.Unserved.{IsUnservedAt, is_served, unserved_all, unserved_at};
+
+use crate::networks::mapping::{Mapping, resource_of};
+use crate::networks::serving::{Leads, component_of, served_variables};
+use fb_check_names::{NetworkNumbers, Resolved, push_unless};
+use fb_types::{Connection, Library, Plan, all_ports};
+use std::alloc::{AllocError, Global};
+
+/// Whether one resource holds both ends of a data connection of the application, or an event serves it.
+fn is_served<'a>(
+    library: &Library,
+    plan: &Plan,
+    mapping: &Mapping,
+    numbers: &NetworkNumbers,
+    served: &Leads<'a>,
+    connection: &'a Connection,
+) -> bool
+    requires once { ¬ (NameTwice library.now plan.now) }
+    requires mapping { IsHolding plan.now mapping.now }
+    requires numbers { IsNetwork library.now (None, library.now.application.network) numbers.now }
+    requires served { AreServed library.now plan.now served.now }
+    requires there { Contains library.now.application.network.data_connections connection.now }
+    ensures { result ≡ is_served library.now plan.now connection.now }
+{
+    let from = resource_of(mapping, &connection.from);
+    let to = resource_of(mapping, &connection.to);
+    if from == to {
+        return true;
+    }
+    let component = component_of(&connection.from);
+    served.contains(&(component, &connection.from.port, to))
+}
+
+/// The list of all data connections that no event serves, from what is served.
+fn unserved_connections<'a>(
+    alloc: Global,
+    library: &'a Library,
+    plan: &Plan,
+    mapping: &Mapping,
+    numbers: &NetworkNumbers,
+    served: &Leads<'a>,
+) -> Result<Vec<usize>, AllocError>
+    requires once { ¬ (NameTwice library.now plan.now) }
+    requires mapping { IsHolding plan.now mapping.now }
+    requires numbers { IsNetwork library.now (None, library.now.application.network) numbers.now }
+    requires served { AreServed library.now plan.now served.now }
+    ensures { IfOk result (λ found. found.items ≡ unserved_all library.now plan.now) }
+{
+    let mut found = Vec::new(alloc);
+    let connections = library.application.network.data_connections.as_slice();
+    for (connection, declared) in connections.iter().enumerate() {
+        let is_served = is_served(library, plan, mapping, numbers, served, declared);
+        push_unless(&mut found, is_served, connection)?;
+    }
+    Ok(found)
+}
+
+/// The indexes of all data connections of the application that go from one resource to another, and no output event WITH
+/// the variable goes from the same instance to that resource (E28), in the order of the declaration.
+///
+/// # Errors
+///
+/// When memory runs out.
+pub fn unserved_locations(
+    alloc: Global,
+    library: &Library,
+    plan: &Plan,
+    mapping: &Mapping,
+    resolved: &Resolved,
+) -> Result<Vec<usize>, AllocError>
+    requires once { ¬ (NameTwice library.now plan.now) }
+    requires mapping { IsMapping library.now plan.now mapping.now }
+    requires resolved { IsResolved library.now plan.now resolved.now }
+    ensures listed { IfOk result (λ found. found.items ≡ unserved_all library.now plan.now) }
+    ensures each { IfOk result (λ found. All (IsUnservedAt library.now plan.now) found.items) }
+    ensures none { IfOk result (λ found. found.items ≡ [] → ¬ (NoEvent library.now plan.now)) }
+{
+    let interfaces = all_ports(alloc)?;
+    let numbers = &resolved.application;
+    let served = served_variables(
+        alloc,
+        library,
+        interfaces.as_slice(),
+        plan,
+        mapping,
+        numbers,
+    )?;
+    unserved_connections(alloc, library, plan, mapping, numbers, &served)
+}

@@ -1,7 +1,0 @@
-use Rattle.std.proofs.Common.{take}
-use Rattle.std.specs.Prelude.{All}
-use Rattle.fb_check_networks.specs.Heights.{HoldsNone}
-use Rattle.fb_check_networks.proofs.heights.first_holder.Given as goal
-
-abbrev pub invariant-loop-block : goal.invariant-loop-block
-invariant-loop-block l = All (HoldsNone l.marks) (take l.block l.blocks)

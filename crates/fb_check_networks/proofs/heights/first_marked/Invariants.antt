@@ -1,8 +1,0 @@
-use Rattle.std.proofs.Common.{◌≡◌, drop}
-use Rattle.std.specs.Prelude.{position}
-use Rattle.fb_check_networks.proofs.Looking.{following}
-use Rattle.fb_check_networks.specs.Heights.{is_marked}
-use Rattle.fb_check_networks.proofs.heights.first_marked.Given as goal
-
-abbrev pub invariant-loop-component : goal.invariant-loop-component
-invariant-loop-component l = position (is_marked l.marks) l.types ≡ following l.component (position (is_marked l.marks) (drop l.component l.types))

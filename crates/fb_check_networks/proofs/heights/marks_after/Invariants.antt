@@ -1,6 +1,0 @@
-use Rattle.std.proofs.Common.{◌≡◌}
-use Rattle.fb_check_networks.specs.Heights.{marks_after}
-use Rattle.fb_check_networks.proofs.heights.marks_after.Given as goal
-
-abbrev pub invariant-loop-round : goal.invariant-loop-round
-invariant-loop-round l = l.marks.items ≡ marks_after l._round l.blocks

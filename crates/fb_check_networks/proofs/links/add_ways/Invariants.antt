@@ -1,7 +1,0 @@
-use Rattle.std.proofs.Common.{take, map, Contains}
-use Rattle.fb_check_networks.specs.Links.{names_of_link}
-use Rattle.fb_check_networks.proofs.Sets.{Has, pair_cmp, pair_view}
-use Rattle.fb_check_networks.proofs.links.add_ways.Given as goal
-
-abbrev pub invariant-loop-link : goal.invariant-loop-link
-invariant-loop-link l = Has pair_cmp pair_view (Contains (map names_of_link (take l.link-index l.links))) l.ways

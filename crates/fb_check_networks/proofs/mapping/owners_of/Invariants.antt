@@ -1,7 +1,0 @@
-use Rattle.std.proofs.Common.{◌≡◌, ◌++◌, drop}
-use Rattle.fb_check_names.specs.Listed.{each_at, each_from}
-use Rattle.fb_check_networks.specs.Mapping.{owners_in}
-use Rattle.fb_check_networks.proofs.mapping.owners_of.Given as goal
-
-abbrev pub invariant-loop-number : goal.invariant-loop-number
-invariant-loop-number l = l.owners.items ++ each_from owners_in l.number (drop l.number l.resources) ≡ each_at owners_in l.resources

@@ -1,6 +1,0 @@
-use Rattle.std.proofs.Common.{◌≡◌, ◌++◌, ℕ, drop, map}
-use Rattle.fb_check_names.specs.declared.location.Unmapped.TheVariants.{Again}
-use Rattle.fb_check_networks.proofs.mapping.push_again.Given as goal
-
-abbrev pub invariant-loop-pair : goal.invariant-loop-pair
-invariant-loop-pair l = l.found.items ++ map (λ (r : ℕ × ℕ). Again r) (drop l.pair-index l.pairs) ≡ l.fn.found.items ++ map (λ (r : ℕ × ℕ). Again r) l.pairs

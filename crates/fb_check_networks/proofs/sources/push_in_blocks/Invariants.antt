@@ -1,8 +1,0 @@
-use Rattle.std.proofs.Common.{◌≡◌, ◌++◌, drop}
-use Rattle.fb_check_names.specs.Listed.{each_at, each_from}
-use Rattle.fb_check_names.specs.Sites.{inside_of}
-use Rattle.fb_check_networks.specs.Sources.{joined_in}
-use Rattle.fb_check_networks.proofs.sources.push_in_blocks.Given as goal
-
-abbrev pub invariant-loop-block : goal.invariant-loop-block
-invariant-loop-block l = l.found.items ++ each_from (inside_of joined_in) l.block (drop l.block l.blocks) ≡ l.fn.found.items ++ each_at (inside_of joined_in) l.blocks

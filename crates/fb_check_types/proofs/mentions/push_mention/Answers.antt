@@ -1,6 +1,0 @@
-use Rattle.fb_check_types.specs.Mentions.{meant}
-use Rattle.fb_check_types.proofs.Added.{meaning_added}
-use Rattle.fb_check_types.proofs.mentions.push_mention.Goals as goal
-
-pub returns : goal.returns
-returns c = meaning_added c.push_one.result meant c.args.all.now.items c.push_one.new.all.items _ c.push_one.ensures
