@@ -1,7 +1,8 @@
 #!/usr/bin/env python3
 """tools/documents.py: checks that everything that the documents name exists.
 
-- docs/ARCHITECTURE.md has each crate of crates.txt in one table row, with all its modules.
+- docs/ARCHITECTURE.md has each crate of crates.txt in one table row, with all its modules. So does a row of a module like
+  `fb_check::types`.
 - docs/PROOFS.md has each crate, except those of tests, in a row for each promise, and names only functions, clauses and definitions
   that exist.
 - Each block of docs/READING.md is word for word in the file named before it.
@@ -23,7 +24,7 @@ import textwrap
 
 from kit import TOP
 
-ROW = re.compile(r"\| `(fb\w+)` \|.*\|")
+ROW = re.compile(r"\| `(fb\w+(?:::\w+)?)` \|.*\|")
 TEXTS = re.compile(r"`([^`\n]+)`")
 MOST_WORDS = 1800
 MOST_WORDS_OF_AN_ENTRY = 80
@@ -38,10 +39,10 @@ def text_of(place):
 
 
 @functools.cache
-def sources(crate, kind):
-    """Returns the text of all files of a kind in a crate: `src/*.rt` or `specs/*.antt`."""
-    folder, ending = {"src": ("src", "rt"), "specs": ("specs", "antt")}[kind]
-    found = glob.glob(f"{TOP}/crates/{crate}/{folder}/**/*.{ending}", recursive=True)
+def sources(place, kind):
+    """Returns the text of all files of a kind in a crate, or in a module like `fb_check::types`: `src/*.rt` or `specs/*.antt`."""
+    (crate, _, module), (folder, ending) = place.partition("::"), {"src": ("src", "rt"), "specs": ("specs", "antt")}[kind]
+    found = glob.glob(f"{TOP}/crates/{crate}/{folder}/{module}/**/*.{ending}", recursive=True)
     return "\n".join([os.path.basename(it).removesuffix(f".{ending}") + "\n" + text_of(os.path.relpath(it, TOP)) for it in sorted(found)])
 
 
@@ -50,14 +51,14 @@ def crates():
 
 
 def rows(page):
-    """Returns the rows of a page's tables that begin with a crate, as the crate and the cells after it."""
+    """Returns the rows of a page's tables that begin with a crate or a module of one, as its name and the cells after it."""
     lines = [it for it in text_of(page).splitlines() if ROW.fullmatch(it)]
     return [(ROW.fullmatch(it)[1], it.strip("| ").split(" | ")[1:]) for it in lines]
 
 
 def has_all(page, required, may_repeat=False):
     """Returns the faults of a page that must have each of these crates in a row, and in no other one unless crates may repeat."""
-    named = [crate for crate, _ in rows(page)]
+    named = [crate for crate, _ in rows(page) if "::" not in crate]
     counts = {it: bool(named.count(it)) if may_repeat else named.count(it) for it in {*required, *named}}
     return [f"{page}: {it} is in {named.count(it)} rows" for it in sorted(counts) if counts[it] != (it in required)]
 
@@ -66,7 +67,8 @@ def module_faults():
     """Returns the faults of the modules that docs/ARCHITECTURE.md names for each crate, in the last of three cells."""
     page, faults = "docs/ARCHITECTURE.md", []
     for crate, cells in rows(page):
-        found = {os.path.basename(it)[:-3] for it in glob.glob(f"{TOP}/crates/{crate}/src/*.rt")} - {"lib", "tests"}
+        folder, _, module = crate.partition("::")
+        found = {os.path.basename(it)[:-3] for it in glob.glob(f"{TOP}/crates/{folder}/src/{module}/*.rt")} - {"lib", "tests"}
         # (a definition's file is named with its folder)
         named = {it for it in TEXTS.findall(cells[-1]) if "/" not in it} if len(cells) == 3 else found
         faults += [f"{page}: {crate}: {it} is named and does not exist" for it in sorted(named - found)]
@@ -75,7 +77,7 @@ def module_faults():
 
 
 def is_item(crate, path):
-    """Whether a crate has what the last part of a path names: a function, a type or a module."""
+    """Whether a crate, or a module of one, has what the last part of a path names: a function, a type or a module."""
     name = re.escape(path.split("::")[-1].split("(")[0])
     items = rf"\b(fn|struct|enum|trait|type|const|mod) {name}\b"
     return bool(re.search(items, sources(crate, "src")))
@@ -102,19 +104,21 @@ def proof_faults():
 
 
 def definition_faults():
-    """Returns the faults of docs/DEFINITIONS.md, which names each file of definitions with its crate, or only the crate's folder."""
+    """Returns the faults of docs/DEFINITIONS.md, which names each file of definitions with its folder, or only the folder."""
     page, faults = "docs/DEFINITIONS.md", []
     whole, words = text_of(page), set(re.findall(r"\w+", text_of(page)))
-    for crate in crates():
-        found = re.findall(rf"^\| `{crate}/specs(?:/(\w+))?`([^|]*)\|", whole, re.M)
+    of_modules = [os.path.relpath(it, f"{TOP}/crates") for it in sorted(glob.glob(f"{TOP}/crates/*/specs/*/"))]
+    for folder in [*(f"{it}/specs" for it in crates()), *(it for it in of_modules if not it.endswith("/formers"))]:
+        found = re.findall(rf"^\| `{folder}(?:/(\w+))?`([^|]*)\|", whole, re.M)
         names = {it for first, rest in found for it in [first, *TEXTS.findall(rest)]}
-        for it in sorted(glob.glob(f"{TOP}/crates/{crate}/specs/*.antt")):
+        for it in sorted(glob.glob(f"{TOP}/crates/{folder}/*.antt")):
             name = os.path.basename(it).removesuffix(".antt")
             # (those of the model and of the text have their own tables)
-            known = words if crate in ("fb_types", "fb_read") else names
-            if name not in ("Lib", "formers") and "" not in names and name not in known:
-                faults.append(f"{page}: {crate}/specs/{name} is not named")
-        faults += [f"{page}: there is no {crate}/specs/{it}" for it in sorted(names - {""}) if not os.path.exists(f"{TOP}/crates/{crate}/specs/{it}.antt")]
+            known = words if folder in ("fb_types/specs", "fb_read/specs") else names
+            has_definitions = name != "Lib" and not os.path.isdir(it.removesuffix(".antt"))
+            if has_definitions and "" not in names and name not in known:
+                faults.append(f"{page}: {folder}/{name} is not named")
+        faults += [f"{page}: there is no {folder}/{it}" for it in sorted(names - {""}) if not os.path.exists(f"{TOP}/crates/{folder}/{it}.antt")]
     return faults
 
 
@@ -148,7 +152,7 @@ def definition_name_faults(page, known):
     text, faults = re.sub(r"```.*?```", "", text_of(page), flags=re.S), []
     # (`HasX` is no name, but a way to make names)
     faults += [f"{page}: there is no {it}" for it in sorted(set(re.findall(r"`([A-Z][a-z]\w*)`", text)) - known) if it[-1] != "X"]
-    for name, place in re.findall(r"`([A-Z]\w+)` in\s+`(?:crates/)?(fb_\w+/(?:specs|proofs)/\w+)(?:\.antt)?`", text):
+    for name, place in re.findall(r"`([A-Z]\w+)` in\s+`(?:crates/)?(fb_\w+/(?:specs|proofs)/\w+(?:/\w+)*)(?:\.antt)?`", text):
         if not re.search(rf"\b{name}\b", text_of(f"crates/{place}.antt")):
             faults.append(f"{page}: {place} has no {name}")
     return faults

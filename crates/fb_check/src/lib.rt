@@ -6,8 +6,9 @@
 //! locations at which the least number applies. `acceptance::accept` returns a system exactly for inputs that are
 //! accepted, and otherwise the least number that applies.
 //!
-//! Read in this order: `case`, `fault`, `error`, `location` and `refusal`; `judgement`, the checks in the order of
-//! their numbers; `network_checks` (E22 to E25) and `mapping_checks` (E26 to E28); `stimuli` (E29) with `directory` and
+//! Read in this order: `types`, names and kinds (E21, E22), and `networks`, networks and their mapping (E22 to E28,
+//! E30). Then `case`, `fault`, `error`, `location` and `refusal`; `judgement`, the checks in the order of their numbers;
+//! `network_checks` (E22 to E25) and `mapping_checks` (E26 to E28); `stimuli` (E29) with `directory` and
 //! `directory_making`, what stimuli may name. Then `acceptance`.
 #![tactic(auto)]
 
