@@ -3,8 +3,8 @@ use Rattle.std.proofs.Common.{◌≡◌, ℕ, Bool, true, false, not, ◌&&◌, 
 use Rattle.std.specs.Prelude.{◌↔◌, IsTrue, MatchOption, option_map, option_and_then, is_some, position, slice_get}
 use Rattle.std.specs.Bool.{Decides}
 use Rattle.std.specs.BTreeMap.{BTreeMap}
-use Rattle.std.specs.List.{list_all, filter}
-use Rattle.std.proofs.lemmas.Bool.{true≢false}
+use Rattle.std.specs.List.{list_all}
+use Rattle.std.proofs.lemmas.Bool.{true≢false, and_parts}
 use Rattle.fb_types.specs.Names.{Name, same_name}
 use Rattle.fb_types.specs.Values.{fits}
 use Rattle.fb_types.specs.Blocks.{Kind, named, ports_of, event_names, variable_names, is_event_input, inputs_with}
@@ -36,41 +36,17 @@ use Rattle.fb_types.proofs.Options.{none_from_is_some}
 use Rattle.fb_types.proofs.ListTests.{passes_from}
 use Rattle.fb_check.proofs.Found.{ports_placed}
 use Rattle.fb_check.proofs.Refused.{HasRefused}
-use Rattle.fb_check.proofs.Sources.{has_source, port, and-first, and-second}
+use Rattle.fb_check.proofs.Sources.{has_source, port}
+use Rattle.fb_check.proofs.networks.Elements.{Contains-filter, filter-Contains}
 
 -- ---- Lists
-
-Contains-filter : {A : Type 0} (p : A → Bool) (xs : List A) (x : A) → Contains xs x → p x ≡ true → Contains (filter p xs) x
-Contains-filter p [] x c h = absurd (Contains-nil x c)
-Contains-filter {A} p (y ∷ ys) x c h =
-    elim (p y) as (λ b. p y ≡ b → Contains (cond b (y ∷ filter p ys) (filter p ys)) x) [
-      | true ↦ λ e. elim (Contains-cons_cases y ys x c) [
-        | inl same ↦ subst (λ (z : A). Contains (y ∷ filter p ys) z) same (Contains-here y (filter p ys))
-        | inr rest ↦ Contains-there y (filter p ys) x (Contains-filter p ys x rest h)
-      ]
-      | false ↦ λ e. elim (Contains-cons_cases y ys x c) [
-        | inl same ↦ absurd (true≢false (sym h ∙ ap p (sym same) ∙ e))
-        | inr rest ↦ Contains-filter p ys x rest h
-      ]
-    ] refl
-
-filter-passes : {A : Type 0} (p : A → Bool) (xs : List A) (x : A) → Contains (filter p xs) x → p x ≡ true
-filter-passes p [] x c = absurd (Contains-nil x c)
-filter-passes {A} p (y ∷ ys) x c =
-    elim (p y) as (λ b. p y ≡ b → Contains (cond b (y ∷ filter p ys) (filter p ys)) x → p x ≡ true) [
-      | true ↦ λ e c. elim (Contains-cons_cases y (filter p ys) x c) [
-        | inl same ↦ ap p (sym same) ∙ e
-        | inr rest ↦ filter-passes p ys x rest
-      ]
-      | false ↦ λ e c. filter-passes p ys x c
-    ] refl c
 
 each_from_all : {A : Type 0} (p : A → Bool) (xs : List A) → list_all p xs ≡ true → (x : A) → Contains xs x → p x ≡ true
 each_from_all p [] all x c = absurd (Contains-nil x c)
 each_from_all p (y ∷ ys) all x c =
     elim (Contains-cons_cases y ys x c) [
-      | inl same ↦ ap p (sym same) ∙ and-first (p y) (list_all p ys) all
-      | inr rest ↦ each_from_all p ys (and-second (p y) (list_all p ys) all) x rest
+      | inl same ↦ ap p (sym same) ∙ (and_parts (p y) (list_all p ys) all).0
+      | inr rest ↦ each_from_all p ys (and_parts (p y) (list_all p ys) all).1 x rest
     ]
 
 named-among : {A : Type 0} (f : A → Name) (n : Name) (xs : List A) (x : A) → named f n xs ≡ Some x → Contains (map f xs) n
@@ -140,14 +116,14 @@ settable_from lib k s v known of h =
     let p = ports_of k in
     let with = lists p.event_inputs s.event v.variable in
     let led = leads_to lib.application.network.data_connections s.instance v.variable in
-    let rest = and-second with (not led && is_held p v) h in
-    let held = and-second (not led) (is_held p v) rest in
+    let rest = (and_parts with (not led && is_held p v) h).1 in
+    let held = (and_parts (not led) (is_held p v) rest).1 in
     let input = input_of_held p v held in
     record {
-      with_event = Contains-filter (lists p.event_inputs s.event) (variable_names p.inputs) v.variable input (and-first with (not led && is_held p v) h);
+      with_event = Contains-filter (lists p.event_inputs s.event) (variable_names p.inputs) v.variable input (and_parts with (not led && is_held p v) h).0;
       unconnected =
           none_from_is_some (source_of lib (port s.instance v.variable))
-          (has_source lib known.plan s.instance v.variable k known.once known.known of input ∙ not-true led (and-first (not led) (is_held p v) rest));
+          (has_source lib known.plan s.instance v.variable k known.once known.known of input ∙ not-true led (and_parts (not led) (is_held p v) rest).0);
       held = held;
     }
 
@@ -157,7 +133,7 @@ can_set_from lib k s v known of is =
     let input = input_of_held p v is.held in
     let free : leads_to lib.application.network.data_connections s.instance v.variable ≡ false =
     sym (has_source lib known.plan s.instance v.variable k known.once known.known of input) ∙ ap is_some is.unconnected in
-    λ i. filter-passes (lists p.event_inputs s.event) (variable_names p.inputs) v.variable is.with_event i && (not (free i) && is.held i)
+    λ i. filter-Contains (lists p.event_inputs s.event) (variable_names p.inputs) v.variable is.with_event i && (not (free i) && is.held i)
 
 -- ---- A stimulus
 

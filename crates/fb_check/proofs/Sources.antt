@@ -3,7 +3,7 @@
 use Rattle.std.proofs.Common.{◌≡◌, Bool, true, false, ◌&&◌, ◌||◌, cond, List, [], ◌∷◌, ◌++◌, map, Option, Some, None, Contains, refl, sym, ◌∙◌, ap, subst, inl, inr}
 use Rattle.std.specs.Prelude.{option_map, option_and_then, is_some, flat_map}
 use Rattle.std.specs.List.{list_any, list_all, filter}
-use Rattle.std.proofs.lemmas.Bool.{true≢false, false_from_ne_true}
+use Rattle.std.proofs.lemmas.Bool.{false_from_ne_true, and_parts}
 use Rattle.std.proofs.lemmas.List.Folds.{list_any-append}
 use Rattle.std.proofs.lemmas.List.Elements.{Contains-append_right}
 use Rattle.fb_types.specs.Names.{Name, Path, Port, same_name, same_port}
@@ -82,14 +82,6 @@ and-false-and : (a b : Bool) → ((a && false) && b) ≡ false
 and-false-and true b = refl
 and-false-and false b = refl
 
-pub and-first : (a b : Bool) → (a && b) ≡ true → a ≡ true
-and-first true b h = refl
-and-first false b h = h
-
-pub and-second : (a b : Bool) → (a && b) ≡ true → b ≡ true
-and-second true b h = h
-and-second false b h = absurd (true≢false (sym h))
-
 abbrev at_end : Option Name → Name → PortName
 at_end o m = record { component = o; port = m }
 
@@ -113,9 +105,9 @@ inside_apart lib t c n (w ∷ ws) apart known =
     let from = is_end lib (Some t, t.network) data_outs data_ins w.from in
     let to = is_end lib (Some t, t.network) data_ins data_outs w.to in
     let rest = list_all (λ w. is_end lib (Some t, t.network) data_outs data_ins w.from && is_end lib (Some t, t.network) data_ins data_outs w.to) ws in
-    let here : same_port (port_in (c ∷ []) w.to) (port c n) ≡ false = end_apart lib t w.to.component w.to.port c n apart (and-second from to (and-first (from && to) rest known)) in
+    let here : same_port (port_in (c ∷ []) w.to) (port c n) ≡ false = end_apart lib t w.to.component w.to.port c n apart (and_parts from to (and_parts (from && to) rest known).0).1 in
     ap (λ b. b || list_any (λ w. same_port w.1 (port c n)) (pairs_in (c ∷ []) ws)) here
-    ∙ inside_apart lib t c n ws apart (and-second (from && to) rest known)
+    ∙ inside_apart lib t c n ws apart (and_parts (from && to) rest known).1
 
 -- ---- Types of instances
 
@@ -167,7 +159,7 @@ known_inside lib plan t known c =
     let events = list_all (λ w. is_end lib placed event_outs event_ins w.from && is_end lib placed event_ins event_outs w.to) t.network.event_connections in
     let carries = list_all (λ w. is_end lib placed data_outs data_ins w.from && is_end lib placed data_ins data_outs w.to) t.network.data_connections in
     elim (ends_known lib placed) as (λ b. ends_known lib placed ≡ b → carries ≡ true) [
-      | true ↦ λ e. and-second events carries e
+      | true ↦ λ e. (and_parts events carries e).1
       | false ↦ λ e. absurd (known (inr (inr (placed, there, e))))
     ] refl
 

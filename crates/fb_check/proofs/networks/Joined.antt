@@ -1,5 +1,5 @@
 -- E23 by number: a data connection to a type that does not contain all values of the source type.
-use Rattle.std.proofs.Common.{◌≡◌, ℕ, Bool, true, false, not, List, [], ◌∷◌, ◌++◌, Option, Some, None, Contains, refl, sym, ◌∙◌, ap, subst, cond, inl, inr}
+use Rattle.std.proofs.Common.{◌≡◌, ℕ, true, false, not, List, [], ◌∷◌, ◌++◌, Option, Some, None, Contains, refl, sym, ◌∙◌, ap, subst, cond, inl, inr}
 use Rattle.std.specs.Prelude.{All, slice_get, option_map, option_and_then, position, flat_map}
 use Rattle.std.specs.List.{list_all}
 use Rattle.std.proofs.lemmas.Bool.{true≢false}
@@ -47,6 +47,7 @@ use Rattle.fb_check.proofs.networks.Naming.{IsApart, type_by_number, composite_a
 use Rattle.fb_check.proofs.networks.Numbered.{numbered_list}
 use Rattle.fb_check.proofs.networks.Placing.{application_in, inside_in}
 use Rattle.fb_check.proofs.networks.Ranged.{within-Decides}
+use Rattle.fb_check.proofs.networks.Valued.{not_not}
 
 -- ---- The variable with a name
 
@@ -210,10 +211,6 @@ wire_types lib plan n x c w once there is h =
       end_by_number lib n x (λ p. p.inputs) (λ p. p.outputs) c.to w.to is
           (λ t k kind e j. inputs_among (ports_of k) e j) (λ t around e j. outputs_among t.ports e j (around_apart lib plan n t once there around)) ends.1,
     )
-
-not_not : (b : Bool) → not (not b) ≡ b
-not_not true = refl
-not_not false = refl
 
 within : (o p : Option Ty) (s t : Ty) → not (is_out o p) ≡ true → o ≡ Some s → p ≡ Some t → IsWithin s t
 within o p s t h from to =

@@ -1,10 +1,10 @@
 -- What the numbers of types and the indexes of ports say of the names that they represent.
 use Rattle.std.proofs.Common.{◌≡◌, ℕ, zero, suc, List, [], ◌∷◌, ◌++◌, map, Some, None, Contains, refl, ◌∙◌, ap, subst, inl, inr}
-use Rattle.std.specs.Prelude.{slice_get, option_map, option_and_then, position, flat_map}
+use Rattle.std.specs.Prelude.{slice_get, option_map, option_and_then, flat_map}
 use Rattle.std.proofs.lemmas.List.Elements.{Contains-append_left, Contains-append_right}
-use Rattle.fb_types.specs.Names.{Name, same_name}
-use Rattle.fb_types.specs.Blocks.{Kind, Event, named, event_blocks, event_names, variable_names, ports_of, ports_of_event_block}
-use Rattle.fb_types.specs.Flat.{kind_of, type_name, type_named, resource_names_of}
+use Rattle.fb_types.specs.Names.{Name}
+use Rattle.fb_types.specs.Blocks.{Kind, Event, event_names, variable_names, ports_of, ports_of_event_block}
+use Rattle.fb_types.specs.Flat.{kind_of, type_named, resource_names_of}
 use Rattle.fb_types.specs.Repeated.{Twice, OwnedNetwork, NameTwice, networks, networks_in, port_names, internals_of, name_spaces, block_type_names, algorithm_names, state_names, basics, instance_names, with_lists, interfaces, parameter_lists}
 use Rattle.fb_types.specs.declared.library.Library.{Library}
 use Rattle.fb_types.specs.declared.library.BlockType.{BlockType}
@@ -13,34 +13,20 @@ use Rattle.fb_types.specs.declared.library.CompositeType.{CompositeType}
 use Rattle.fb_types.specs.declared.library.Ports.{Ports}
 use Rattle.fb_types.specs.declared.event_kind.EventKind.{EventKind}
 use Rattle.fb_types.specs.declared.deploy.Plan.{Plan}
-use Rattle.fb_types.proofs.Positions.{named-position}
 use Rattle.fb_types.proofs.TwiceLaws.{Twice-append_left, Twice-both}
 use Rattle.fb_types.proofs.Elements.{Contains-nil, Contains-cons_cases, Contains-here, Contains-there, Contains-map}
 use Rattle.fb_types.proofs.ByIndex.{element_of_index}
 use Rattle.fb_types.proofs.EventNames.{variables_once}
 use Rattle.fb_check_names.specs.declared.numbers.TypeNumber.{TypeNumber}
 use Rattle.fb_check_names.specs.declared.numbers.TypeNumber.TheVariants as number
-use Rattle.fb_check_names.specs.Numbers.{index_of, type_number, kind_of_number}
+use Rattle.fb_check_names.specs.Numbers.{type_number, kind_of_number}
+use Rattle.fb_check_names.proofs.Lookups.{type_named-number}
 
 -- ---- Types
 
--- a name and its number represent one type
-pub type_numbered : (lib : Library) (n : Name) → type_named lib n ≡ option_and_then (kind_of_number lib) (type_number lib n)
-type_numbered lib n =
-    elim (named (λ e. e.0) n event_blocks) as
-    (λ o. elim o [ Some e ↦ Some (Event e.1) | None ↦ option_map kind_of (named type_name n lib.blocks) ]
-    ≡ option_and_then (kind_of_number lib) (elim (option_map (λ e. e.1) o) [ Some k ↦ Some (number.Event k) | None ↦ option_map (λ t. number.Declared t) (index_of (map type_name lib.blocks) n) ])) [
-      | Some e ↦ refl
-      | None ↦
-          ap (option_map kind_of) (named-position type_name n lib.blocks)
-          ∙ (elim (position (same_name n) (map type_name lib.blocks)) as
-          (λ o. option_map kind_of (option_and_then (slice_get lib.blocks) o) ≡ option_and_then (kind_of_number lib) (option_map (λ t. number.Declared t) o))
-          [ None ↦ refl | Some t ↦ refl ])
-    ]
-
 pub type_by_number :
     (lib : Library) (n : Name) (t : TypeNumber) → type_number lib n ≡ Some t → type_named lib n ≡ kind_of_number lib t
-type_by_number lib n t h = type_numbered lib n ∙ ap (option_and_then (kind_of_number lib)) h
+type_by_number lib n t h = type_named-number lib n ∙ ap (option_and_then (kind_of_number lib)) h
 
 -- ---- Networks
 

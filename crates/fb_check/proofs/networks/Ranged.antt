@@ -1,8 +1,8 @@
 -- Which types contain all values of another, by their ranges.
-use Rattle.std.proofs.Common.{◌≡◌, Bool, true, false, ◌&&◌, Option, Some, None, refl, sym, ◌∙◌, ap, arith}
+use Rattle.std.proofs.Common.{◌≡◌, Bool, true, false, ◌&&◌, Option, Some, None, refl, sym, ◌∙◌, arith}
 use Rattle.std.specs.Prelude.{ℤ, pos, int_le, int_lt, ◌-ℤ◌}
 use Rattle.std.specs.Bool.{Decides}
-use Rattle.std.proofs.lemmas.Bool.{true≢false}
+use Rattle.std.proofs.lemmas.Bool.{true≢false, and_parts, and_from}
 use Rattle.std.proofs.lemmas.Int.{ints}
 use Rattle.fb_types.specs.Values.{fits}
 use Rattle.fb_types.specs.Joined.{IsWithin}
@@ -61,17 +61,6 @@ first_of_range ty.Bool = refl
 
 -- ---- Numbers
 
-both : (a b : Bool) → a ≡ true → b ≡ true → (a && b) ≡ true
-both a b h g = ap (λ x. x && b) h ∙ g
-
-first_part : (a b : Bool) → (a && b) ≡ true → a ≡ true
-first_part true b h = refl
-first_part false b h = h
-
-second_part : (a b : Bool) → (a && b) ≡ true → b ≡ true
-second_part true b h = h
-second_part false b h = absurd (true≢false (sym h))
-
 le_itself : (a : ℤ) → int_le a a ≡ true
 le_itself a = grind (arith, ints)
 
@@ -98,25 +87,25 @@ HoldsAll o p = (v : Value) → fits_by o v ≡ true → fits_by p v ≡ true
 holds_range : (r q : Range) → is_range_within (Some r) (Some q) ≡ true → HoldsAll (Some r) (Some q)
 holds_range r q h (value.Bool b) g = g
 holds_range r q h (value.Whole z) g =
-    both (int_le q.0 z) (int_lt z q.1)
-    (le_through q.0 r.0 z (first_part (int_le q.0 r.0) (int_le r.1 q.1) h) (first_part (int_le r.0 z) (int_lt z r.1) g))
-    (lt_through z r.1 q.1 (second_part (int_le r.0 z) (int_lt z r.1) g) (second_part (int_le q.0 r.0) (int_le r.1 q.1) h))
+    and_from (int_le q.0 z) (int_lt z q.1)
+    (le_through q.0 r.0 z (and_parts (int_le q.0 r.0) (int_le r.1 q.1) h).0 (and_parts (int_le r.0 z) (int_lt z r.1) g).0)
+    (lt_through z r.1 q.1 (and_parts (int_le r.0 z) (int_lt z r.1) g).1 (and_parts (int_le q.0 r.0) (int_le r.1 q.1) h).1)
 
 within_range : (r q : Range) → int_lt r.0 r.1 ≡ true → HoldsAll (Some r) (Some q) → is_range_within (Some r) (Some q) ≡ true
 within_range r q some h =
     let last = r.1 -ℤ pos 1 in
-    let least_held = h (value.Whole r.0) (both (int_le r.0 r.0) (int_lt r.0 r.1) (le_itself r.0) some) in
-    let last_held = h (value.Whole last) (both (int_le r.0 last) (int_lt last r.1) (le_last r.0 r.1 some) (lt_last r.1)) in
-    both (int_le q.0 r.0) (int_le r.1 q.1)
-    (first_part (int_le q.0 r.0) (int_lt r.0 q.1) least_held)
-    (le_from_last r.1 q.1 (second_part (int_le q.0 last) (int_lt last q.1) last_held))
+    let least_held = h (value.Whole r.0) (and_from (int_le r.0 r.0) (int_lt r.0 r.1) (le_itself r.0) some) in
+    let last_held = h (value.Whole last) (and_from (int_le r.0 last) (int_lt last r.1) (le_last r.0 r.1 some) (lt_last r.1)) in
+    and_from (int_le q.0 r.0) (int_le r.1 q.1)
+    (and_parts (int_le q.0 r.0) (int_lt r.0 q.1) least_held).0
+    (le_from_last r.1 q.1 (and_parts (int_le q.0 last) (int_lt last q.1) last_held).1)
 
 range-Decides : (o p : Option Range) → has_first o ≡ true → Decides (is_range_within o p) (HoldsAll o p)
 range-Decides None None some = (λ _ v h. h, λ _. refl)
 range-Decides None (Some q) some = (λ h. absurd (true≢false (sym h)), λ h. absurd (true≢false (sym (h (value.Bool true) refl))))
 range-Decides (Some r) None some = (
   λ h. absurd (true≢false (sym h)),
-  λ h. absurd (true≢false (sym (h (value.Whole r.0) (both (int_le r.0 r.0) (int_lt r.0 r.1) (le_itself r.0) some)))),
+  λ h. absurd (true≢false (sym (h (value.Whole r.0) (and_from (int_le r.0 r.0) (int_lt r.0 r.1) (le_itself r.0) some)))),
 )
 range-Decides (Some r) (Some q) some = (holds_range r q, within_range r q some)
 

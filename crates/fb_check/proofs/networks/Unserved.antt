@@ -4,7 +4,7 @@ use Rattle.std.specs.Prelude.{All, is_some, nat_eq}
 use Rattle.std.specs.List.{list_any}
 use Rattle.std.specs.Bool.{Decides}
 use Rattle.std.specs.BTreeSet as set
-use Rattle.std.proofs.lemmas.Bool.{true≢false, false_from_ne_true}
+use Rattle.std.proofs.lemmas.Bool.{true≢false, false_from_ne_true, and_parts}
 use Rattle.std.proofs.lemmas.Bool.Decides.{nat_tests}
 use Rattle.fb_types.specs.Names.{Name, Port, same_name, same_path}
 use Rattle.fb_types.specs.Blocks.{Kind, ports_of, outputs_with, event_names, variable_names}
@@ -111,10 +111,6 @@ serves_from lib plan c k is s =
 
 -- ---- Tests
 
-and_both : (a b : Bool) → (a && b) ≡ true → (a ≡ true) × (b ≡ true)
-and_both true b h = (refl, h)
-and_both false b h = absurd (true≢false (sym h))
-
 or_true : (b : Bool) → (b || true) ≡ true
 or_true true = refl
 or_true false = refl
@@ -140,8 +136,8 @@ served_from_brings :
     (lib : Library) (plan : Plan) (d e : Connection) → Contains lib.application.network.event_connections e → brings lib plan d e ≡ true
     → IsServed lib plan (pair_of d)
 served_from_brings lib plan d e there h =
-    let both = and_both (begin_together e d) (carries (kind_at lib (port_in [] d.from).at) e.from.port d.from.port && end_together plan e d) h in
-    let more = and_both (carries (kind_at lib (port_in [] d.from).at) e.from.port d.from.port) (end_together plan e d) both.1 in
+    let both = and_parts (begin_together e d) (carries (kind_at lib (port_in [] d.from).at) e.from.port d.from.port && end_together plan e d) h in
+    let more = and_parts (carries (kind_at lib (port_in [] d.from).at) e.from.port d.from.port) (end_together plan e d) both.1 in
     let k = carried (kind_at lib (port_in [] d.from).at) e.from.port d.from.port more.0 in
     let to : resource_of plan (port_in [] e.to).at ≡ resource_of plan (port_in [] d.to).at = let t = more.1 in grind (arith, nat_tests, t) in
     let names : Contains (outputs_with (ports_of k.0) (port_in [] e.from).name) (port_in [] d.from).name =

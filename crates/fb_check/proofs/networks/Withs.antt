@@ -1,8 +1,8 @@
 -- The variables WITH an output event, if the names of a type differ.
-use Rattle.std.proofs.Common.{◌≡◌, ◌||◌, ◌&&◌, Bool, true, false, cond, List, [], ◌∷◌, ◌++◌, map, Option, Some, None, Contains, refl, sym, ap, subst, inl, inr}
+use Rattle.std.proofs.Common.{◌≡◌, ◌||◌, ◌&&◌, true, false, cond, List, [], ◌∷◌, ◌++◌, map, Option, Some, None, Contains, refl, sym, ap, subst, inl, inr}
 use Rattle.std.specs.Prelude.{option_map, flat_map}
 use Rattle.std.specs.List.{list_any}
-use Rattle.std.proofs.lemmas.Bool.{true≢false}
+use Rattle.std.proofs.lemmas.Bool.{and_parts}
 use Rattle.std.proofs.lemmas.List.Elements.{Contains-append_left}
 use Rattle.fb_types.specs.Names.{Name, same_name}
 use Rattle.fb_types.specs.Blocks.{Kind, Event, named, among, event_names, variable_names, variables_with, event_blocks, ports_of, ports_of_event_block, goes_with}
@@ -23,10 +23,6 @@ use Rattle.fb_check.specs.networks.Serving.{listed_with}
 use Rattle.fb_check.proofs.networks.Elements.{Contains-filter, filter-Contains}
 
 -- ---- One list of events
-
-and_parts : (a b : Bool) → (a && b) ≡ true → (a ≡ true) × (b ≡ true)
-and_parts true b h = (refl, h)
-and_parts false b h = absurd (true≢false (sym h))
 
 -- a name that goes with an event is listed at an event of that name
 any_named : (e v : Name) (ps : List EventPort) → list_any (goes_with e v) ps ≡ true → Contains (event_names ps) e

@@ -23,6 +23,7 @@ use Rattle.fb_types.specs.declared.deploy.Link.{Link}
 use Rattle.fb_types.specs.declared.deploy.Plan.{Plan}
 use Rattle.fb_types.specs.declared.deploy.ResourceEntry.{ResourceEntry}
 use Rattle.fb_types.proofs.NameLaws.{contains_from_any}
+use Rattle.fb_types.proofs.Options.{map_parts}
 use Rattle.fb_check.specs.types.Checks.{guard_mentions, is_met}
 use Rattle.fb_check_names.specs.Types.{ports_of_block}
 use Rattle.fb_check.specs.declared.types.basics.Naming.{Naming}
@@ -49,10 +50,6 @@ use Rattle.fb_check_names.proofs.Listing.{there_each, there_unless}
 use Rattle.fb_check.proofs.types.NetworkLocations.{any_map}
 
 -- ---- One location
-
-pub map_some : {A B : Type 0} (f : A → B) (o : Option A) (y : B) → option_map f o ≡ Some y → (x : A) × (o ≡ Some x) × (f x ≡ y)
-map_some f None y h = absurd (cc)
-map_some f (Some x) y h = (x, refl, same_Some (f x) y h)
 
 pub then_some : {A B : Type 0} (f : A → Option B) (o : Option A) (y : B) → option_and_then f o ≡ Some y → (x : A) × (o ≡ Some x) × (f x ≡ Some y)
 then_some f None y h = absurd (cc)
@@ -135,7 +132,7 @@ from_instance lib plan s k i p at h =
 there_type : (lib : Library) (plan : Plan) (s : Site) (k : ℕ) → IsUnknownAt lib plan (location.InstanceType s k) → Contains (unknown_all lib plan) (location.InstanceType s k)
 there_type lib plan s k u =
     let p = location.InstanceType s k in
-    let i = map_some (type_required lib) (instance_at lib s k) u.0 u.1 in
+    let i = map_parts (type_required lib) (instance_at lib s k) u.0 u.1 in
     from_instance lib plan s k i.0 p i.1
     (Contains-append_left (unless (is_type_met lib i.0) p) (unknown_parameters lib s k i.0) p (there_unless (is_type_met lib i.0) p (not_met_of (type_required lib i.0) u.0 i.2 u.2)))
 
@@ -181,7 +178,7 @@ there_variable lib plan b d e v u =
     let ports = ports_of_block t.0 in
     let known : List Name = variables_for d ports in
     let x = then_some (λ (x : EventPort). option_map (λ (n : Name). (n, known)) (slice_get x.with v)) (slice_get (events_of d ports) e) u.0 t.2 in
-    let n = map_some (λ (n : Name). (n, known)) (slice_get x.0.with v) u.0 x.2 in
+    let n = map_parts (λ (n : Name). (n, known)) (slice_get x.0.with v) u.0 x.2 in
     let here : Contains (unknown_withs b d ports) p =
     there_each (unknown_variables known b d) (events_of d ports) e x.0 p x.1
     (there_each (λ v n. unless (among known n) (location.With b d e v)) x.0.with v n.0 p n.1 (there_unless (among known n.0) p (not_met_of (n.0, known) u.0 n.2 u.2))) in
@@ -256,7 +253,7 @@ there_guard :
     (lib : Library) (plan : Plan) (b k m : ℕ) → IsUnknownMention lib b (guard_at k) m → Contains (unknown_all lib plan) (location.Guard b k m)
 there_guard lib plan b k m u =
     let t = u.in_type in
-    let x = map_some guard_mentions (slice_get t.transitions k) u.among u.there in
+    let x = map_parts guard_mentions (slice_get t.transitions k) u.among u.there in
     let p = location.Guard b k m in
     from_transition lib plan b k t x.0 p u.at x.1
     (Contains-append_right (unknown_names t b k x.0) (unknown_mentions t (naming.Guard b k) (guard_mentions x.0)) p
@@ -266,7 +263,7 @@ there_in_body :
     (lib : Library) (plan : Plan) (b k m : ℕ) → IsUnknownMention lib b (body_at k) m → Contains (unknown_all lib plan) (location.Body b k m)
 there_in_body lib plan b k m u =
     let t = u.in_type in
-    let a = map_some (λ (a : Algorithm). mentions_body (body_of a.body)) (slice_get t.algorithms k) u.among u.there in
+    let a = map_parts (λ (a : Algorithm). mentions_body (body_of a.body)) (slice_get t.algorithms k) u.among u.there in
     let p = location.Body b k m in
     let states = each_at (unknown_in_state t b) t.states in
     let transitions = each_at (unknown_in_transition t b) t.transitions in
@@ -286,7 +283,7 @@ there_mapped lib plan r k u =
     let is = lib.application.network.instances in
     let ns : List Name = instance_names lib.application.network in
     let x = then_some (λ (x : ResourceEntry). option_map (λ (n : Name). (n, ns)) (slice_get x.instances k)) (slice_get plan.resources r) u.0 u.1 in
-    let n = map_some (λ (n : Name). (n, ns)) (slice_get x.0.instances k) u.0 x.2 in
+    let n = map_parts (λ (n : Name). (n, ns)) (slice_get x.0.instances k) u.0 x.2 in
     from_deployment lib plan p
     (Contains-append_left (each_at (unknown_mapped is) plan.resources) (each_at (unknown_sides plan.resources) plan.links) p
     (there_each (unknown_mapped is) plan.resources r x.0 p x.1
@@ -298,7 +295,7 @@ there_side :
 there_side lib plan k side u =
     let rs = plan.resources in
     let ns : List Name = resource_names_of plan in
-    let l = map_some (λ (l : Link). (side_of side l, ns)) (slice_get plan.links k) u.0 u.1 in
+    let l = map_parts (λ (l : Link). (side_of side l, ns)) (slice_get plan.links k) u.0 u.1 in
     let from = unless (is_resource rs l.0.from) (location.LinkEnd k From) in
     let to = unless (is_resource rs l.0.to) (location.LinkEnd k To) in
     let fails : is_resource rs (side_of side l.0) ≡ false =

@@ -31,6 +31,7 @@ use Rattle.fb_types.proofs.ByIndex.{element_of_index}
 use Rattle.fb_types.proofs.Elements.{Contains-flat_map, Contains-here, Contains-map, Contains-there}
 use Rattle.fb_types.proofs.ListTests.{fails_at, fails_from, passes_at}
 use Rattle.fb_types.proofs.NameLaws.{any_from_contains, contains_from_any}
+use Rattle.fb_types.proofs.Options.{map_parts}
 use Rattle.fb_check_names.specs.Parts.{ArePartsKnown, required_parts}
 use Rattle.fb_check_names.specs.Types.{ports_of_block}
 use Rattle.fb_check_names.proofs.Resolving.{of_deployment, of_network}
@@ -51,7 +52,7 @@ use Rattle.fb_check_names.specs.declared.location.UnknownName.TheVariants as loc
 use Rattle.fb_check_names.proofs.InNetworks.{site_network}
 use Rattle.fb_check.specs.types.Checks.{action_met, actions_met, all_known, all_met, body_known, guard_known, guard_mentions, is_known_block, is_known_chart, is_met, transition_met, with_inputs, with_outputs}
 use Rattle.fb_check.specs.types.Unknown.{IsUnknownAt, IsUnknownEnd, IsUnknownMention, Unmet, are_ends_known, body_at, events_of, guard_at, is_side_known, link_required, mapped_required, parameter_required, required_action, required_transition, side_of, type_required, variables_for, with_required}
-use Rattle.fb_check.proofs.types.AllThere.{map_some, not_met, not_met_of, then_some}
+use Rattle.fb_check.proofs.types.AllThere.{not_met, not_met_of, then_some}
 use Rattle.fb_check.proofs.types.Checks.{chart_met, known_answer, mentions_met, withs_met}
 
 -- ---- A part of a block type is unknown
@@ -126,7 +127,7 @@ with_applies lib plan b d e v u =
     let t = then_some (λ (t : BlockType). with_required (ports_of_block t) d e v) (slice_get lib.blocks b) u.0 u.1 in
     let p = ports_of_block t.0 in
     let x = then_some (λ (x : EventPort). option_map (λ (n : Name). (n, variables_for d p)) (slice_get x.with v)) (slice_get (events_of d p) e) u.0 t.2 in
-    let n = map_some (λ (n : Name). (n, variables_for d p)) (slice_get x.0.with v) u.0 x.2 in
+    let n = map_parts (λ (n : Name). (n, variables_for d p)) (slice_get x.0.with v) u.0 x.2 in
     let names = fails_from (among (variables_for d p)) x.0.with n.0 (element_of_index x.0.with v n.0 n.1) (not_met_of (n.0, variables_for d p) u.0 n.2 u.2) in
     block_unknown lib plan t.0 (element_of_index lib.blocks b t.0 t.1)
     (and_left (all_met (required_withs p)) (is_known_chart t.0) (withs_unmet p d x.0 (element_of_index (events_of d p) e x.0 x.1) names))
@@ -189,7 +190,7 @@ mention_unknown t h = and_right (all_met (required_chart t)) (all_known t (menti
 guard_applies : (lib : Library) (plan : Plan) (b k m : ℕ) → IsUnknownMention lib b (guard_at k) m → NameUnknown lib plan
 guard_applies lib plan b k m u =
     let t = u.in_type in
-    let x = map_some guard_mentions (slice_get t.transitions k) u.among u.there in
+    let x = map_parts guard_mentions (slice_get t.transitions k) u.among u.there in
     let known : guard_known t x.0 ≡ false =
     fails_from (is_known t) (guard_mentions x.0) u.at_index (element_of_index (guard_mentions x.0) m u.at_index (ap (λ (ms : List Mention). slice_get ms m) x.2 ∙ u.found)) u.unknown in
     chart_unknown lib plan b t u.at
@@ -199,7 +200,7 @@ guard_applies lib plan b k m u =
 body_applies : (lib : Library) (plan : Plan) (b k m : ℕ) → IsUnknownMention lib b (body_at k) m → NameUnknown lib plan
 body_applies lib plan b k m u =
     let t = u.in_type in
-    let a = map_some (λ (a : Algorithm). mentions_body (body_of a.body)) (slice_get t.algorithms k) u.among u.there in
+    let a = map_parts (λ (a : Algorithm). mentions_body (body_of a.body)) (slice_get t.algorithms k) u.among u.there in
     let ms = mentions_body (body_of a.0.body) in
     let known : body_known t a.0 ≡ false =
     fails_from (is_known t) ms u.at_index (element_of_index ms m u.at_index (ap (λ (ms : List Mention). slice_get ms m) a.2 ∙ u.found)) u.unknown in
@@ -217,7 +218,7 @@ out_of v w e h = subst (λ (x : Required). ¬ (Contains x.1 x.0)) (sym e) h
 
 type_applies : (lib : Library) (plan : Plan) (s : Site) (k : ℕ) → IsUnknownAt lib plan (location.InstanceType s k) → NameUnknown lib plan
 type_applies lib plan s k u =
-    let i = map_some (type_required lib) (instance_at lib s k) u.0 u.1 in
+    let i = map_parts (type_required lib) (instance_at lib s k) u.0 u.1 in
     let n = then_some (λ (n : OwnedNetwork). slice_get n.1.instances k) (network_at lib s) i.0 i.1 in
     let net : OwnedNetwork = n.0 in
     let w = type_required lib i.0 in
@@ -261,7 +262,7 @@ mapped_applies : (lib : Library) (plan : Plan) (r k : ℕ) → Unmet (mapped_req
 mapped_applies lib plan r k u =
     let ns : List Name = instance_names lib.application.network in
     let x = then_some (λ (x : ResourceEntry). option_map (λ (n : Name). (n, ns)) (slice_get x.instances k)) (slice_get plan.resources r) u.0 u.1 in
-    let n = map_some (λ (n : Name). (n, ns)) (slice_get x.0.instances k) u.0 x.2 in
+    let n = map_parts (λ (n : Name). (n, ns)) (slice_get x.0.instances k) u.0 x.2 in
     let lists : ResourceEntry → List Required = λ r. all_of r.instances ns in
     of_deployment lib plan (
       (n.0, ns),
@@ -277,7 +278,7 @@ side_among To l = Contains-there l.from (l.to ∷ []) l.to (Contains-here l.to [
 link_applies : (lib : Library) (plan : Plan) (k : ℕ) (side : Side) → Unmet (link_required plan k side) → NameUnknown lib plan
 link_applies lib plan k side u =
     let ns : List Name = resource_names_of plan in
-    let l = map_some (λ (l : Link). (side_of side l, ns)) (slice_get plan.links k) u.0 u.1 in
+    let l = map_parts (λ (l : Link). (side_of side l, ns)) (slice_get plan.links k) u.0 u.1 in
     let w : Required = (side_of side l.0, ns) in
     let ends : Link → List Required = λ l. all_of (l.from ∷ l.to ∷ []) ns in
     of_deployment lib plan (

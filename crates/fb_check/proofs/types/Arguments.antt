@@ -10,7 +10,7 @@ use Rattle.fb_types.specs.declared.value_kind.ValueKind.{ValueKind}
 use Rattle.fb_types.specs.declared.text.Expr.{Expr}
 use Rattle.fb_check.specs.types.Trees.{arguments_of}
 
-abbrev put : Option ValueKind → Option (List ValueKind) → Option (List ValueKind)
+abbrev pub put : Option ValueKind → Option (List ValueKind) → Option (List ValueKind)
 put o rest = option_and_then (λ s. option_map (λ ss. s ∷ ss) rest) o
 
 more : (g : Function) (s t u v : ValueKind) (ss : List ValueKind) → None ≡ function_value_kind g (s ∷ t ∷ u ∷ v ∷ ss)

@@ -7,19 +7,13 @@ use Rattle.fb_types.specs.Syntax.{Stmt, Empty, Exit, Return, Assign, If, Case, F
 use Rattle.fb_types.specs.declared.library.BasicType.{BasicType}
 use Rattle.fb_check.specs.types.Checks.{in_place}
 use Rattle.fb_check.specs.types.Statements.{Standing, conditions_right, each_in_body, each_in_branches, each_in_choices, each_inside, own_right, stands_right}
+use Rattle.fb_check.proofs.types.Checks.{and_both, and_true}
 
 -- ---- Truth values
 
 and_assoc : (a b c : Bool) → (a && (b && c)) ≡ ((a && b) && c)
 and_assoc true b c = refl
 and_assoc false b c = refl
-
-and_true : (b : Bool) → (b && true) ≡ b
-and_true true = refl
-and_true false = refl
-
-and_both : {a b c d : Bool} → a ≡ c → b ≡ d → (a && b) ≡ (c && d)
-and_both p q = λ k. p k && q k
 
 shuffle : (a b c d : Bool) → ((a && b) && (c && d)) ≡ ((a && c) && (b && d))
 shuffle false b c d = refl

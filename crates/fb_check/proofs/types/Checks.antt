@@ -2,7 +2,7 @@
 use Rattle.std.proofs.Common.{◌≡◌, ◌⊎◌, ◌&&◌, Bool, true, false, not, List, [], ◌∷◌, map, Some, None, refl, sym, ◌∙◌, inl, inr}
 use Rattle.std.specs.Prelude.{flat_map, ◌↔◌, IsTrue}
 use Rattle.std.specs.List.{list_all}
-use Rattle.std.proofs.lemmas.Bool.{true≢false}
+use Rattle.std.proofs.lemmas.Bool.{true≢false, and_parts}
 use Rattle.std.proofs.lemmas.List.Folds.{list_all-append, list_all-map}
 use Rattle.fb_types.specs.Names.{Name}
 use Rattle.fb_types.specs.Syntax.{Expr, Stmts, expr_of, body_of}
@@ -29,12 +29,8 @@ pub and_true : (b : Bool) → (b && true) ≡ b
 and_true true = refl
 and_true false = refl
 
-and_both : {a b c d : Bool} → a ≡ c → b ≡ d → (a && b) ≡ (c && d)
+pub and_both : {a b c d : Bool} → a ≡ c → b ≡ d → (a && b) ≡ (c && d)
 and_both p q = λ k. p k && q k
-
-both : (a b : Bool) → (a && b) ≡ true → (a ≡ true) × (b ≡ true)
-both true b h = (refl, h)
-both false b h = absurd (true≢false (sym h))
 
 one : (a b : Bool) → (a && b) ≡ false → (a ≡ false) ⊎ (b ≡ false)
 one true b h = inr h
@@ -158,7 +154,7 @@ known_answer lib b says = (there, back)
   where
     there : b ≡ true → ArePartsKnown lib
     there h =
-        let r = both (all_met (required_parts lib)) (mentions_known lib) (known_is lib ∙ sym says ∙ h) in
+        let r = and_parts (all_met (required_parts lib)) (mentions_known lib) (known_is lib ∙ sym says ∙ h) in
         record {
           names = λ w c. contains_from_any w.0 w.1 (passes_at is_met (required_parts lib) w r.0 c);
           mentions = λ t m c d. passes_at (is_known t) (mentioned t) m (passes_at (λ t. all_known t (mentioned t)) (basics lib) t r.1 c) d;
@@ -203,7 +199,7 @@ chart_wrong t h =
 
 chart_not_wrong : (t : BasicType) → chart_right t ≡ true → ¬ (ChartWrong t)
 chart_not_wrong t h wrong =
-    let r = both (list_all (is_condition (context_in t)) (guards_of t)) (list_all (body_right (context_in t)) (bodies_of t)) h in
+    let r = and_parts (list_all (is_condition (context_in t)) (guards_of t)) (list_all (body_right (context_in t)) (bodies_of t)) h in
     elim wrong [
       | inl g ↦ true≢false (sym (passes_at (is_condition (context_in t)) (guards_of t) g.0 r.0 g.1) ∙ g.2)
       | inr b ↦ true≢false (sym (passes_at (body_right (context_in t)) (bodies_of t) b.0 r.1 b.1) ∙ b.2)
@@ -221,7 +217,7 @@ part_wrong lib h =
 
 part_not_wrong : (lib : Library) → list_all is_right_block lib.blocks ≡ true → ¬ (PartWrong lib)
 part_not_wrong lib h wrong =
-    let r = both (list_all values_right lib.blocks) (list_all chart_right (basics lib)) (right_is lib ∙ h) in
+    let r = and_parts (list_all values_right lib.blocks) (list_all chart_right (basics lib)) (right_is lib ∙ h) in
     elim wrong [
       | inl c ↦ chart_not_wrong c.0 (passes_at chart_right (basics lib) c.0 r.1 c.1) c.2
       | inr v ↦ true≢false (sym (passes_at declared_right (variables_in (kind_of v.0)) v.1 (passes_at values_right lib.blocks v.0 r.0 v.2) v.3) ∙ v.4)

@@ -1,6 +1,6 @@
 -- The list of all locations at which a kind is wrong: each is such a one, and if there is none, all is right.
-use Rattle.std.proofs.Common.{◌≡◌, ◌&&◌, ℕ, suc, ◌+◌, Bool, true, false, not, List, [], ◌++◌, Option, Some, None, refl, sym, ◌∙◌, ap, subst, arith}
-use Rattle.std.specs.Prelude.{All, slice_get, option_and_then}
+use Rattle.std.proofs.Common.{◌≡◌, ◌&&◌, ℕ, suc, ◌+◌, Bool, true, false, not, List, [], ◌++◌, Option, Some, None, refl, sym, ◌∙◌, subst, arith}
+use Rattle.std.specs.Prelude.{All, slice_get}
 use Rattle.std.specs.List.{list_all}
 use Rattle.std.proofs.lemmas.List.Elements.{All-append, All-nil}
 use Rattle.std.proofs.lemmas.List.Folds.{list_all-append}
@@ -33,17 +33,12 @@ use Rattle.fb_check_names.specs.Listed.{each_at, unless}
 use Rattle.fb_check.specs.networks.Parameters.{misfit_parameters, misfits_in_network}
 use Rattle.fb_check.specs.types.MisfitLists.{misfit_guard, misfit_initial, misfits_all, misfits_in_block, misfits_in_body, misfits_in_statement, misfits_initial, misfits_inside, part_at, wrong_choices, wrong_control, wrong_parts}
 use Rattle.fb_check.specs.types.Misfits.{IsMisfitAt, are_set_right_inside, is_all_right}
-use Rattle.fb_check_names.specs.Sites.{basic_at, basic_inside, network_at, network_inside, variables_at}
+use Rattle.fb_check_names.specs.Sites.{basic_at, network_at, variables_at}
 use Rattle.fb_check.specs.types.Statements.{choice_right, conditions_right, each_in_body, own_right, part_right, stands_right}
 use Rattle.fb_check.proofs.types.Bodies.{body_each}
 use Rattle.fb_check_names.proofs.Listing.{all_each, all_unless, none_each, none_left, none_right, none_unless}
 use Rattle.fb_check.proofs.types.OwnedNetwork.{none_wrong}
-
-basic_there : (lib : Library) (b : ℕ) (t : BasicType) → slice_get lib.blocks b ≡ Some (block.Basic t) → basic_at lib b ≡ Some t
-basic_there lib b t at = ap (option_and_then basic_inside) at
-
-network_there : (lib : Library) (b : ℕ) (t : BlockType) (n : OwnedNetwork) → slice_get lib.blocks b ≡ Some t → network_inside t ≡ Some n → network_at lib (Inside b) ≡ Some n
-network_there lib b t n at inside = ap (option_and_then network_inside) at ∙ inside
+use Rattle.fb_check.proofs.types.Witnesses.{basic_there, network_there}
 
 -- ---- Statements
 

@@ -1,9 +1,9 @@
 -- The numbers of names, if none is unknown.
-use Rattle.std.proofs.Common.{◌≡◌, ◌&&◌, ℕ, zero, suc, ◌+◌, Bool, true, false, List, [], ◌∷◌, ◌++◌, length, map, Option, Some, None, Bor, append_assoc, refl, sym, ◌∙◌, ap}
+use Rattle.std.proofs.Common.{◌≡◌, ◌&&◌, ℕ, zero, suc, ◌+◌, true, false, List, [], ◌∷◌, ◌++◌, length, map, Option, Some, None, Bor, append_assoc, refl, sym, ◌∙◌, ap}
 use Rattle.std.specs.Prelude.{is_some, slice_get, option_map, option_and_then}
 use Rattle.std.specs.List.{list_all, list_any}
 use Rattle.std.specs.BTreeMap.{BTreeMap}
-use Rattle.std.proofs.lemmas.Bool.{true≢false}
+use Rattle.std.proofs.lemmas.Bool.{true≢false, and_from}
 use Rattle.fb_types.specs.Blocks.{Kind, among, ports_of}
 use Rattle.fb_types.specs.Flat.{kind_of, kind_of_instance, resource_names_of, type_named}
 use Rattle.fb_types.specs.Names.{Name, same_name}
@@ -69,10 +69,6 @@ pub typed_at : {A B : Type 0} (h : A → B) (xs : List A) (k : ℕ) (x : A) → 
 typed_at h [] k x e = absurd (cc)
 typed_at h (y ∷ ys) zero x e = ap (option_map h) e
 typed_at h (y ∷ ys) (suc k) x e = typed_at h ys k x e
-
--- what two tests of a pair find
-both_true : (a b : Bool) → a ≡ true → b ≡ true → (a && b) ≡ true
-both_true a b p q = λ i. p i && q i
 
 -- ---- Types
 
@@ -190,7 +186,7 @@ network_resolved lib s n x types parameters events values h =
     let typed : (k : ℕ) (i : Instance) → unknown_in_instance lib s k i ≡ [] → is_some (type_number lib i.block_type) ≡ true =
     λ k i none. sym (type_met lib i.block_type) ∙ none_in_instance lib s k i none in
     let set : (k : ℕ) (i : Instance) → unknown_in_instance lib s k i ≡ [] → is_some (parameter_numbers lib i) ≡ true =
-    λ k i none. sym (instance_met lib i) ∙ both_true _ _ (typed k i none) (none_in_parameters lib s k i none) in
+    λ k i none. sym (instance_met lib i) ∙ and_from _ _ (typed k i none) (none_in_parameters lib s k i none) in
     record {
       types = there_all (λ (i : Instance). type_number lib i.block_type) (λ i. Some (number_in lib i.block_type)) n.1.instances
           (λ i known. some_or (number_past lib) (type_number lib i.block_type) known)

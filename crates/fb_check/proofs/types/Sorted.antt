@@ -1,6 +1,6 @@
 -- The kinds of expressions, each by its parts.
 use Rattle.std.proofs.Common.{◌≡◌, ◌≤◌, ◌<◌, List, [], ◌∷◌, get_or, length, Option, Some, None, refl, sym, ◌∙◌, ap, arith}
-use Rattle.std.specs.Prelude.{option_and_then, option_map}
+use Rattle.std.specs.Prelude.{option_and_then}
 use Rattle.fb_types.specs.Names.{Name}
 use Rattle.fb_types.specs.Kinds.{binary_value_kind, function_value_kind, value_kind_of, value_kind_of_type, value_kinds_of, unary_value_kind}
 use Rattle.fb_types.specs.Syntax.{expr_of}
@@ -13,6 +13,7 @@ use Rattle.fb_types.specs.declared.text.Expr.{Expr}
 use Rattle.fb_types.specs.declared.text.UnaryOperator.{UnaryOperator}
 use Rattle.fb_check.specs.types.Trees.{arguments_of}
 use Rattle.fb_check.proofs.types.Says.{binary_says, call_says, group_says, unary_says, variable_says}
+use Rattle.fb_check.proofs.types.Arguments.{put}
 
 abbrev value_kind_in : Types → Expr → Option ValueKind
 value_kind_in types e = value_kind_of types (expr_of e)
@@ -89,9 +90,6 @@ three_are (x ∷ y ∷ z ∷ w ∷ ws) a b c least below first second third = ab
 
 abbrev value_kind_of_call : Types → Function → List Expr → Option ValueKind
 value_kind_of_call types g es = option_and_then (function_value_kind g) (value_kinds_of types (arguments_of es))
-
-abbrev put : Option ValueKind → Option (List ValueKind) → Option (List ValueKind)
-put o rest = option_and_then (λ s. option_map (λ ss. s ∷ ss) rest) o
 
 one_put : (g : Function) (s : Option ValueKind) → option_and_then (λ x. function_value_kind g (x ∷ [])) s ≡ option_and_then (function_value_kind g) (put s (Some []))
 one_put g None = refl

@@ -119,10 +119,10 @@ each_in_chart lib b t at =
     (λ k a found. each_mention lib b t (naming.Body b k) (mentions_body (body_of a.body))
     (λ m h. mention_location lib b t (body_at k) (mentions_body (body_of a.body)) m at (ap (option_map (λ (a : Algorithm). mentions_body (body_of a.body))) found) h))))
 
-basic_there : (lib : Library) (b : ℕ) (t : BasicType) → slice_get lib.blocks b ≡ Some (block.Basic t) → basic_at lib b ≡ Some t
+pub basic_there : (lib : Library) (b : ℕ) (t : BasicType) → slice_get lib.blocks b ≡ Some (block.Basic t) → basic_at lib b ≡ Some t
 basic_there lib b t at = ap (option_and_then basic_inside) at
 
-network_there : (lib : Library) (b : ℕ) (t : BlockType) (n : OwnedNetwork) → slice_get lib.blocks b ≡ Some t → network_inside t ≡ Some n → network_at lib (Inside b) ≡ Some n
+pub network_there : (lib : Library) (b : ℕ) (t : BlockType) (n : OwnedNetwork) → slice_get lib.blocks b ≡ Some t → network_inside t ≡ Some n → network_at lib (Inside b) ≡ Some n
 network_there lib b t n at inside = ap (option_and_then network_inside) at ∙ inside
 
 each_inside : (lib : Library) (b : ℕ) (t : BlockType) → slice_get lib.blocks b ≡ Some t → All (IsUnknownIn lib) (unknown_inside lib b t)
