@@ -1,17 +1,15 @@
 //! What stimuli may name, looked up by name.
 
-ghost use Rattle.std.specs.Prelude.{◌≡◌, map, option_map, IfOk};
+ghost use Rattle.std.specs.Prelude.{map, option_map};
 ghost use Rattle.std.specs.Option.{option_copied};
 ghost use Rattle.fb_check_names.specs.Indexes.{IsIndex};
 ghost use Rattle.fb_types.specs.Blocks.{ports_of};
-ghost use Rattle.fb_types.specs.EventPorts.{ArePortsOfKinds};
 ghost use Rattle.fb_types.specs.Flat.{type_name, type_named};
 ghost use Rattle.fb_check.specs.Directory.{IsDirectory, IsFound};
 
-use crate::directory_making::{Pairs, TypeInputs, inputs_of_each, targets_of};
+use crate::directory_making::{Pairs, TypeInputs};
 use fb_check_names::{Indexes, index_of_name};
-use fb_types::{Items, Library, Name, Ports, kind_named};
-use std::alloc::{AllocError, Global};
+use fb_types::{Items, Library, Name, kind_named};
 
 /// What stimuli may name: of each type its event inputs and its data inputs, and the ports of the
 /// application to which data connections lead.
@@ -23,23 +21,6 @@ pub struct Directory<'a> {
     pub declared: Items<TypeInputs<'a>>,
     /// The ports to which data connections of the application lead.
     pub targets: Pairs<'a>,
-}
-
-/// The directory of a declaration. `ports` has the interfaces of the event blocks.
-pub fn directory_of<'a>(
-    alloc: Global,
-    library: &'a Library,
-    interfaces: &'a [Ports],
-) -> Result<Directory<'a>, AllocError>
-    requires { ArePortsOfKinds interfaces.now }
-    ensures { IfOk result (IsDirectory library.now) }
-{
-    let network = &library.application.network;
-    Ok(Directory {
-        event_blocks: inputs_of_each(alloc, interfaces)?,
-        declared: inputs_of_each(alloc, library.blocks.as_slice())?,
-        targets: targets_of(alloc, network.data_connections.as_slice())?,
-    })
 }
 
 /// What stimuli may name of the type with a name, or `None` if there is no such type.

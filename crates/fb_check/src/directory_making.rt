@@ -1,7 +1,7 @@
 //! What stimuli may name of a type, and to which ports data connections lead.
 
 ghost use Rattle.std.specs.Prelude.{◌≡◌, ◌<◌, ◌^◌, length, map, IfOk, OnOk};
-ghost use Rattle.fb_check.specs.Directory.{AreInputs, IsInputs, IsExtended, AreEvents, AreWiths, AreVariables, AreTargets};
+ghost use Rattle.fb_check.specs.Directory.{AreInputs, IsExtended, AreEvents, AreWiths, AreVariables, AreTargets};
 
 use fb_types::{BlockType, Connection, EventPort, Items, Name, Ports, Ty, Variable};
 use std::alloc::{AllocError, Global};
@@ -122,18 +122,6 @@ fn variables_of<'a>(
     Ok(inputs)
 }
 
-fn inputs_of<'a>(alloc: Global, ports: &'a Ports) -> Result<TypeInputs<'a>, AllocError>
-    ensures { IfOk result (IsInputs ports.now) }
-{
-    ports.event_inputs.count();
-    ports.inputs.count();
-    Ok(TypeInputs {
-        events: events_of(alloc, ports.event_inputs.as_slice())?,
-        withs: withs_of(alloc, ports.event_inputs.as_slice())?,
-        variables: variables_of(alloc, ports.inputs.as_slice())?,
-    })
-}
-
 /// What stimuli may name of each type.
 pub fn inputs_of_each<'a, T: Interfaced>(
     alloc: Global,
@@ -143,7 +131,15 @@ pub fn inputs_of_each<'a, T: Interfaced>(
 {
     let mut inputs = Items::new(alloc);
     for each in all {
-        inputs.push(inputs_of(alloc, each.interface())?)?;
+        let ports = each.interface();
+        ports.event_inputs.count();
+        ports.inputs.count();
+        let events = ports.event_inputs.as_slice();
+        inputs.push(TypeInputs {
+            events: events_of(alloc, events)?,
+            withs: withs_of(alloc, events)?,
+            variables: variables_of(alloc, ports.inputs.as_slice())?,
+        })?;
     }
     Ok(inputs)
 }

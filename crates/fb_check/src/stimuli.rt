@@ -12,8 +12,8 @@ ghost use Rattle.fb_check_names.specs.Indexes.{names_in, index_in};
 ghost use Rattle.fb_check.specs.Directory.{IsDirectory, IsFound, AreTaken, held_slot, input_in, ports_at_index, slot_of};
 ghost use Rattle.fb_check.specs.Stimuli.{AreAllBad, AreSlotsOr, IsAdded, IsBadAt, IsRowOr};
 
-use crate::directory::{Directory, directory_of, inputs_named};
-use crate::directory_making::TypeInputs;
+use crate::directory::{Directory, inputs_named};
+use crate::directory_making::{TypeInputs, inputs_of_each, targets_of};
 use crate::location::{StimulusFault, StimulusLocation};
 use fb_check_names::{Catalog, index_of_name, indexes_of};
 use fb_system::{SlotValue, StimulusRow};
@@ -206,7 +206,12 @@ fn rows_in(
     ensures all { IfOk result (λ _. AreAllBad library.now stimuli.now found.new.items) }
     ensures rows { IfOk result (λ rows. found.new.items ≡ [] → AreTaken library.now stimuli.now rows) }
 {
-    let directory = directory_of(alloc, library, interfaces)?;
+    let network = &library.application.network;
+    let directory = Directory {
+        event_blocks: inputs_of_each(alloc, interfaces)?,
+        declared: inputs_of_each(alloc, library.blocks.as_slice())?,
+        targets: targets_of(alloc, network.data_connections.as_slice())?,
+    };
     rows_by(alloc, found, library, catalog, &directory, stimuli)
 }
 

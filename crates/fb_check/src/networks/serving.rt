@@ -1,6 +1,6 @@
 //! The data that the event connections of an application carry from one resource to another.
 
-ghost use Rattle.std.specs.Prelude.{◌≡◌, [], IfOk, OnOk, None};
+ghost use Rattle.std.specs.Prelude.{◌≡◌, [], OnOk, None};
 ghost use Rattle.fb_types.specs.EventPorts.{ArePortsOfKinds};
 ghost use Rattle.fb_types.specs.Flat.{port_in};
 ghost use Rattle.fb_check_names.specs.Numbers.{IsNetwork};
@@ -44,7 +44,7 @@ fn extend<'a>(
 
 /// Adds the variables that output events carry from their components to resources. `events` has the events that were
 /// met; at first both sets are empty.
-fn serve_all<'a>(
+pub fn serve_all<'a>(
     events: &mut Leads<'a>,
     served: &mut Leads<'a>,
     library: &'a Library,
@@ -70,32 +70,4 @@ fn serve_all<'a>(
         }
     }
     Ok(())
-}
-
-/// The variables that output events carry from their components to resources.
-pub fn served_variables<'a>(
-    alloc: Global,
-    library: &'a Library,
-    interfaces: &'a [Ports],
-    plan: &Plan,
-    mapping: &Mapping,
-    numbers: &NetworkNumbers,
-) -> Result<Leads<'a>, AllocError>
-    requires interfaces { ArePortsOfKinds interfaces.now }
-    requires mapping { IsHolding plan.now mapping.now }
-    requires numbers { IsNetwork library.now (None, library.now.application.network) numbers.now }
-    ensures { IfOk result (AreServed library.now plan.now) }
-{
-    let mut events = BTreeSet::new(alloc);
-    let mut served = BTreeSet::new(alloc);
-    serve_all(
-        &mut events,
-        &mut served,
-        library,
-        interfaces,
-        plan,
-        mapping,
-        numbers,
-    )?;
-    Ok(served)
 }

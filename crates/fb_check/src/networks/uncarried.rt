@@ -10,10 +10,11 @@ ghost use Rattle.fb_check.specs.networks.Serving.{AreServed};
 ghost use Rattle.fb_check.specs.networks.Unserved.{IsUnservedAt, is_served, unserved_all, unserved_at};
 
 use crate::networks::mapping::{Mapping, resource_of};
-use crate::networks::serving::{Leads, component_of, served_variables};
+use crate::networks::serving::{Leads, component_of, serve_all};
 use fb_check_names::{NetworkNumbers, Resolved, push_unless};
 use fb_types::{Connection, Library, Plan, all_ports};
 use std::alloc::{AllocError, Global};
+use std::collections::BTreeSet;
 
 /// Whether one resource holds both ends of a data connection of the application, or an event serves it.
 fn is_served<'a>(
@@ -86,8 +87,11 @@ pub fn unserved_locations(
 {
     let interfaces = all_ports(alloc)?;
     let numbers = &resolved.application;
-    let served = served_variables(
-        alloc,
+    let mut events = BTreeSet::new(alloc);
+    let mut served = BTreeSet::new(alloc);
+    serve_all(
+        &mut events,
+        &mut served,
         library,
         interfaces.as_slice(),
         plan,

@@ -1,14 +1,24 @@
-use Rattle.std.proofs.Common.{◌≡◌, ℕ, [], List}
+use Rattle.std.proofs.Common.{◌≡◌, ℕ, [], List, subst, sym}
 use Rattle.std.specs.Prelude.{All}
+use Rattle.fb_types.specs.EventPorts.{ArePortsOfKinds}
 use Rattle.fb_types.specs.Mapped.{NoEvent}
 use Rattle.fb_check_names.proofs.Listing.{of_list}
 use Rattle.fb_check.specs.networks.Unserved.{IsUnservedAt}
 use Rattle.fb_check.proofs.networks.Unserved.{each_unserved, none_unserved}
 use Rattle.fb_check.proofs.networks.uncarried.unserved_locations.Goals as goal
 
+pub serve_all-requires : goal.serve_all-requires
+serve_all-requires c = record {
+  events = c.new-events.ensures.empty;
+  served = c.new-served.ensures.empty;
+  interfaces = subst ArePortsOfKinds (sym c.as_slice.ensures) c.in_ok-interfaces.ensures;
+  mapping = c.requires.mapping.holds;
+  numbers = c.requires.resolved.application;
+}
+
 pub unserved_connections-requires : goal.unserved_connections-requires
 unserved_connections-requires c =
-    record { once = c.requires.once; mapping = c.requires.mapping.holds; numbers = c.requires.resolved.application; served = c.in_ok-served.ensures }
+    record { once = c.requires.once; mapping = c.requires.mapping.holds; numbers = c.requires.resolved.application; served = c.in_ok-serve_all.ensures }
 
 pub returns-clause-each : goal.returns-clause-each
 returns-clause-each c =

@@ -5,11 +5,11 @@ use Rattle.fb_types.specs.declared.library.BlockType.{BlockType}
 use Rattle.fb_types.specs.declared.library.Connection.{Connection}
 use Rattle.fb_check.specs.Directory.{AreInputs, AreTargets}
 use Rattle.fb_check.proofs.Steps.{event_inputs}
-use Rattle.fb_check.proofs.directory.directory_of.Goals as goal
+use Rattle.fb_check.proofs.stimuli.rows_in.Goals as goal
 
-pub returns : goal.returns
-returns c = record {
-  event_blocks = event_inputs c.args.interfaces.now _ c.requires c.in_ok-inputs_of_each.ensures;
+pub rows_by-requires-clause-directory : goal.rows_by-requires-clause-directory
+rows_by-requires-clause-directory c = record {
+  event_blocks = event_inputs c.args.interfaces.now _ c.requires.interfaces c.in_ok-inputs_of_each.ensures;
   declared = subst (λ (ts : List BlockType). AreInputs (map (λ (t : BlockType). ports_of (kind_of t)) ts) c.in_ok-inputs_of_each-2.field-0) c.as_slice.ensures c.in_ok-inputs_of_each-2.ensures;
   targets = subst (λ (cs : List Connection). AreTargets cs c.in_ok-targets_of.field-0) c.as_slice-2.ensures c.in_ok-targets_of.ensures;
 }
