@@ -28,8 +28,11 @@ use std::alloc::AllocError;
 /// The one agenda of all resources, with the counts of their messages and what takings give, and the blocks and the
 /// counts of each.
 pub struct Machine {
+    /// The one agenda, the counts of the messages of each link, and room for what takings give.
     pub queues: Queues,
+    /// The blocks of each resource, by its number.
     pub trees: Vec<Tree>,
+    /// What each resource has counted in its tick, by its number.
     pub meters: Vec<TickCounts>,
 }
 
