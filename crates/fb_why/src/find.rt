@@ -9,10 +9,10 @@ ghost use Rattle.fb_types.specs.declared.library.Library.{Library};
 ghost use Rattle.fb_why.specs.Faults.{EndsAt, IsAfterToken, IsShownFor, IsTextRefusal};
 ghost use Rattle.fb_read_positions.specs.Locations.{IsLocation};
 
-use crate::hints::misses_semicolon;
 use fb_read::read::span_before;
 use fb_read::token::Located;
 use fb_read::{ReadFault, Refusal, TextFault, discard, read_located};
+use fb_read_positions::hints::misses_semicolon;
 use fb_read_positions::{TextLocation, discard as discard_tokens, location_at, tokens_of};
 use std::alloc::{AllocError, Global};
 

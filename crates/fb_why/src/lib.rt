@@ -10,9 +10,9 @@
 //!
 //! Read in this order: `explanation` and `table`; `cause` and `spot`, what each number is about, and where. Then the
 //! bytes: `find`, the refusal of a text and its location. Then a location as text: the modules `.._messages`, with
-//! `contents` and `hints`. Then `refused` and `declared`, locations in bytes and in what they declare; `place` and
-//! `input_place`, where a location is in its text; `listing` and `finding`, which reads the bytes again. All of this
-//! runs only after a refusal.
+//! `contents`. Then `refused` and `declared`, locations in bytes and in what they declare; `place` and `input_place`,
+//! where a location is in its text; `listing` and `finding`, which reads the bytes again. All of this runs only after
+//! a refusal.
 #![tactic(auto)]
 
 pub mod cause;
@@ -23,7 +23,6 @@ pub mod explanation;
 pub mod find;
 pub mod finding;
 mod flaw_messages;
-mod hints;
 pub mod input_place;
 mod kind_messages;
 pub mod listing;

@@ -1,8 +1,8 @@
 //! The text for a location in a declaration.
 
 use crate::find::TextRefusal;
-use crate::hints::{fraction_of, push_comment, push_else_if, push_left_out, push_time};
 use fb_read::{Expected, TextFault};
+use fb_read_positions::hints::{fraction_of, push_comment, push_else_if, push_left_out, push_time};
 use fb_read_positions::words::{Text, front};
 use fb_types::MOST_BYTES;
 use std::alloc::{AllocError, Global};

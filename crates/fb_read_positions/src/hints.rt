@@ -1,10 +1,10 @@
 //! What is probably meant at a place of a declaration at which its text is refused: a word that the profile leaves out,
 //! a semicolon or ELSIF, a time with a fraction, a comment inside another one.
 
+use crate::find::{discard, tokens_of};
+use crate::words::{Text, front};
 use fb_read::Expected;
 use fb_read::token::{Located, Mark, Token};
-use fb_read_positions::words::{Text, front};
-use fb_read_positions::{discard, tokens_of};
 use std::alloc::Global;
 
 /// Words of IEC 61131-3 that the profile leaves out.
@@ -26,7 +26,7 @@ fn is_among(bytes: &[u8], words: &str) -> bool {
 }
 
 /// Says of a word of a standard that the profile leaves it out.
-pub(crate) fn push_left_out(message: &mut Text, here: &[u8]) {
+pub fn push_left_out(message: &mut Text, here: &[u8]) {
     if is_among(here, LANGUAGE) {
         message.words(" (a word of IEC 61131-3 that the profile leaves out)");
     } else if is_among(here, BLOCKS) {
@@ -36,7 +36,7 @@ pub(crate) fn push_left_out(message: &mut Text, here: &[u8]) {
 
 /// Whether a semicolon is missing, where this was expected. A statement that may begin there may also be empty, so that
 /// none is missing there.
-pub(crate) fn misses_semicolon(alloc: Global, expected: Expected) -> bool {
+pub fn misses_semicolon(alloc: Global, expected: Expected) -> bool {
     match expected.words(alloc) {
         Ok(words) => is_among(b";", words.as_str()) && !is_among(b"name", words.as_str()),
         Err(_) => false,
@@ -59,7 +59,7 @@ fn has_else_if(tokens: &[Located]) -> bool {
 }
 
 /// Says that ELSE IF begins another IF, if an END_IF was expected after these bytes.
-pub(crate) fn push_else_if(alloc: Global, message: &mut Text, before: &[u8], expected: &str) {
+pub fn push_else_if(alloc: Global, message: &mut Text, before: &[u8], expected: &str) {
     if !is_among(b"END_IF", expected) {
         return;
     }
@@ -88,22 +88,25 @@ const UNITS: &[(&str, usize)] = &[
 
 /// A kind of bytes.
 #[derive(Clone, Copy)]
-pub(crate) enum Kind {
+pub enum ByteKind {
+    /// ASCII letters.
     Letters,
+    /// Decimal digits.
     Digits,
+    /// Spaces.
     Spaces,
     /// All bytes but spaces.
     Others,
 }
 
 /// The bytes of a kind in front, and the others.
-pub(crate) fn split_front(bytes: &[u8], kind: Kind) -> (&[u8], &[u8]) {
+pub fn split_front(bytes: &[u8], kind: ByteKind) -> (&[u8], &[u8]) {
     for (index, byte) in bytes.iter().enumerate() {
         let is_of_kind = match kind {
-            Kind::Letters => byte.is_ascii_alphabetic(),
-            Kind::Digits => byte.is_ascii_digit(),
-            Kind::Spaces => *byte == b' ',
-            Kind::Others => *byte != b' ',
+            ByteKind::Letters => byte.is_ascii_alphabetic(),
+            ByteKind::Digits => byte.is_ascii_digit(),
+            ByteKind::Spaces => *byte == b' ',
+            ByteKind::Others => *byte != b' ',
         };
         if !is_of_kind {
             return (&bytes[..index], &bytes[index..]);
@@ -155,26 +158,26 @@ fn milliseconds(whole: &[u8], fraction: &[u8], unit: &[u8]) -> Option<usize> {
 }
 
 /// The time with a fraction with which bytes begin, and its milliseconds, if they are a whole number.
-pub(crate) fn fraction_of(bytes: &[u8]) -> Option<(&[u8], usize)> {
-    let (word, rest) = split_front(bytes, Kind::Letters);
+pub fn fraction_of(bytes: &[u8]) -> Option<(&[u8], usize)> {
+    let (word, rest) = split_front(bytes, ByteKind::Letters);
     if !is_among(word, "T TIME") {
         return None;
     }
     let [b'#', rest @ ..] = rest else {
         return None;
     };
-    let (whole, rest) = split_front(rest, Kind::Digits);
+    let (whole, rest) = split_front(rest, ByteKind::Digits);
     let [b'.', rest @ ..] = rest else {
         return None;
     };
-    let (fraction, rest) = split_front(rest, Kind::Digits);
-    let (unit, rest) = split_front(rest, Kind::Letters);
+    let (fraction, rest) = split_front(rest, ByteKind::Digits);
+    let (unit, rest) = split_front(rest, ByteKind::Letters);
     let literal = front(bytes, bytes.len().saturating_sub(rest.len()));
     Some((literal, milliseconds(whole, fraction, unit)?))
 }
 
 /// Appends a time of whole numbers and units.
-pub(crate) fn push_time(message: &mut Text, milliseconds: usize) {
+pub fn push_time(message: &mut Text, milliseconds: usize) {
     message.words(if milliseconds == 0 { "T#0s" } else { "T#" });
     let mut rest = milliseconds;
     for (name, unit) in UNITS {
@@ -231,7 +234,7 @@ fn outer_comment(text: &[u8]) -> Option<usize> {
 }
 
 /// Says which comment before an offset has another beginning inside.
-pub(crate) fn push_comment(message: &mut Text, text: &[u8], start: usize) {
+pub fn push_comment(message: &mut Text, text: &[u8], start: usize) {
     let before = text.get(..start).unwrap_or(&[]);
     if let Some(begin) = outer_comment(before) {
         message.words(" (comments do not nest: the first *) ends the one that begins with ");
