@@ -44,7 +44,7 @@ fn extend<'a>(
 
 /// Adds the variables that output events carry from their components to resources. `events` has the events that were
 /// met; at first both sets are empty.
-pub fn serve_all<'a>(
+pub(crate) fn serve_all<'a>(
     events: &mut Leads<'a>,
     served: &mut Leads<'a>,
     library: &'a Library,
