@@ -1,8 +1,8 @@
 #!/usr/bin/env python3
 """tools/documents.py: checks that everything that the documents name exists.
 
-- docs/ARCHITECTURE.md has each crate of crates.txt in one table row, with all its modules. So does a row of a module like
-  `fb_check::types`.
+- docs/ARCHITECTURE.md has each crate of crates.txt in one table row, with all its modules. A row for a module such as
+  `fb_check::types` has all modules of that module.
 - docs/PROOFS.md has each crate, except those of tests, in a row for each promise, and names only functions, clauses and definitions
   that exist.
 - Each block of docs/READING.md is word for word in the file named before it.
