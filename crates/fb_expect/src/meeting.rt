@@ -77,7 +77,7 @@ fn is_named_by(condition: &Condition, word: &[u8]) -> bool
     }
 }
 
-/// Whether a word `VAR=value` is of the variable of a condition, and meets the condition if its value counts.
+/// Whether a word `VAR=value` names the variable of a condition and, if `counts`, also meets it.
 fn is_found_by(condition: &Condition, counts: bool, word: &[u8]) -> bool
     ensures { result ≡ spec.is_found_by condition.now counts word.now }
 {
@@ -88,7 +88,7 @@ fn is_found_by(condition: &Condition, counts: bool, word: &[u8]) -> bool
     }
 }
 
-/// Whether one of the values of a line is of the variable of a condition, and meets the condition if values count.
+/// Whether one of the values of a line names the variable of a condition and, if `counts`, also meets it.
 fn is_found(condition: &Condition, counts: bool, values: &[u8]) -> bool
     ensures { result ≡ spec.is_found condition.now counts values.now }
 {
@@ -144,7 +144,7 @@ pub fn is_at(pattern: &Pattern, entry: &Entry<'_>) -> bool
         && is_in(&pattern.resource, entry.resource)
 }
 
-/// Whether one of the values of a line is of the variable of each condition, and meets the condition if values count.
+/// Whether for each condition one of the values of a line names its variable and, if `counts`, also meets it.
 fn are_found(conditions: &[Condition], counts: bool, values: &[u8]) -> bool
     ensures { result ≡ list_all (λ c. spec.is_found c counts values.now) conditions.now }
 {

@@ -283,7 +283,7 @@ fn pattern_in(alloc: Global, words: &[&[u8]], text: &[u8]) -> Result<Option<Patt
     }
 }
 
-/// Adds a word to others, unless it is empty.
+/// Appends a word, unless it is empty.
 fn put_word<'a>(words: &mut Vec<&'a [u8]>, word: &'a [u8]) -> Result<(), AllocError>
     ensures { OnOk result (map (λ (w : Bor (List ℕ)). w.now) words.new.items ≡ map (λ (w : Bor (List ℕ)). w.now) words.old.items ++ filter spec.is_word (word.entry.now ∷ [])) }
 {
@@ -293,7 +293,7 @@ fn put_word<'a>(words: &mut Vec<&'a [u8]>, word: &'a [u8]) -> Result<(), AllocEr
     Ok(())
 }
 
-/// Adds the words that blanks separate to others.
+/// Appends the words of a text, which blanks separate.
 fn put_words<'a>(words: &mut Vec<&'a [u8]>, text: &'a [u8]) -> Result<(), AllocError>
     ensures { OnOk result (map (λ (w : Bor (List ℕ)). w.now) words.new.items ≡ map (λ (w : Bor (List ℕ)). w.now) words.old.items ++ spec.words_of text.entry.now) }
 {

@@ -108,7 +108,7 @@ pub(crate) fn need_of(need: NeedDraft) -> Option<Need>
     }
 }
 
-/// The pattern that a text is, where it is one and not absent.
+/// The pattern that a text is, if it is one. For an absent text the answer is `Some(None)`.
 fn may_pattern(alloc: Global, text: Option<&str>) -> Result<Option<Option<Pattern>>, AllocError>
     ensures { IfOk result (λ p. p ≡ lists.may written.pattern_of (option_map (λ t. t.now) text.entry)) }
 {

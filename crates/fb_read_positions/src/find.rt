@@ -139,11 +139,11 @@ pub(crate) fn span_from(
 }
 
 /// The bytes of the token at a position of a declaration, in the text that declares this library. `None` if there is no
-/// such position. The text is read again for that, up to the position.
+/// such position. The text is one that was read as this library; it is read again for that.
 ///
 /// # Errors
 ///
-/// When memory runs out.
+/// When memory runs out, or if the text can't be read.
 pub fn span_of(
     alloc: Global,
     text: &[u8],

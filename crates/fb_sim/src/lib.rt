@@ -5,9 +5,9 @@
 //! also reports the progress of a run. This crate has no rule about simulation.
 //!
 //! Read in this order: `options` and `outcome`; `reading`, the steps before a run; `serial` with `one_agenda`, a run on
-//! one thread. A run with workers: `runs` with `trial`, `drive` and `rounds`; `pace`, `progress`, `tally`, `work`,
-//! `held`, `marked`, `joining`, `printing` and `weave`. Then `simulation` and `state`; `with_progress`, a run that
-//! reports its progress.
+//! one thread, whose `Machine` `fb_stop` uses event by event. A run with workers: `runs` with `trial`, `drive` and
+//! `rounds`; `pace`, `progress`, `tally`, `work`, `held`, `marked`, `joining`, `printing` and `weave`. Then `simulation`
+//! and `state`; `with_progress`, a run that reports its progress.
 #![tactic(auto)]
 
 mod drive;

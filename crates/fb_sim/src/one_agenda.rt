@@ -1,8 +1,8 @@
 //! A run on one thread: one agenda of all resources, of which the least event is always taken. The lines are written as
 //! the run goes on.
 //!
-//! `run_serial` uses it, and so does `run` with one worker. What one taking does is `fb_resource`'s; here are the loop
-//! over it and the delivery of messages to the one agenda.
+//! `run_serial` uses it, and so does `run` with one worker. `fb_stop` uses its `Machine`. What one taking does is
+//! `fb_resource`'s; here are the loop over it and the delivery of messages to the one agenda.
 //!
 //! Read in this order: `machine` and `pause`, the state and the taking of events; `deliver`, messages; `open`, the
 //! beginning; then the run itself, below.

@@ -139,7 +139,7 @@ pub(crate) fn apart(alloc: Global, all: Vec<TextedDone>) -> Result<Dones, AllocE
     })
 }
 
-/// How many workers a run has that asks for this many, where there are so many threads.
+/// The number of workers of a run that asks for `most`: no more than there are threads, at least 1.
 pub(crate) fn workers_on(threads: u64, most: u64) -> u64
     requires { 1 ≤ most }
     ensures some { 1 ≤ result }

@@ -126,8 +126,8 @@ impl Replay {
         )
     }
 
-    /// What gives the reason at an event that stops the run: no step was left for the event, or with these steps left
-    /// the reaction stops at the site at which that of the copy stops, which has not reacted.
+    /// What gives the reason at an event that stops the run. If `left` is `None`, no step was left for the event.
+    /// Otherwise the reaction stops where that of the copy does, which has not reacted yet.
     ///
     /// # Errors
     /// When memory runs out.

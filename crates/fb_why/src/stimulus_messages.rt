@@ -51,7 +51,7 @@ fn is_connected(connections: &[Connection], stimulus: &Stimulus, setting: &Setti
     false
 }
 
-/// The type of the data input that a stimulus sets, if it does not have the value.
+/// The type of the data input that a stimulus sets, if the value is not of this type.
 fn unfit_type(types: &BlockTypes, stimulus: &Stimulus, setting: &Setting) -> Option<Ty> {
     let instances = types.library.application.network.instances.as_slice();
     let ports = ports_of_instance(types, instances, &stimulus.instance)?;

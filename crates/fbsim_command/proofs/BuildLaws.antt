@@ -8,7 +8,7 @@ use Rattle.clap.specs.declared.builder.arg.Arg.{Arg}
 use Rattle.clap.specs.declared.builder.command.Command.{Command}
 use Rattle.fbsim_command.specs.Line.{command_for, kinds, program, rule_for, simulator_with, with_arguments, with_kinds}
 use Rattle.fbsim_command.specs.declared.arguments.Argument.{Argument}
-use Rattle.fbsim_command.specs.declared.line.Kind.{Kind}
+use Rattle.fbsim_command.specs.declared.line.Subcommand.{Subcommand}
 use Rattle.clap.specs.declared.builder.value_parser.ValueParser.{ValueParser}
 use Rattle.clap.specs.declared.builder.command.Command.TheViews.{out-Command as fields_of}
 
@@ -74,14 +74,14 @@ goes-past a xs i c end goes = sym (goes.app ∙ ap (with_arguments (app_of c)) (
 -- ---- A list of subcommands
 
 -- with the subcommands from here on this is the command that is asked for
-pub record Joins (values : ValueParser) (a : App) (ks : List Kind) (i : ℕ) (c : Command) : Type 0 where
+pub record Joins (values : ValueParser) (a : App) (ks : List Subcommand) (i : ℕ) (c : Command) : Type 0 where
   pub app : with_kinds values a ks ≡ with_kinds values (app_of c) (drop i ks)
 
-pub joins-first : (values : ValueParser) (a : App) (ks : List Kind) (c : Command) → app_of c ≡ a → Joins values a ks 0 c
+pub joins-first : (values : ValueParser) (a : App) (ks : List Subcommand) (c : Command) → app_of c ≡ a → Joins values a ks 0 c
 joins-first values a ks c is = record { app = ap (λ (b : App). with_kinds values b ks) (sym is) }
 
 pub joins-on :
-    (values : ValueParser) (a : App) (ks : List Kind) (i : ℕ) (d : Kind) (old sub new : Command) → i < length ks → AddsSubcommand old sub new → (fields_of sub).has_globals ≡ false
+    (values : ValueParser) (a : App) (ks : List Subcommand) (i : ℕ) (d : Subcommand) (old sub new : Command) → i < length ks → AddsSubcommand old sub new → (fields_of sub).has_globals ≡ false
     → app_of sub ≡ command_for values (get_or ks i d) → Joins values a ks i old → Joins values a ks (i + 1) new
 joins-on values a ks i d old sub new lt adds local is joins =
     record {
@@ -89,7 +89,7 @@ joins-on values a ks i d old sub new lt adds local is joins =
           ∙ ap (λ (b : App). with_kinds values b (drop (i + 1) ks)) (sym (joined old new sub (app_of old) (command_for values (get_or ks i d)) adds local refl is));
     }
 
-pub joins-past : (values : ValueParser) (a : App) (ks : List Kind) (i : ℕ) (c : Command) → length ks ≤ i → Joins values a ks i c → app_of c ≡ with_kinds values a ks
+pub joins-past : (values : ValueParser) (a : App) (ks : List Subcommand) (i : ℕ) (c : Command) → length ks ≤ i → Joins values a ks i c → app_of c ≡ with_kinds values a ks
 joins-past values a ks i c end joins = sym (joins.app ∙ ap (with_kinds values (app_of c)) (drop_all i ks end))
 
 -- with all of them this is the command of the program

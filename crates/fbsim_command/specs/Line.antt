@@ -22,8 +22,8 @@ use Rattle.fbsim_command.specs.declared.line.Action.TheVariants.{Check, Run}
 use Rattle.fbsim_command.specs.declared.line.Task.{Task}
 use Rattle.fbsim_command.specs.declared.line.Call.{Call}
 use Rattle.fbsim_command.specs.declared.line.Call.TheVariants as call
-use Rattle.fbsim_command.specs.declared.line.Kind.{Kind}
-use Rattle.fbsim_command.specs.declared.line.Kind.TheVariants as sub
+use Rattle.fbsim_command.specs.declared.line.Subcommand.{Subcommand}
+use Rattle.fbsim_command.specs.declared.line.Subcommand.TheVariants as sub
 use Rattle.fbsim_command.specs.declared.line.Wave.{Wave}
 use Rattle.fbsim_command.specs.declared.line.LineFault.{LineFault}
 use Rattle.fbsim_command.specs.declared.line.LineFault.TheVariants.{Memory, Help, Fault}
@@ -193,7 +193,7 @@ abbrev pub program : App
 program = record { top = record (new_app (codes "fbsim")).top { has_version = true; subcommand_required = true }; subs = [] }
 
 -- the subcommand of a name
-abbrev pub command_for : ValueParser → Kind → App
+abbrev pub command_for : ValueParser → Subcommand → App
 command_for values sub.Run = with_run_options values (files (codes "run"))
 command_for values sub.Check = check
 command_for values sub.Wave = wave
@@ -205,11 +205,11 @@ command_for values sub.Coverage = coverage
 command_for values sub.Explain = explain
 
 -- the subcommands in the order in which the help lists them
-abbrev pub kinds : List Kind
+abbrev pub kinds : List Subcommand
 kinds = sub.Run ∷ sub.Check ∷ sub.Wave ∷ sub.Expect ∷ sub.Diff ∷ sub.Draw ∷ sub.Inspect ∷ sub.Coverage ∷ sub.Explain ∷ []
 
 -- a command with the subcommands of a list of names
-abbrev pub with_kinds : ValueParser → App → List Kind → App
+abbrev pub with_kinds : ValueParser → App → List Subcommand → App
 with_kinds values a [] = a
 with_kinds values a (k ∷ ks) = with_kinds values (with_subcommand a (command_for values k).top) ks
 

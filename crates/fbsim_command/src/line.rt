@@ -267,9 +267,9 @@ fn program<'a>(alloc: Global) -> Command<'a>
         .subcommand_required(true)
 }
 
-/// The name of a subcommand.
+/// A subcommand of the program.
 #[derive(Clone, Copy)]
-pub(crate) enum Kind {
+pub(crate) enum Subcommand {
     Run,
     Check,
     Wave,
@@ -282,37 +282,37 @@ pub(crate) enum Kind {
 }
 
 /// The subcommands in the order in which the help lists them.
-const KINDS: &[Kind] = &[
-    Kind::Run,
-    Kind::Check,
-    Kind::Wave,
-    Kind::Expect,
-    Kind::Diff,
-    Kind::Draw,
-    Kind::Inspect,
-    Kind::Coverage,
-    Kind::Explain,
+const SUBCOMMANDS: &[Subcommand] = &[
+    Subcommand::Run,
+    Subcommand::Check,
+    Subcommand::Wave,
+    Subcommand::Expect,
+    Subcommand::Diff,
+    Subcommand::Draw,
+    Subcommand::Inspect,
+    Subcommand::Coverage,
+    Subcommand::Explain,
 ];
 
-/// The subcommand of this name.
+/// The command of this subcommand.
 fn command_for<'a>(
     alloc: Global,
-    kind: Kind,
+    kind: Subcommand,
     forms: ValueParser<'a>,
 ) -> Result<Command<'a>, AllocError>
     ensures app { IfOk result (λ c. app_of c ≡ spec.command_for forms.entry kind) }
     ensures globals { IfOk result (λ c. (fields_of c).has_globals ≡ false) }
 {
     match kind {
-        Kind::Run => run(alloc, forms),
-        Kind::Check => check_command(alloc),
-        Kind::Wave => wave_command(alloc),
-        Kind::Expect => expect_command(alloc),
-        Kind::Diff => diff_command(alloc),
-        Kind::Draw => draw_command(alloc),
-        Kind::Inspect => inspect_command(alloc),
-        Kind::Coverage => coverage_command(alloc),
-        Kind::Explain => explain(alloc),
+        Subcommand::Run => run(alloc, forms),
+        Subcommand::Check => check_command(alloc),
+        Subcommand::Wave => wave_command(alloc),
+        Subcommand::Expect => expect_command(alloc),
+        Subcommand::Diff => diff_command(alloc),
+        Subcommand::Draw => draw_command(alloc),
+        Subcommand::Inspect => inspect_command(alloc),
+        Subcommand::Coverage => coverage_command(alloc),
+        Subcommand::Explain => explain(alloc),
     }
 }
 
@@ -321,7 +321,7 @@ fn simulator<'a>(alloc: Global, forms: ValueParser<'a>) -> Result<Command<'a>, A
     ensures { IfOk result (λ c. app_of c ≡ spec.simulator_with forms.entry) }
 {
     let mut command = program(alloc);
-    for kind in KINDS {
+    for kind in SUBCOMMANDS {
         let Ok(made) = command_for(alloc, *kind, forms) else {
             // Dropped by one call: the end of its scope would prove the drop part by part.
             drop(command);

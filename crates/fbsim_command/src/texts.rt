@@ -83,8 +83,8 @@ pub fn lines_in(declared: &Option<Texts>) -> &[usize]
     }
 }
 
-/// The call that checks a declaration with its deployment. Its files are those that other calls are about.
-pub fn files_of<'a>(declaration: &'a str, deployment: Option<&'a str>, why: bool) -> Task<'a>
+/// The check of a declaration with its deployment, which says which files other calls read.
+pub(crate) fn files_of<'a>(declaration: &'a str, deployment: Option<&'a str>, why: bool) -> Task<'a>
     ensures { result ≡ record { action = Action.Check false; declaration = declaration.entry; deploy = deployment.entry; stimuli = None; why = why } }
 {
     Task {

@@ -89,9 +89,9 @@ impl Machine {
         Ok(taken)
     }
 
-    /// Takes the event in the slot, which has left the agenda, and delivers the messages that it gave. `Some` is the
-    /// reason for which the resource stops. A caller looks at each event before and after it is taken. The slot may have
-    /// another event then.
+    /// Takes the event in the slot, which has left the agenda, and delivers the messages that it gave. This is for callers
+    /// that look at each event before and after it is taken. Afterwards the slot may have another event. `Some` is the
+    /// reason for which the resource stops.
     ///
     /// # Errors
     /// When memory runs out, or a link has carried 2^128 messages.
