@@ -38,8 +38,9 @@ SAID = re.compile(
 )
 # What rattle says at a place in a source text that it cannot take.
 UNTAKEN = re.compile(r"(?:\./)?(?P<file>src/\S+?):(?P<line>\d+):\d+: error\[")
-# What antt says of text that names something which is no longer there: that shows nothing about a contract.
-NAMES_WHAT_IS_GONE = re.compile(r"has no field|is not in scope|has no `|was not admitted")
+# What antt says of text that names something which is no longer there: that shows nothing about a contract. Where it lists names that are
+# near, the words "has no field" come on the next line.
+NAMES_WHAT_IS_GONE = re.compile(r"has no field|record `[^`]+` \(nearest: |is not in scope|has no `|was not admitted")
 # What it says of an answer whose goal has another name now. A goal of its kind may be unproved only because this answer is missing.
 LOST_ITS_GOAL = re.compile(r"\.Goals` has no `")
 # What the kit answers of an edit. One that keeps nothing between runs only says whether it is refused.

@@ -122,6 +122,7 @@ CASES = [
     ("turn", ["fn machine::exec::turn: not proved", "note: src/exec.rt:12:1: it is not proved that `a` holds (`run-returns`)"], False),
     # A missing name does not count, nor a warning, nor what is not proved because invariants are missing.
     ("run", ["fn machine::exec::run: not proved", "./proofs/exec/+exec/Answers.antt:5:3: error: `run-returns`: `x` is not in scope"], False),
+    ("run", ["fn machine::exec::run: not proved", "./proofs/exec/+exec/Answers.antt:5:3: error: `run-returns`: record `A` (nearest: .y)", "  has no field `x`"], False),
     ("run", ["fn machine::exec::run: not proved", "note: src/exec.rt:12:1: this `use` brings nothing"], False),
     ("run", [NOT_PROVED.format("run"), "./proofs/exec/+exec/Invariants.antt:5:3: error: `turn-loop`: record has no field `x`"], False),
     # A goal that has another name now may only lack its answer. One of another kind counts, and so does an answer that fails under its old
