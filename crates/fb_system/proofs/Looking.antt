@@ -208,6 +208,11 @@ composite_around lib p net component boundary e q m is_network at boundary_end i
     subst (λ (a : Path). (t : CompositeType) × (kind_at lib a ≡ Some (Composite t))) (sym at)
     (composite_at lib q.at net is.kind (ap (network_at lib) here ∙ is_network) is.is_kind)
 
+-- an end is never at the root, which has no type
+pub named_end : (lib : Library) (p : Path) (component boundary : Ports → List Name) (e : ConnectionEnd) (q : Port) → IsEndOf lib p component boundary e q → ¬ (q.at ≡ [])
+named_end lib p component boundary e q is empty =
+    let none : None ≡ Some is.kind = subst (λ (a : Path). kind_at lib a ≡ Some is.kind) empty is.is_kind in cc
+
 pub some_tested : (c : Option ℕ) (b : Bool) → b ≡ is_some c → b ≡ false → is_none c ≡ true
 some_tested None b h e = refl
 some_tested (Some j) b h e = absurd (cc)

@@ -1,7 +1,8 @@
 -- Whether both ends of a connection are in the same resource.
-use Rattle.std.proofs.Common.{◌≡◌, ℕ, ◌<◌, ◌+◌, Bool, Option, Some, None, length, sym, subst}
-use Rattle.std.specs.Prelude.{IfSome, IsTrue, ◌↔◌, option_map, slice_get}
-use Rattle.fb_types.specs.Numbers.{port_of}
+use Rattle.std.proofs.Common.{◌≡◌, ℕ, ◌<◌, ◌+◌, Bool, Option, Some, None, length, sym, subst, ◌∙◌}
+use Rattle.std.specs.Prelude.{IfSome, IsTrue, ◌↔◌, nat_eq, option_map, slice_get}
+use Rattle.std.proofs.lemmas.Bool.{eq-eqb, eqb-true}
+use Rattle.fb_types.specs.Numbers.{path_at, port_of}
 use Rattle.fb_types.specs.Systems.{System}
 use Rattle.fb_types.specs.declared.run.InstanceVariable.{InstanceVariable}
 use Rattle.fb_types.specs.declared.run.Target.{Target}
@@ -10,6 +11,10 @@ use Rattle.fb_system.specs.Ports.{AreTogether, IsSource, IsTarget, link_of, vari
 use Rattle.fb_system.specs.declared.netlist_target.NetlistTarget.{NetlistTarget}
 use Rattle.fb_system.specs.declared.next_target.NextTarget.{NextTarget}
 use Rattle.fb_system.specs.declared.source.Source.{Source}
+
+-- whether two instances are in the same resource, by the resources that were read
+pub together : (sys : System) (a b one other : ℕ) → one ≡ sys.resource (path_at sys a) → other ≡ sys.resource (path_at sys b) → IsTrue (nat_eq one other) ↔ AreTogether sys a b
+together sys a b one other first second = (λ yes. sym first ∙ eqb-true _ _ yes ∙ second, λ same. eq-eqb _ _ (first ∙ same ∙ sym second))
 
 -- ---- Events
 

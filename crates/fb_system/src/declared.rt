@@ -1,29 +1,16 @@
 //! Instances as they are declared, and their parameters by number.
 
-ghost use Rattle.std.specs.Prelude.{◌≡◌, ◌<◌, Some, length, option_and_then};
+ghost use Rattle.std.specs.Prelude.{◌≡◌, ◌<◌, Some, length};
 ghost use Rattle.std.specs.Option.{option_copied};
-ghost use Rattle.fb_types.specs.Flat.{instance_at, network_at, network_of, paths_of};
+ghost use Rattle.fb_types.specs.Flat.{instance_at, network_at, paths_of};
 ghost use Rattle.fb_types.specs.declared.library.Instance.{Instance as Declared};
-ghost use Rattle.fb_check_names.specs.Numbers.{kind_of_number, parameter_numbers};
+ghost use Rattle.fb_check_names.specs.Numbers.{parameter_numbers};
 ghost use Rattle.fb_system.specs.Layouts.{path_of};
 ghost use Rattle.fb_system.specs.Networks.{IsAround, IsNetlist, path_around};
 
 use crate::tables::{Tables, last_index, row_at, wiring_in};
 use fb_check_names::TypeNumber;
-use fb_types::{BlockType, Instance, Library, Network};
-
-/// The network inside the instances of a type, if it has one.
-fn network_of_type(library: &Library, kind: TypeNumber) -> Option<&Network>
-    ensures { option_copied result ≡ option_and_then network_of (kind_of_number library.now kind) }
-{
-    match kind {
-        TypeNumber::Event(_) => None,
-        TypeNumber::Declared(index) => match library.blocks.get(index)? {
-            BlockType::Basic(_) => None,
-            BlockType::Composite(composite) => Some(&composite.network),
-        },
-    }
-}
+use fb_types::{BlockType, Instance, Network};
 
 /// The network of the application, or the one inside an instance, if its type has one.
 fn network_in(tables: &Tables, around: Option<u32>) -> Option<&Network>
@@ -33,7 +20,13 @@ fn network_in(tables: &Tables, around: Option<u32>) -> Option<&Network>
 {
     match around {
         None => Some(&tables.library.application.network),
-        Some(instance) => network_of_type(&tables.library, row_at(tables, instance).kind),
+        Some(instance) => match row_at(tables, instance).kind {
+            TypeNumber::Event(_) => None,
+            TypeNumber::Declared(index) => match tables.library.blocks.get(index)? {
+                BlockType::Basic(_) => None,
+                BlockType::Composite(composite) => Some(&composite.network),
+            },
+        },
     }
 }
 

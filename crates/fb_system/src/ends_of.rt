@@ -1,7 +1,7 @@
 //! Makes the rows of the event ports and of the sources of a system.
 
-ghost use Rattle.std.specs.Prelude.{◌≡◌, ◌≤◌, length, min, if◌then◌else◌, IfOk, OnOk};
-ghost use Rattle.fb_types.specs.OfSystem.{IsInstance, path_at, ports_at};
+ghost use Rattle.std.specs.Prelude.{◌≡◌, length, min, IfOk, OnOk};
+ghost use Rattle.fb_types.specs.OfSystem.{IsInstance};
 ghost use Rattle.fb_system.specs.RowRanges.{AreInRanges, HasRows, Keeps};
 ghost use Rattle.fb_system.specs.PortRows.{ArePortRows, IsPortRowAt};
 ghost use Rattle.fb_system.specs.OfSystem.{AreSources, IsSourceRowAt};
@@ -12,37 +12,6 @@ use crate::row_ranges::RowRanges;
 use crate::system::System;
 use fb_types::{InstanceVariable, Items, Target};
 use std::alloc::{AllocError, Global};
-
-/// The number of event outputs, or of event inputs, of an instance.
-fn count_events(system: &System, instance: u32, are_outputs: bool) -> u32
-    requires { IsInstance system.now instance }
-    ensures { let its = ports_at system.now (path_at system.now instance) in
-        result ≤ length (if are_outputs then its.event_outputs else its.event_inputs) }
-{
-    let ports = system.ports(instance);
-    if are_outputs {
-        ports.event_outputs.count()
-    } else {
-        ports.event_inputs.count()
-    }
-}
-
-/// The number of data outputs, or of data inputs, of an instance that have rows. Data outputs connect to what is inside,
-/// so only those of a composite have rows.
-fn count_variables(system: &System, instance: u32, are_outputs: bool) -> u32
-    requires { IsInstance system.now instance }
-    ensures { let its = ports_at system.now (path_at system.now instance) in
-        result ≤ length (if are_outputs then its.outputs else its.inputs) }
-{
-    let ports = system.ports(instance);
-    if !are_outputs {
-        ports.inputs.count()
-    } else if system.components(instance).is_empty() {
-        0
-    } else {
-        ports.outputs.count()
-    }
-}
 
 /// Adds the rows of the event outputs, or of the event inputs, of an instance, as long as there is room.
 fn add_ports(
@@ -55,7 +24,13 @@ fn add_ports(
     ensures kept { OnOk result (Keeps rows.old rows.new) }
     ensures added { OnOk result (HasRows (IsPortRowAt system.now instance is_output) rows.new (length rows.old) (length rows.new)) }
 {
-    for event in 0..count_events(system, instance, is_output) {
+    let ports = system.ports(instance);
+    let count = if is_output {
+        ports.event_outputs.count()
+    } else {
+        ports.event_inputs.count()
+    };
+    for event in 0..count {
         if rows.len() >= MOST_ENDS {
             return Ok(());
         }
@@ -69,7 +44,8 @@ fn add_ports(
     Ok(())
 }
 
-/// Adds the rows of the data outputs, or of the data inputs, of an instance, as long as there is room.
+/// Adds the rows of the data outputs, or of the data inputs, of an instance, as long as there is room. Data outputs
+/// connect to what is inside, so only those of a composite have rows.
 fn add_sources(
     rows: &mut Items<SourceRow>,
     system: &System,
@@ -80,7 +56,15 @@ fn add_sources(
     ensures kept { OnOk result (Keeps rows.old rows.new) }
     ensures added { OnOk result (HasRows (IsSourceRowAt system.now instance is_output) rows.new (length rows.old) (length rows.new)) }
 {
-    for variable in 0..count_variables(system, instance, is_output) {
+    let ports = system.ports(instance);
+    let count = if !is_output {
+        ports.inputs.count()
+    } else if system.components(instance).is_empty() {
+        0
+    } else {
+        ports.outputs.count()
+    };
+    for variable in 0..count {
         if rows.len() >= MOST_ENDS {
             return Ok(());
         }

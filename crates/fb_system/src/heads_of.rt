@@ -14,20 +14,6 @@ use crate::system::System;
 use fb_types::{Items, Ports, Variable};
 use std::alloc::{AllocError, Global};
 
-/// The name of the event of a head.
-fn event_name(system: &System, of: HeadOf) -> &[u8]
-    requires { IsOfHead system.now of }
-    ensures { result.now ≡ head_event system.now of }
-{
-    let ports = system.ports(of.instance);
-    let event = of.event as usize;
-    if of.taken {
-        ports.event_inputs.as_slice()[event].name.as_bytes()
-    } else {
-        ports.event_outputs.as_slice()[event].name.as_bytes()
-    }
-}
-
 /// The name of the variable at the first of these indexes, if there is one.
 fn name_at_first<'a>(variables: &'a [Variable], indexes: &[u32]) -> Option<&'a [u8]>
     requires { (names : List Name) × AreIndexes variables.now names indexes.now }
@@ -40,19 +26,23 @@ fn name_at_first<'a>(variables: &'a [Variable], indexes: &[u32]) -> Option<&'a [
     }
 }
 
-/// The name of the first variable WITH the event of a head, if there is one.
-fn first_name(system: &System, of: HeadOf) -> Option<&[u8]>
+/// The name of the event of a head, and that of the first variable WITH it, if there is one.
+fn names_of(system: &System, of: HeadOf) -> (&[u8], Option<&[u8]>)
     requires { IsOfHead system.now of }
-    ensures none { IfNone result (first_text (head_variables system.now of) ≡ []) }
-    ensures some { IfSome result (λ n. first_text (head_variables system.now of) ≡ codes " " ++ n.now ++ codes "=") }
+    ensures event { result.0.now ≡ head_event system.now of }
+    ensures none { IfNone result.1 (first_text (head_variables system.now of) ≡ []) }
+    ensures some { IfSome result.1 (λ n. first_text (head_variables system.now of) ≡ codes " " ++ n.now ++ codes "=") }
 {
     let ports = system.ports(of.instance);
+    let event = of.event as usize;
     if of.taken {
         let indexes = system.inputs_with(of.instance, of.event);
-        name_at_first(ports.inputs.as_slice(), indexes)
+        let first = name_at_first(ports.inputs.as_slice(), indexes);
+        (ports.event_inputs.as_slice()[event].name.as_bytes(), first)
     } else {
         let indexes = system.outputs_with(of.instance, of.event);
-        name_at_first(ports.outputs.as_slice(), indexes)
+        let first = name_at_first(ports.outputs.as_slice(), indexes);
+        (ports.event_outputs.as_slice()[event].name.as_bytes(), first)
     }
 }
 
@@ -117,12 +107,13 @@ fn row_of(system: &System, text: &mut Vec<u8>, of: HeadOf) -> Result<Head, Alloc
     requires { IsOfHead system.now of }
     ensures { IfOk result (IsRowAt system.now of.instance of.taken of.event) }
 {
+    let (event, first) = names_of(system, of);
     let parts = Parts {
         resource: system.resource_name(of.resource as usize),
         taken: of.taken,
         path: system.path(of.instance),
-        event: event_name(system, of),
-        first: first_name(system, of),
+        event,
+        first,
     };
     if !are_short(parts) {
         return Ok(Head::none());

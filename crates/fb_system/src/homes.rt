@@ -1,9 +1,7 @@
 //! Finds the resources of all instances.
 
-ghost use Rattle.std.specs.Prelude.{◌≡◌, ◌<◌, length, IfOk, OnOk};
-ghost use Rattle.fb_types.specs.Flat.{paths_of, resource_of};
+ghost use Rattle.std.specs.Prelude.{◌≡◌, ◌<◌, IfOk, OnOk};
 ghost use Rattle.fb_types.specs.declared.deploy.Plan.{Plan};
-ghost use Rattle.fb_system.specs.Layouts.{path_of};
 ghost use Rattle.fb_system.specs.Linking.{AreHomes, IsLinked};
 
 use crate::links::Links;
@@ -12,25 +10,18 @@ use crate::whole::Whole;
 use fb_types::Items;
 use std::alloc::{AllocError, Global};
 
-/// The resource that holds an instance: that of the application's instance which it is, or is inside of.
-fn home_of(netlist: &Netlist, links: &Links, instance: u32) -> usize
-    requires { instance < length (paths_of netlist.now) }
-    ensures { (plan : Plan) → IsLinked netlist.now plan links.now → result ≡ resource_of plan (path_of netlist.now instance) }
-{
-    match netlist.route(instance).first() {
-        Some(index) => links.holder(*index as usize),
-        None => 0,
-    }
-}
-
-/// For each instance, the resource that holds it.
+/// For each instance, the resource that holds it: that of the application's instance which it is, or is inside of.
 fn homes_of(alloc: Global, netlist: &Netlist, links: &Links) -> Result<Items<usize>, AllocError>
     ensures { IfOk result (λ homes. (plan : Plan) → IsLinked netlist.now plan links.now → AreHomes netlist.now plan homes) }
 {
     netlist.facts();
     let mut homes = Items::new(alloc);
     for instance in 0..netlist.count() {
-        homes.push(home_of(netlist, links, instance as u32))?;
+        let home = match netlist.route(instance as u32).first() {
+            Some(index) => links.holder(*index as usize),
+            None => 0,
+        };
+        homes.push(home)?;
     }
     Ok(homes)
 }

@@ -13,7 +13,8 @@ ghost use Rattle.fb_system.specs.Layouts.{AreComponents, AreNumbers, IsParent, p
 ghost use Rattle.fb_system.specs.Netlists.{IsPort, IsSource, IsTarget, IsVariable, port_of, variable_of};
 
 use crate::declared::{declared_at, parameters_at};
-use crate::making::{narrow_layout, wirings_of};
+use crate::layout::layout_of;
+use crate::making::{bound_all, wirings_of};
 use crate::netlist_target::NetlistTarget;
 use crate::tables::{EndIn, Tables, entering, leaving, row_at, source_in, target_in};
 use crate::wiring::Wiring;
@@ -70,7 +71,8 @@ impl Netlist {
         requires few { length (paths_of library) ≤ 4096 }
         ensures { IfOk result (λ f. f ≡ library) }
     {
-        let layout = narrow_layout(alloc, &library, &numbers);
+        bound_all(library.blocks.as_slice());
+        let layout = layout_of(alloc, &library, &numbers);
         let application = Wiring::of(alloc, numbers.application);
         let blocks = wirings_of(alloc, numbers.blocks);
         let (library, layout, application, blocks) = with_all(
@@ -191,6 +193,7 @@ impl Netlist {
 
     /// What a variable is connected to: a data input to what is around the instance, a data output of a composite to
     /// what is inside.
+    #[inline(never)]
     pub fn source(&self, to: InstanceVariable) -> Option<InstanceVariable>
         requires { IsVariable self.now to }
         ensures comes { option_map (variable_of self.now) result ≡ source_of self.now (variable_of self.now to) }

@@ -2,7 +2,7 @@
 
 ghost use Rattle.fb_system.specs.IndexLists.{AreIndexes};
 ghost use Rattle.fb_system.specs.PortRows.{IsPortRow};
-ghost use Rattle.fb_system.specs.OfSystem.{IsPort, IsWith, port_names, port_variables};
+ghost use Rattle.fb_system.specs.OfSystem.{IsPort, port_names, port_variables};
 
 use crate::port_row::{PortRow, With};
 use crate::system::System;
@@ -15,8 +15,20 @@ impl System {
         requires { IsPort self.now at }
         ensures { IsPortRow self.now at result }
     {
+        let with = match self.indexes_with(at) {
+            [] => With::Nothing,
+            [variable] => {
+                let to = InstanceVariable {
+                    instance: at.instance,
+                    variable: *variable,
+                    is_output: at.is_output,
+                };
+                With::One(*variable, self.placed_source(to))
+            }
+            _ => With::Several,
+        };
         PortRow {
-            with: self.port_with(at),
+            with,
             first: self.reached(at, 0),
         }
     }
@@ -30,25 +42,6 @@ impl System {
             self.outputs_with(at.instance, at.event)
         } else {
             self.inputs_with(at.instance, at.event)
-        }
-    }
-
-    /// The variables WITH the event of a port.
-    fn port_with(&self, at: Target) -> With
-        requires { IsPort self.now at }
-        ensures { IsWith self.now at result }
-    {
-        match self.indexes_with(at) {
-            [] => With::Nothing,
-            [variable] => {
-                let to = InstanceVariable {
-                    instance: at.instance,
-                    variable: *variable,
-                    is_output: at.is_output,
-                };
-                With::One(*variable, self.placed_source(to))
-            }
-            _ => With::Several,
         }
     }
 }

@@ -16,7 +16,7 @@ ghost use Rattle.fb_check_names.specs.Numbers.{kind_of_number};
 ghost use Rattle.fb_system.specs.Linking.{AreHomes, IsLinked};
 ghost use Rattle.fb_system.specs.PortRows.{IsPortRow};
 ghost use Rattle.fb_system.specs.Systems.{inputs_of, IsBare, IsGiven, IsKept, AreTables};
-ghost use Rattle.fb_system.specs.OfSystem.{AreTogether, ComesFrom, IsHead, IsPort, IsSource, IsSourceOf, IsTarget, IsVariable, LeadsTo, arrival_over, initial_inputs, initial_outputs, link_between, link_of, number_at, receiver_of, sender_of, source_at, variable_of};
+ghost use Rattle.fb_system.specs.OfSystem.{AreTogether, IsHead, IsPort, IsSource, IsSourceOf, IsTarget, IsVariable, LeadsTo, arrival_over, initial_inputs, initial_outputs, link_between, link_of, number_at, receiver_of, sender_of, source_at, variable_of};
 
 use crate::given::Given;
 use crate::heads::{Head, HeadOf};
@@ -289,33 +289,16 @@ impl System {
         ensures { LeadsTo self.now from index result }
     {
         let next = self.whole.netlist.reached(from, index)?;
+        let sender = self.resource(from.instance);
+        let receiver = self.resource(next.target.instance);
+        // There are at most 1,024 links, so that the number of one fits.
+        self.facts();
         Some(NextTarget {
             target: next.target,
             more: next.more,
-            here: self.are_together(next.target.instance, from.instance),
-            link: self.link_to(from.instance, next.target.instance),
+            here: receiver == sender,
+            link: self.link(sender, receiver) as u16,
         })
-    }
-
-    /// The link from the resource of one instance to that of another, or 0 if there is none.
-    fn link_to(&self, from: u32, to: u32) -> u16
-        requires from { IsInstance self.now from }
-        requires to { IsInstance self.now to }
-        ensures { result ≡ link_of self.now from to }
-    {
-        // There are at most 1,024 links, so that the number of one fits.
-        self.facts();
-        self.link(self.resource(from), self.resource(to)) as u16
-    }
-
-    /// Whether two instances are in the same resource.
-    #[inline(always)]
-    fn are_together(&self, one: u32, other: u32) -> bool
-        requires one { IsInstance self.now one }
-        requires other { IsInstance self.now other }
-        ensures { IsTrue result ↔ AreTogether self.now one other }
-    {
-        self.resource(one) == self.resource(other)
     }
 
     /// What a variable is connected to: a data input to what is around the instance, a data output of a composite to
@@ -328,7 +311,7 @@ impl System {
     {
         match self.whole.kept.ends.source(to) {
             Some(row) => row.source,
-            None => self.source_by_tables(to),
+            None => self.whole.netlist.source(to),
         }
     }
 
@@ -339,17 +322,8 @@ impl System {
         ensures { IsSourceOf self.now to result }
     {
         let variable = self.source(to)?;
-        let here = self.are_together(variable.instance, to.instance);
+        let here = self.resource(variable.instance) == self.resource(to.instance);
         Some(Source { variable, here })
-    }
-
-    /// What a variable is connected to, by the network of its connection.
-    #[inline(never)]
-    fn source_by_tables(&self, to: InstanceVariable) -> Option<InstanceVariable>
-        requires { IsVariable self.now to }
-        ensures { ComesFrom self.now to result }
-    {
-        self.whole.netlist.source(to)
     }
 
     /// The resource that holds an instance.

@@ -1,13 +1,11 @@
 //! The tables of a netlist, and how the ends of its connections are looked up.
 
 ghost use Rattle.std.specs.Prelude.{◌≡◌, ◌<◌, ◌+◌, ◌↔◌, IsTrue, length, slice_get, [], option_map, IfSome, MatchOption, None, Some};
-ghost use Rattle.fb_types.specs.Blocks.{ports_of};
 ghost use Rattle.fb_types.specs.Flat.{data_inside, events_inside, last_of, network_at, paths_of, source_of, targets_of};
 ghost use Rattle.fb_types.specs.Names.{Path, Port};
 ghost use Rattle.fb_system.specs.Layouts.{AreComponents, IsRow, path_of};
-ghost use Rattle.fb_types.specs.declared.library.Network.{Network};
 ghost use Rattle.fb_system.specs.Netlists.{IsPort, IsSource, IsTarget, IsVariable, port_of, variable_of};
-ghost use Rattle.fb_system.specs.Networks.{DataEnters, DataLeaves, EventEnters, EventLeaves, IsAround, IsNetlist, IsThere, IsWired, path_around, source_along, targets_along};
+ghost use Rattle.fb_system.specs.Networks.{DataEnters, EventLeaves, IsAround, IsNetlist, IsThere, IsWired, path_around, source_along, targets_along};
 
 use crate::layout::{InstanceRow, Layout};
 use crate::netlist_target::NetlistTarget;
@@ -91,39 +89,8 @@ fn instance_at(tables: &Tables, around: Option<u32>, component: Option<usize>) -
     }
 }
 
-/// The event to which a connection leads: an input of a component, or an output of the composite itself.
-fn target_at(tables: &Tables, around: Option<u32>, end: ConnectionEnd) -> Target
-    requires netlist { IsNetlist tables.now }
-    requires within { IsAround tables.now.library around }
-    requires network { (inside : Network) × (network_at tables.now.library (path_around tables.now.library around) ≡ Some inside) }
-    requires end { (q : Port) × EventEnters tables.now.library around end q }
-    ensures port { (q : Port) → EventEnters tables.now.library around end q → port_of tables.now.library result ≡ q }
-    ensures within { IsTarget tables.now.library result }
-{
-    Target {
-        instance: instance_at(tables, around, end.component),
-        event: end.port as u32,
-        is_output: end.component.is_none(),
-    }
-}
-
-/// The variable from which a connection comes: an output of a component, or an input of the composite itself.
-fn index_at(tables: &Tables, around: Option<u32>, end: ConnectionEnd) -> InstanceVariable
-    requires netlist { IsNetlist tables.now }
-    requires within { IsAround tables.now.library around }
-    requires network { (inside : Network) × (network_at tables.now.library (path_around tables.now.library around) ≡ Some inside) }
-    requires end { (q : Port) × DataLeaves tables.now.library around end q }
-    ensures port { (q : Port) → DataLeaves tables.now.library around end q → variable_of tables.now.library result ≡ q }
-    ensures within { IsSource tables.now.library result }
-{
-    InstanceVariable {
-        instance: instance_at(tables, around, end.component),
-        variable: end.port as u32,
-        is_output: end.component.is_some(),
-    }
-}
-
-/// Where the event connection leads that has this index among those from an end of a network.
+/// Where the event connection leads that has this index among those from an end of a network: to an input of a
+/// component, or to an output of the composite itself.
 pub(crate) fn target_in(
     tables: &Tables,
     around: Option<u32>,
@@ -141,12 +108,17 @@ pub(crate) fn target_in(
     let ends = wiring.targets(end);
     let to = ends.get(index)?;
     Some(NetlistTarget {
-        target: target_at(tables, around, *to),
+        target: Target {
+            instance: instance_at(tables, around, to.component),
+            event: to.port as u32,
+            is_output: to.component.is_none(),
+        },
         more: ends.len() - index > 1,
     })
 }
 
-/// Where the data connection to an end of a network comes from.
+/// Where the data connection to an end of a network comes from: an output of a component, or an input of the composite
+/// itself.
 pub(crate) fn source_in(
     tables: &Tables,
     around: Option<u32>,
@@ -160,7 +132,11 @@ pub(crate) fn source_in(
 {
     let wiring = wiring_in(tables, around)?;
     let from = wiring.source(end)?;
-    Some(index_at(tables, around, from))
+    Some(InstanceVariable {
+        instance: instance_at(tables, around, from.component),
+        variable: from.port as u32,
+        is_output: from.component.is_some(),
+    })
 }
 
 /// The last index of a route: that of the instance in its own network.

@@ -1,8 +1,30 @@
+use Rattle.std.proofs.Common.{Option, Some, ap, sym, ◌∙◌}
+use Rattle.std.specs.Prelude.{option_and_then, option_map}
+use Rattle.fb_types.specs.Flat.{kind_of, network_of}
+use Rattle.fb_types.specs.declared.library.BlockType.{BlockType}
+use Rattle.fb_check_names.specs.Numbers.{kind_of_number}
+use Rattle.fb_check_names.specs.declared.numbers.TypeNumber.{TypeNumber}
 use Rattle.fb_system.proofs.Standing.{network_inside, network_outermost}
 use Rattle.fb_system.proofs.declared.network_in.Goals as goal
 
 pub returns-in-None : goal.returns-in-None
 returns-in-None c = network_outermost c.args.tables.now.library _ c.in-None.is
 
-pub returns-in-Some : goal.returns-in-Some
-returns-in-Some c = network_inside _ _ _ _ _ c.row_at.ensures c.in-Some.is c.network_of_type.ensures
+pub returns-in-Event : goal.returns-in-Event
+returns-in-Event c =
+    network_inside c.args.tables.now.library _ _ _ _ c.row_at.ensures c.in-Some.is
+    (sym (ap (λ (t : TypeNumber). option_and_then network_of (kind_of_number c.args.tables.now.library t)) c.in-Event.is))
+
+pub returns-in-Basic : goal.returns-in-Basic
+returns-in-Basic c =
+    network_inside c.args.tables.now.library _ _ _ _ c.row_at.ensures c.in-Some.is
+    (sym
+    (ap (λ (t : TypeNumber). option_and_then network_of (kind_of_number c.args.tables.now.library t)) c.in-Declared.is
+    ∙ ap (λ (o : Option BlockType). option_and_then network_of (option_map kind_of o)) (sym c.in_ok-composite-in-Declared.ensures.value ∙ ap Some c.in-Basic.is)))
+
+pub returns-in-Composite : goal.returns-in-Composite
+returns-in-Composite c =
+    network_inside c.args.tables.now.library _ _ _ _ c.row_at.ensures c.in-Some.is
+    (sym
+    (ap (λ (t : TypeNumber). option_and_then network_of (kind_of_number c.args.tables.now.library t)) c.in-Declared.is
+    ∙ ap (λ (o : Option BlockType). option_and_then network_of (option_map kind_of o)) (sym c.in_ok-composite-in-Declared.ensures.value ∙ ap Some c.in-Composite.is)))

@@ -11,9 +11,9 @@ returns c = λ kept.
     let x = c.args.of in
     let vars = head_variables sys x in
     let name = c.resource_name.ensures ∙ sym (unwrap_or-slice_get sys.resource_names x.resource []) in
-    let joined = rw (name, c.path.ensures, c.event_name.ensures) at c.in_ok-join.ensures in
+    let joined = rw (name, c.path.ensures, c.names_of.ensures.event) at c.in_ok-join.ensures in
     let whole =
-    first_added c.first_name.result c.join.new.text.items c.add_first.new.text.items (first_text vars) c.first_name.ensures.none c.first_name.ensures.some
+    first_added c.names_of.result.1 c.join.new.text.items c.add_first.new.text.items (first_text vars) c.names_of.ensures.none c.names_of.ensures.some
     c.in_ok-add_first.ensures.none c.in_ok-add_first.ensures.some in
     record {
       within = c.with_text.ensures.within;

@@ -1,4 +1,4 @@
-use Rattle.std.proofs.Common.{subst}
+use Rattle.std.proofs.Common.{rules, subst}
 use Rattle.fb_types.specs.Blocks.{ports_of}
 use Rattle.fb_types.specs.Counts.{IsNarrow}
 use Rattle.fb_types.specs.Flat.{kind_of}
@@ -10,7 +10,7 @@ use Rattle.fb_system.proofs.making.bound_all.Goals as goal
 pub loop-block-preserved : goal.loop-block-preserved
 loop-block-preserved c =
     all_next (λ (t : BlockType). IsNarrow (ports_of (kind_of t))) _ _ _ c.loop-block-test.true c.block-item.is c.loop-block.invariant
-    (subst (λ (p : Ports). IsNarrow p) c.ports.ensures c.bound_ports.ensures)
+    (subst (λ (p : Ports). IsNarrow p) c.ports-ports.ensures (search rules))
 
 pub returns : goal.returns
 returns c = all_of_taken (λ (t : BlockType). IsNarrow (ports_of (kind_of t))) _ _ c.loop-block-test.false c.loop-block.invariant

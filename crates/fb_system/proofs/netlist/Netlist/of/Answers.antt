@@ -1,6 +1,6 @@
-use Rattle.std.proofs.Common.{◌≡◌, List, Option}
+use Rattle.std.proofs.Common.{◌≡◌, List, Option, subst}
+use Rattle.fb_types.specs.declared.library.BlockType.{BlockType}
 use Rattle.fb_system.specs.Layouts.{IsLayout}
-use Rattle.fb_system.specs.declared.layout.Layout.{Layout}
 use Rattle.fb_check_names.specs.declared.numbers.NetworkNumbers.{NetworkNumbers}
 use Rattle.fb_system.specs.Networks.{AreNarrow}
 use Rattle.fb_system.proofs.Made.{ok_read, tables_made}
@@ -9,8 +9,7 @@ use Rattle.fb_system.proofs.netlist.Netlist.of.Goals as goal
 pub invariant_of-result : goal.invariant_of-result
 invariant_of-result c =
     let all = c.in_ok-library.ensures in
-    let layout = c.narrow_layout-layout.ensures in
     tables_made c.args.library _ c.args.numbers _ _ _ c.requires.resolved c.requires.few
-    (ok_read _ (λ (l : Layout). AreNarrow c.args.library.blocks) _ layout.narrow all.first) (ok_read _ (IsLayout c.args.library) _ layout.layout all.first)
+    (subst (λ (ts : List BlockType). AreNarrow ts) c.as_slice.ensures c.bound_all.ensures) (ok_read _ (IsLayout c.args.library) _ c.layout_of-layout.ensures all.first)
     (ok_read _ (λ (n : NetworkNumbers). n ≡ c.args.numbers.application) _ c.of-application.ensures all.second)
     (ok_read _ (λ (ns : List (Option NetworkNumbers)). ns ≡ c.args.numbers.blocks) _ c.wirings_of-blocks.ensures all.third) all.given

@@ -1,6 +1,8 @@
 use Rattle.fb_types.specs.Headline.{system_of}
 use Rattle.fb_system.proofs.KeptEnds.{source_read}
 use Rattle.fb_system.proofs.KeptRows.{sources_seen}
+use Rattle.fb_system.proofs.Seen.{comes_seen, variable_there}
+use Rattle.fb_system.proofs.Seen as seen
 use Rattle.fb_system.proofs.system.System.source.Goals as goal
 
 pub returns-in-Some-clause-comes : goal.returns-in-Some-clause-comes
@@ -13,3 +15,12 @@ returns-in-Some-clause-within c =
 
 pub source-requires : goal.source-requires
 source-requires c = (system_of c.args.self.now, sources_seen _ _ _ c.deref.ensures c.self.view_is c.self.invariant)
+
+pub source-requires-in-None : goal.source-requires-in-None
+source-requires-in-None c = variable_there _ _ _ _ c.deref-in-None.ensures c.self.view_is c.requires
+
+pub returns-in-None-clause-comes : goal.returns-in-None-clause-comes
+returns-in-None-clause-comes c = comes_seen _ _ _ _ _ c.deref-in-None.ensures c.self.view_is c.source-in-None.ensures.comes
+
+pub returns-in-None-clause-within : goal.returns-in-None-clause-within
+returns-in-None-clause-within c = seen.sources_seen _ _ _ _ c.deref-in-None.ensures c.self.view_is c.source-in-None.ensures.within
