@@ -1,6 +1,6 @@
 //! The arrival of an event at a port of an instance.
 
-ghost use Rattle.std.specs.Prelude.{◌≡◌, ◌∷◌, [], ◌≤◌, ◌^◌, All, false, true, length, IfErr, OnOk, Some};
+ghost use Rattle.std.specs.Prelude.{◌≡◌, ◌∷◌, [], ◌≤◌, All, false, true, length, IfErr, OnOk, Some};
 ghost use Rattle.fb_types.specs.Blocks.{Basic, Event};
 ghost use Rattle.fb_event.specs.Reactions.{PassesTo};
 ghost use Rattle.fb_net.specs.Arrivals.{AreTypedAt, entering, leaving, reacting, sampling};
@@ -166,40 +166,16 @@ impl Taking<'_> {
     {
         match passes_to(kind) {
             Some(event) => Ok(self.pass_on(kind, at, event)?),
-            None => self.sample_and_react(kind, at, emits),
+            None => {
+                self.take_samples(at)?;
+                emits.clear();
+                let mut ask = TimerAsk::Keep;
+                let tick = self.key.tick;
+                react_event(self.forest, self.system, kind, at, tick, emits, &mut ask)?;
+                self.outbox.ask_timer(ask);
+                Ok(self.emit_all(at.instance, emits)?)
+            }
         }
-    }
-
-    /// An event arrives at an event input of an event block that does more than pass events on. Parameter and errors are
-    /// as of `arrive_event`.
-    #[inline(always)]
-    fn sample_and_react(
-        &mut self,
-        kind: EventKind,
-        at: Target,
-        emits: &mut Emits,
-    ) -> Result<(), Halt>
-        requires index { MayArrive self.old at }
-        requires input { at.is_output ≡ false }
-        requires kind { HasKind self.old at.instance (Event kind) }
-        requires sound { IsTypedSystem self.old.system.now }
-        requires typed { AreTypedAt self.old.system.now self.old.forest.now }
-        ensures reacted { OnOk result (HasDone (reacting self.old.system.now self.old.key.now kind at) self.old self.new) }
-        ensures outs { OnOk result (ArePutOut self.old self.new) }
-
-        // Also where memory runs out.
-        ensures kept { IsKept self.old self.new }
-        ensures same { IsSame self.old self.new }
-        ensures only_memory { IfErr result (λ halt. halt ≡ Halt.Memory) }
-    {
-        self.take_samples(at)?;
-        emits.clear();
-        let mut ask = TimerAsk::Keep;
-        let tick = self.key.tick;
-        react_event(self.forest, self.system, kind, at, tick, emits, &mut ask)?;
-        self.outbox.ask_timer(ask);
-        self.emit_all(at.instance, emits)?;
-        Ok(())
     }
 
     /// The same as `take_samples`, where it is known which variables are WITH the event: mostly one, and then nothing is

@@ -17,7 +17,7 @@ use Rattle.fb_net.proofs.Arriving.{event-reacts, event-typed, ports-of_event}
 use Rattle.fb_net.proofs.PutOut.{timer-asked}
 use Rattle.fb_net.proofs.Same.{already, put-out-after, still}
 use Rattle.fb_net.proofs.Wholes.{kept-then, kept-world}
-use Rattle.fb_net.proofs.taking.Taking.sample_and_react.Goals as goal
+use Rattle.fb_net.proofs.taking.Taking.arrive_event.Goals as goal
 
 pub react_event-requires-clause-port : goal.react_event-requires-clause-port
 react_event-requires-clause-port c =
@@ -34,14 +34,14 @@ react_event-requires-clause-typed c =
     let b = c.take_samples.new.self in
     still (λ (i : Inputs) (k : Key). (w : World) × IsForest i b.forest.now w × InForest i b.forest.now c.args.at.instance × HasTypedInputs i c.args.kind c.args.at.instance w) a b c.take_samples.ensures.same
     (event-typed a.system.now a.key.now c.args.kind c.args.at c.requires.kind c.requires.input a.forest.now b.forest.now
-    a.outbox.now b.outbox.now c.in_ok-take_samples.ensures.taken c.requires.sound c.requires.typed (c.requires.index.stands.here ∙ sym c.take_samples.ensures.kept.resource))
+    a.outbox.now b.outbox.now c.in_ok-take_samples-in-None.ensures.taken c.requires.sound c.requires.typed (c.requires.index.stands.here ∙ sym c.take_samples.ensures.kept.resource))
 
 pub emit_all-requires-clause-index : goal.emit_all-requires-clause-index
 emit_all-requires-clause-index c =
     let a = c.args.self.now in
     let b = c.take_samples.new.self in
     let g = c.react_event.new.forest in
-    let ready = c.in_ok-take_samples.ensures.ready in
+    let ready = c.in_ok-take_samples-in-None.ensures.ready in
     let resource = sym c.react_event.ensures.resource in
     record {
       number = still (λ (i : Inputs) (k : Key). c.args.at.instance < length (system_of i).paths) a b c.take_samples.ensures.same c.requires.index.port.instance;
@@ -59,8 +59,8 @@ emit_all-requires-clause-emissions c =
     still (λ (i : Inputs) (k : Key). All (IsEmission (ports_at (system_of i) (path_at (system_of i) c.args.at.instance))) c.react_event.new.emits) a b c.take_samples.ensures.same
     (ports-of_event a.system.now c.args.kind c.args.at.instance c.requires.kind c.react_event.new.emits c.react_event.ensures.emissions)
 
-pub returns-clause-reacted : goal.returns-clause-reacted
-returns-clause-reacted c =
+pub returns-in_ok-emit_all-in-None-clause-reacted : goal.returns-in_ok-emit_all-in-None-clause-reacted
+returns-in_ok-emit_all-in-None-clause-reacted c =
     let a = c.args.self.now in
     let b = c.take_samples.new.self in
     let z = c.emit_all.new.self in
@@ -70,22 +70,22 @@ returns-clause-reacted c =
     let emits = c.react_event.new.emits in
     let same = c.take_samples.ensures.same in
     event-reacts a.system.now a.key.now c.args.kind at c.requires.kind c.requires.input a.forest.now b.forest.now late z.forest.now a.outbox.now b.outbox.now z.outbox.now ask emits
-    c.in_ok-take_samples.ensures.taken (c.requires.index.stands.here ∙ sym c.take_samples.ensures.kept.resource)
+    c.in_ok-take_samples-in-None.ensures.taken (c.requires.index.stands.here ∙ sym c.take_samples.ensures.kept.resource)
     (already (λ (i : Inputs) (k : Key). (w : World) → IsForest i b.forest.now w → InForest i b.forest.now at.instance → EventCame i at.instance c.args.kind (taken_reaction i c.args.kind at k.tick w) late ask emits w) a b same
-    c.in_ok-react_event.ensures.reacted)
+    c.in_ok-react_event-in-None.ensures.reacted)
     (already (λ (i : Inputs) (k : Key). EmitsSo i k at.instance late (record b.outbox.now { timer = asked b.outbox.now.timer ask }) emits z.forest.now z.outbox.now) a b same
-    (subst (λ (x : Outbox). EmitsSo b.system.now b.key.now at.instance late x emits z.forest.now z.outbox.now) c.ask_timer.ensures c.in_ok-emit_all.ensures.emitted))
+    (subst (λ (x : Outbox). EmitsSo b.system.now b.key.now at.instance late x emits z.forest.now z.outbox.now) c.ask_timer.ensures c.in_ok-emit_all-in-None.ensures.emitted))
 
-pub returns-clause-outs : goal.returns-clause-outs
-returns-clause-outs c =
+pub returns-in_ok-emit_all-in-None-clause-outs : goal.returns-in_ok-emit_all-in-None-clause-outs
+returns-in_ok-emit_all-in-None-clause-outs c =
     let b = c.take_samples.new.self in
     let z = c.emit_all.new.self in
-    put-out-after c.args.self.now b z.forest.now z.outbox.now c.take_samples.ensures.same c.in_ok-take_samples.ensures.outs
-    (λ were. c.in_ok-emit_all.ensures.outs
+    put-out-after c.args.self.now b z.forest.now z.outbox.now c.take_samples.ensures.same c.in_ok-take_samples-in-None.ensures.outs
+    (λ were. c.in_ok-emit_all-in-None.ensures.outs
     (timer-asked b.system.now b.forest.now c.react_event.new.forest b.outbox.now _ _ c.react_event.ensures.resource c.ask_timer.ensures were))
 
-pub returns-clause-kept : goal.returns-clause-kept
-returns-clause-kept c =
+pub returns-in_ok-emit_all-in-None-clause-kept : goal.returns-in_ok-emit_all-in-None-clause-kept
+returns-in_ok-emit_all-in-None-clause-kept c =
     let a = c.args.self.now in
     let b = c.take_samples.new.self in
     let g = c.react_event.new.forest in
@@ -95,8 +95,8 @@ returns-clause-kept c =
     (kept-then b.system.now b.forest.now g c.emit_all.new.self.forest.now
     (kept-world b.system.now b.forest.now g c.react_event.ensures.resource c.react_event.ensures.whole) c.emit_all.ensures.kept))
 
-pub returns-in_err-react_event-clause-kept : goal.returns-in_err-react_event-clause-kept
-returns-in_err-react_event-clause-kept c =
+pub returns-in_err-react_event-in-None-clause-kept : goal.returns-in_err-react_event-in-None-clause-kept
+returns-in_err-react_event-in-None-clause-kept c =
     let a = c.args.self.now in
     let b = c.take_samples.new.self in
     let g = c.react_event.new.forest in
@@ -104,8 +104,8 @@ returns-in_err-react_event-clause-kept c =
     (already (λ (i : Inputs) (k : Key). AreKept i b.forest.now g) a b c.take_samples.ensures.same
     (kept-world b.system.now b.forest.now g c.react_event.ensures.resource c.react_event.ensures.whole))
 
-pub returns-in_err-emit_all-clause-kept : goal.returns-in_err-emit_all-clause-kept
-returns-in_err-emit_all-clause-kept c =
+pub returns-in_err-emit_all-in-None-clause-kept : goal.returns-in_err-emit_all-in-None-clause-kept
+returns-in_err-emit_all-in-None-clause-kept c =
     let a = c.args.self.now in
     let b = c.take_samples.new.self in
     let g = c.react_event.new.forest in
