@@ -9,7 +9,7 @@
 //! - the data: `block`, the recursive type; `shell`, what connections and stimuli set of an instance; `resource`, the
 //!   ways to the blocks and the seats of the shells, with what is read and changed; `held_copies`, values of variables
 //!   of other resources; `laws`, what a change of one block leaves as it was;
-//! - before the first event: `building`, with `opening_charts`, `opening_blocks`, `opening_trees`, `opening_roots`,
+//! - before the first event: `Tree::build`, with `opening_charts`, `opening_blocks`, `opening_trees`, `opening_roots`,
 //!   `opening_shells`, `opening_seats` and `opening_copies`;
 //! - one event: `arrival` and `tree`; `taking`, what the steps share; `take`, by the kind of event; `arrive`, where it
 //!   arrives, and `end`, how that ends; `samples`, what an event samples and what composites show from inside; `bring`,
@@ -22,7 +22,6 @@ mod arrive;
 mod basic_blocks;
 pub mod block;
 mod bring;
-pub mod building;
 mod emit;
 mod end;
 mod event_blocks;
@@ -45,7 +44,6 @@ pub mod tree;
 
 pub use arrival::Arrival;
 pub use block::Block;
-pub use building::build;
 pub use held_copies::HeldCopies;
 pub use opening_blocks::block_of;
 pub use opening_charts::Charts;

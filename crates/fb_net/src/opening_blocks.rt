@@ -1,12 +1,11 @@
 //! One block before the first event.
 
-ghost use Rattle.std.specs.Prelude.{◌≡◌, length, map, slice_get, Some, true, IfOk, OnOk};
+ghost use Rattle.std.specs.Prelude.{◌≡◌, length, slice_get, Some, IfOk, OnOk};
 ghost use Rattle.fb_types.specs.Blocks.{Basic, Composite, variable_names};
 ghost use Rattle.fb_types.specs.declared.library.BlockType.TheVariants as types;
 ghost use Rattle.fb_types.specs.declared.library.CompositeType.{CompositeType};
 ghost use Rattle.fb_types.specs.OfSystem.{IsInstance, kind_at, opening_block, path_at};
 ghost use Rattle.fb_st.specs.Frames.{declared_in, values_of};
-ghost use Rattle.fb_ecc.specs.Programs.{IsSharedOf};
 ghost use Rattle.fb_net.specs.Blocks.{components_of, own_of};
 ghost use Rattle.fb_net.specs.Worlds.{BasicRepresents};
 ghost use Rattle.fb_net.specs.Opening.{AreCharts, AreDeclared, begun_all};
@@ -15,7 +14,7 @@ ghost use Rattle.fb_net.specs.OfSystem.{Represents};
 use crate::block::Block;
 use crate::opening_charts::{Charts, chart_at};
 use fb_check_names::TypeNumber;
-use fb_ecc::{BasicState, SharedChart};
+use fb_ecc::BasicState;
 use fb_event::EventState;
 use fb_st::Frame;
 use fb_system::System;
@@ -42,29 +41,8 @@ fn set_inputs(
     Ok(())
 }
 
-/// A basic block of a type in its first state, with the values that its variables begin with.
-fn opened_of(
-    alloc: Global,
-    system: &System,
-    instance: u32,
-    block: &BasicType,
-    chart: SharedChart,
-) -> Result<BasicState, AllocError>
-    requires instance { IsInstance system.now instance }
-    requires kind { kind_at system.now (path_at system.now instance) ≡ Some (Basic block.now) }
-    requires chart { IsSharedOf block.now chart }
-    ensures { IfOk result (λ s. let b = opening_block system.now (path_at system.now instance) in BasicRepresents block.now s b.memory b.variables) }
-{
-    system.facts();
-    let mut state = BasicState::open(alloc, block, chart)?;
-    let values = system.initial_inputs(alloc, instance)?;
-    let inputs = block.ports.inputs.as_slice();
-    set_inputs(alloc, inputs, values.as_slice(), &mut state.frame)?;
-    Ok(state)
-}
-
-/// A basic block of a type before the first event. It shares the chart of its type, which is put among the others where
-/// the block is the first of the type.
+/// A basic block of a type in its first state, with the values that its variables begin with. It shares the chart of its
+/// type, which is put among the others where the block is the first of the type.
 fn basic_of(
     alloc: Global,
     system: &System,
@@ -82,7 +60,11 @@ fn basic_of(
 {
     system.facts();
     let chart = chart_at(alloc, block, index, charts)?;
-    opened_of(alloc, system, instance, block, chart)
+    let mut state = BasicState::open(alloc, block, chart)?;
+    let values = system.initial_inputs(alloc, instance)?;
+    let inputs = block.ports.inputs.as_slice();
+    set_inputs(alloc, inputs, values.as_slice(), &mut state.frame)?;
+    Ok(state)
 }
 
 /// The block of an instance. Where it is a composite, the components are inside it; for others there are none. The

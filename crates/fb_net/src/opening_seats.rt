@@ -1,7 +1,7 @@
 //! The shells of a resource before the first event, each at its seat.
 
-ghost use Rattle.std.specs.Prelude.{◌≡◌, ◌+◌, [], OnOk};
-ghost use Rattle.fb_types.specs.OfSystem.{IsInstance, instance_count};
+ghost use Rattle.std.specs.Prelude.{◌≡◌, [], OnOk};
+ghost use Rattle.fb_types.specs.OfSystem.{instance_count};
 ghost use Rattle.fb_net.specs.Opening.{AreSeated, IsSeatedAlone};
 
 use crate::opening_shells::shell_of;
@@ -9,30 +9,7 @@ use crate::resource::Forest;
 use fb_system::System;
 use std::alloc::{AllocError, Global};
 
-/// Gives an instance its seat, and makes its shell where it is in the resource. All before it have theirs.
-fn seat_one(
-    alloc: Global,
-    system: &System,
-    instance: u32,
-    forest: &mut Forest,
-) -> Result<(), AllocError>
-    requires instance { IsInstance system.now instance }
-    requires seated { AreSeated system.now instance forest.old }
-    ensures seated { OnOk result (AreSeated system.now (instance + 1) forest.new) }
-    ensures alone { IsSeatedAlone forest.old forest.new }
-{
-    system.facts();
-    // There are no more shells than instances, and so their number fits.
-    let seat = forest.shells.len() as u32;
-    forest.seats.push(seat)?;
-    if system.resource(instance) != forest.resource {
-        return Ok(());
-    }
-    let shell = shell_of(alloc, system, instance)?;
-    forest.shells.push(shell)
-}
-
-/// Makes the shells of the instances that are in the resource, in the order of their numbers.
+/// Gives each instance its seat, and makes the shells of those that are in the resource, in the order of their numbers.
 pub(crate) fn seat_all(
     alloc: Global,
     system: &System,
@@ -45,7 +22,13 @@ pub(crate) fn seat_all(
 {
     system.facts();
     for instance in 0..system.count() as u32 {
-        seat_one(alloc, system, instance, forest)?;
+        // There are no more shells than instances, and so their number fits.
+        let seat = forest.shells.len() as u32;
+        forest.seats.push(seat)?;
+        if system.resource(instance) == forest.resource {
+            let shell = shell_of(alloc, system, instance)?;
+            forest.shells.push(shell)?;
+        }
     }
     Ok(())
 }

@@ -10,14 +10,22 @@ ghost use Rattle.fb_net.specs.Worlds.{IsForest};
 ghost use Rattle.fb_net.specs.Events.{HasTaken, IsEventIn, Remembered, event_in, event_of, key_at};
 
 use crate::arrival::Arrival;
+use crate::opening_copies::held_of;
+use crate::opening_roots::roots_of;
+use crate::opening_seats::seat_all;
+use crate::opening_trees::blocks_of;
 use crate::outbox::Outbox;
 use crate::resource::Forest;
 use crate::taking::Taking;
 use fb_st::Meter;
 use fb_system::System;
-use fb_types::{Emits, Event, Halt, Key};
+use fb_types::{Emits, Event, Halt, Items, Key};
 use std::alloc::{AllocError, Global};
+use std::collections::BTreeMap;
 use std::marker::Model;
+
+/// How many names deep an instance is at most: the components of the highest composite's lowest one.
+const DEPTH: usize = 17;
 
 /// The blocks and held copies of one resource of a system. Contracts see what the blocks represent in the model.
 pub struct Tree {
@@ -54,7 +62,8 @@ impl Model for Tree {
 }
 
 impl Tree {
-    /// The blocks of a resource, as they are before the first event, and its held copies.
+    /// The blocks of a resource, as they are before the first event, each with what it begins with, and the held copies
+    /// of the variables of other resources to which they are connected.
     ///
     /// # Errors
     /// When memory runs out.
@@ -64,9 +73,30 @@ impl Tree {
         ensures resource { IfOk result (λ t. t.resource ≡ resource) }
     {
         system.facts();
-        let forest = crate::building::build(alloc, system, resource)?;
-        let emits = Emits::new(alloc);
-        Ok(Tree { forest, emits })
+        let resource = resource as usize;
+        let roots = roots_of(alloc, system, resource)?;
+        let mut charts = BTreeMap::new(alloc);
+        let blocks = blocks_of(
+            alloc,
+            system,
+            roots.instances.as_slice(),
+            DEPTH,
+            &mut charts,
+        )?;
+        let held = held_of(alloc, system, resource)?;
+        let mut forest = Forest {
+            resource,
+            roots: roots.indexes,
+            blocks,
+            seats: Items::new(alloc),
+            shells: Items::new(alloc),
+            held,
+        };
+        seat_all(alloc, system, &mut forest)?;
+        Ok(Tree {
+            forest,
+            emits: Emits::new(alloc),
+        })
     }
 
     /// The number of the resource whose blocks these are, 0 to 255.
