@@ -49,13 +49,12 @@ pub(crate) fn set_slots(forest: &mut Forest, system: &System, instance: u32, set
     requires within { All (λ s. s.index < length (ports_at system.now (path_at system.now instance)).inputs) sets.now }
     ensures { Changes system.now forest.old instance (slots_set system.now instance sets.now) forest.new }
 {
+    system.facts();
     for set in sets {
-        let input = InstanceVariable {
-            instance,
-            variable: set.index,
-            is_output: false,
+        let Some(shell) = forest.shell_mut(instance) else {
+            unreachable!()
         };
-        forest.set_slot(system, input, set.value);
+        shell.slots.set(set.index as usize, set.value);
     }
 }
 

@@ -5,7 +5,7 @@ ghost use Rattle.fb_types.specs.Flat.{zero_value};
 ghost use Rattle.fb_types.specs.Reactions.{World};
 ghost use Rattle.fb_types.specs.OfSystem.{IsInstance};
 ghost use Rattle.fb_system.specs.OfSystem.{IsSourceOf, IsVariable, variable_of};
-ghost use Rattle.fb_net.specs.Changes.{Changes, Holds, ShowsInside, input_sampled, output_shown, slot_set};
+ghost use Rattle.fb_net.specs.Changes.{Changes, Holds, ShowsInside, input_sampled, output_shown};
 ghost use Rattle.fb_net.specs.HeldAt.{held_at};
 ghost use Rattle.fb_net.specs.Worlds.{InForest, IsForest, Reads, Samples, Shows, Stands, seat_in, value_in, way_in, with_seated};
 ghost use Rattle.fb_net.specs.OfSystem.{IsComposite, TakesSamples};
@@ -117,7 +117,7 @@ impl Forest {
 
     /// The shell of an instance that is in the resource, to be changed.
     #[inline(always)]
-    fn shell_mut(&mut self, instance: u32) -> Option<&mut Shell>
+    pub(crate) fn shell_mut(&mut self, instance: u32) -> Option<&mut Shell>
         requires { instance < length self.old.seats }
         ensures* writes_back { sem 𝓛 (LendsIf the_row shell_row self.entry result (with_seated self.old instance) self.old) }
         ensures value { option_map (λ s. s.now) result ≡ slice_get self.old.shells (seat_in self.old.seats instance) }
@@ -239,20 +239,6 @@ impl Forest {
             Some(source) => self.shown(system, source),
             None => self.published(system, output),
         }
-    }
-
-    /// A stimulus brings a value to a data input of an instance that is in the resource.
-    pub(crate) fn set_slot(&mut self, system: &System, input: InstanceVariable, value: Value)
-        requires variable { IsVariable system.now input }
-        requires input { input.is_output ≡ false }
-        requires stands { Stands system.now self.old input.instance }
-        ensures { Changes system.now self.old input.instance (slot_set (variable_of system.now input).name value) self.new }
-    {
-        system.facts();
-        let Some(shell) = self.shell_mut(input.instance) else {
-            unreachable!()
-        };
-        shell.slots.set(input.variable as usize, value);
     }
 
     /// A data output of an instance that is in the resource shows another value to connections. The value is lent, so
