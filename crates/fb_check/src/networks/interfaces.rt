@@ -1,29 +1,12 @@
-//! The interfaces of the types of instances.
+//! The variables WITH the output events of instances.
 
-ghost use Rattle.std.specs.Prelude.{◌≡◌, option_map};
+ghost use Rattle.std.specs.Prelude.{◌≡◌};
 ghost use Rattle.std.specs.Option.{option_copied};
-ghost use Rattle.fb_types.specs.Blocks as spec;
 ghost use Rattle.fb_types.specs.EventPorts.{ArePortsOfKinds};
-ghost use Rattle.fb_check_names.specs.Numbers.{kind_of_number};
 ghost use Rattle.fb_check.specs.networks.Serving.{output_at, withs_at};
 
 use fb_check_names::{NetworkNumbers, TypeNumber};
 use fb_types::{EventPort, Library, Name, Ports};
-
-/// The interface of a type.
-fn ports_at<'a>(
-    library: &'a Library,
-    interfaces: &'a [Ports],
-    number: TypeNumber,
-) -> Option<&'a Ports>
-    requires { ArePortsOfKinds interfaces.now }
-    ensures { option_copied result ≡ option_map spec.ports_of (kind_of_number library.now number) }
-{
-    match number {
-        TypeNumber::Event(kind) => interfaces.get(kind.index()),
-        TypeNumber::Declared(index) => Some(library.blocks.get(index)?.ports()),
-    }
-}
 
 /// The output event at which an event connection of the application begins.
 fn source_of<'a>(
@@ -37,9 +20,13 @@ fn source_of<'a>(
 {
     let from = numbers.event_wires.get(connection)?.from;
     let number = *numbers.types.get(from.component?)?;
-    ports_at(library, interfaces, number)?
-        .event_outputs
-        .get(from.port)
+    match number {
+        TypeNumber::Event(kind) => interfaces.get(kind.index())?.event_outputs.get(from.port),
+        TypeNumber::Declared(index) => {
+            let ports = library.blocks.get(index)?.ports();
+            ports.event_outputs.get(from.port)
+        }
+    }
 }
 
 /// The variables WITH the output event at which an event connection of the application begins.

@@ -8,7 +8,7 @@ ghost use Rattle.fb_types.specs.declared.deploy.Plan.{Plan};
 ghost use Rattle.fb_check_names.specs.Numbers.{IsResolved};
 ghost use Rattle.fb_check_names.specs.Listed.{each_at};
 ghost use Rattle.fb_check.specs.networks.Joins as spec;
-ghost use Rattle.fb_check.specs.networks.Misjoins.{IsMisjoinedAt, misjoins_all, out_at_index, out_in, out_inside};
+ghost use Rattle.fb_check.specs.networks.Misjoins.{IsMisjoinedAt, misjoins_all, out_at_index, out_in};
 
 use crate::networks::values::is_within;
 use crate::networks::variables::{source_type, target_type};
@@ -55,30 +55,8 @@ fn push_in_network(
     Ok(())
 }
 
-/// The same for the network inside a block type, if there is one.
+/// The same for the network inside the block type at an index, if there is one, by the numbers of all.
 fn push_inside(
-    found: &mut Vec<Misjoin>,
-    library: &Library,
-    block: usize,
-    declared: &BlockType,
-    numbers: &Option<NetworkNumbers>,
-) -> Result<(), AllocError>
-    ensures { IfOk result (λ _. found.new.items ≡ found.old.items ++ out_inside library.now block declared.now numbers.now) }
-{
-    match (declared, numbers) {
-        (BlockType::Composite(composite), Some(numbers)) => push_in_network(
-            found,
-            library,
-            Site::Inside(block),
-            Some(&composite.ports),
-            numbers,
-        ),
-        _ => Ok(()),
-    }
-}
-
-/// The same for the block type at an index, by the numbers of all.
-fn push_at_index(
     found: &mut Vec<Misjoin>,
     library: &Library,
     blocks: &Items<Option<NetworkNumbers>>,
@@ -87,9 +65,15 @@ fn push_at_index(
 ) -> Result<(), AllocError>
     ensures { IfOk result (λ _. found.new.items ≡ found.old.items ++ out_at_index library.now blocks.now block declared.now) }
 {
-    match blocks.get(block) {
-        Some(numbers) => push_inside(found, library, block, declared, numbers),
-        None => Ok(()),
+    match (declared, blocks.get(block)) {
+        (BlockType::Composite(composite), Some(Some(numbers))) => push_in_network(
+            found,
+            library,
+            Site::Inside(block),
+            Some(&composite.ports),
+            numbers,
+        ),
+        _ => Ok(()),
     }
 }
 
@@ -103,7 +87,7 @@ fn push_in_blocks(
 {
     let types = library.blocks.as_slice();
     for (block, declared) in types.iter().enumerate() {
-        push_at_index(found, library, blocks, block, declared)?;
+        push_inside(found, library, blocks, block, declared)?;
     }
     Ok(())
 }

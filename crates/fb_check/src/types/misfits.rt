@@ -5,13 +5,13 @@ ghost use Rattle.fb_types.specs.Kinds.{KindWrong};
 ghost use Rattle.fb_types.specs.Flat.{kind_of};
 ghost use Rattle.fb_types.specs.Repeated as repeated;
 ghost use Rattle.fb_types.specs.declared.deploy.Plan.{Plan};
-ghost use Rattle.fb_types.specs.declared.library.BlockType.TheVariants.{Basic, Composite};
+ghost use Rattle.fb_types.specs.declared.library.BlockType.TheVariants.{Basic};
 ghost use Rattle.fb_check_names.specs.Catalog.{IsBlock, IsCatalog};
 ghost use Rattle.fb_check_names.specs.Numbers.{IsResolved};
 ghost use Rattle.fb_check.specs.types.Checks.{AreBlocks, is_guard_right};
 ghost use Rattle.fb_check.specs.types.Insides.{AreAllInside, AreInside};
 ghost use Rattle.fb_check_names.specs.Listed.{each_at};
-ghost use Rattle.fb_check.specs.types.MisfitLists.{misfit_guard, misfit_initial, misfits_all, misfits_in_block, misfits_in_body, misfits_initial, misfits_inside};
+ghost use Rattle.fb_check.specs.types.MisfitLists.{misfit_guard, misfit_initial, misfits_all, misfits_in_block, misfits_in_body, misfits_initial};
 ghost use Rattle.fb_check.specs.types.Misfits.{IsMisfitAt};
 
 use crate::networks::push_wrong_parameters;
@@ -20,9 +20,7 @@ use crate::types::statements::push_in_body;
 use fb_check_names::{
     BlockIndexes, Catalog, Misfit, NetworkNumbers, Resolved, Site, Variables, push_unless,
 };
-use fb_types::{
-    Algorithm, BasicType, BlockType, CompositeType, Items, Library, Transition, ValueKind, Variable,
-};
+use fb_types::{Algorithm, BasicType, BlockType, Items, Library, Transition, ValueKind, Variable};
 use std::alloc::{AllocError, Global};
 
 /// Adds the variables that are declared with a value not of their type.
@@ -134,50 +132,8 @@ fn push_in_basic(
     ))
 }
 
-/// Adds the wrong parameters inside a composite type.
-fn push_in_composite(
-    found: &mut Vec<Misfit>,
-    library: &Library,
-    block: usize,
-    composite: &CompositeType,
-    numbers: &Option<NetworkNumbers>,
-) -> Result<(), AllocError>
-    requires { AreInside library.now (Composite composite.now) numbers.now }
-    ensures { IfOk result (λ _. found.new.items ≡ found.old.items ++ misfits_inside library.now block (Composite composite.now)) }
-{
-    match numbers {
-        Some(numbers) => {
-            let site = Site::Inside(block);
-            push_wrong_parameters(found, library, site, &composite.network, numbers)
-        }
-        None => Ok(()),
-    }
-}
-
-/// Adds what is wrong inside a block type, after its variables. The indexes are those of its names, and the numbers
-/// those of its network.
-fn push_inside(
-    alloc: Global,
-    found: &mut Vec<Misfit>,
-    library: &Library,
-    block: usize,
-    declared: &BlockType,
-    indexes: &BlockIndexes,
-    numbers: &Option<NetworkNumbers>,
-) -> Result<(), AllocError>
-    requires indexes { IsBlock declared.now indexes.now }
-    requires numbers { AreInside library.now declared.now numbers.now }
-    ensures { IfOk result (λ _. found.new.items ≡ found.old.items ++ misfits_inside library.now block declared.now) }
-{
-    match declared {
-        BlockType::Basic(basic) => push_in_basic(alloc, found, block, basic, indexes),
-        BlockType::Composite(composite) => {
-            push_in_composite(found, library, block, composite, numbers)
-        }
-    }
-}
-
-/// Adds what is wrong in a block type.
+/// Adds what is wrong in a block type: its variables, and then what is inside. The indexes are those of its names, and
+/// the numbers those of its network.
 fn push_in_block(
     alloc: Global,
     found: &mut Vec<Misfit>,
@@ -192,7 +148,14 @@ fn push_in_block(
     ensures { IfOk result (λ _. found.new.items ≡ found.old.items ++ misfits_in_block library.now block declared.now) }
 {
     push_initials(found, block, declared)?;
-    push_inside(alloc, found, library, block, declared, indexes, numbers)
+    match (declared, numbers) {
+        (BlockType::Basic(basic), _) => push_in_basic(alloc, found, block, basic, indexes),
+        (BlockType::Composite(composite), Some(numbers)) => {
+            let site = Site::Inside(block);
+            push_wrong_parameters(found, library, site, &composite.network, numbers)
+        }
+        (BlockType::Composite(_), None) => Ok(()),
+    }
 }
 
 /// The same for the block types of a declaration.

@@ -4,7 +4,7 @@ ghost use Rattle.std.specs.Prelude.{◌≡◌, ◌∷◌, ◌++◌, [], Some, If
 ghost use Rattle.fb_types.specs.Unknown.{data_ins};
 ghost use Rattle.fb_check_names.specs.Numbers.{IsNetwork};
 ghost use Rattle.fb_check_names.specs.Types.{AreTypes, port_number};
-ghost use Rattle.fb_check.specs.types.Scopes.{IsScope, inputs_in, number_in, number_past, placed};
+ghost use Rattle.fb_check.specs.types.Scopes.{IsScope, inputs_in, number_in, placed};
 ghost use Rattle.fb_check.specs.types.There.{each_there};
 ghost use Rattle.fb_check.specs.types.Unknowns.{unknown_in_instance, unknown_in_network};
 ghost use Rattle.fb_check_names.specs.Listed.{each_at, unless};
@@ -45,13 +45,6 @@ fn inputs_of(
     Ok(inputs)
 }
 
-/// A number that no type has.
-fn no_type(types: &Types) -> TypeNumber
-    ensures { result ≡ number_past types.now.library.now }
-{
-    TypeNumber::Declared(types.library.blocks.len())
-}
-
 /// Adds the number of an instance's type and the inputs that its parameters set, or those names of them that are
 /// unknown. If the type is unknown, the parameters are not looked at, and the number is one that no type has.
 fn push_instance(
@@ -76,8 +69,9 @@ fn push_instance(
             kinds.push(number).and(inputs.push(set))
         }
         None => {
+            let past = TypeNumber::Declared(types.library.blocks.len());
             push_one(found, UnknownName::InstanceType { site, instance })
-                .and(kinds.push(no_type(types)))
+                .and(kinds.push(past))
                 .and(inputs.push(Items::new(alloc)))
         }
     }

@@ -4,8 +4,8 @@ use Rattle.fb_check.proofs.networks.ranges.push_in_blocks.Goals as goal
 
 pub loop-block-preserved : goal.loop-block-preserved
 loop-block-preserved c =
-    each_more (out_at_index c.args.library.now c.args.blocks.now) c.as_slice-types.result.now c.loop-block.block c.index-types-block.result c.loop-block.found.items c.push_at_index.new.found.items _
-    c.loop-block-test.true c.index-types-block.is c.in_ok-push_at_index.ensures c.loop-block.invariant
+    each_more (out_at_index c.args.library.now c.args.blocks.now) c.as_slice-types.result.now c.loop-block.block c.index-types-block.result c.loop-block.found.items c.push_inside.new.found.items _
+    c.loop-block-test.true c.index-types-block.is c.in_ok-push_inside.ensures c.loop-block.invariant
 
 pub returns : goal.returns
 returns c =

@@ -5,6 +5,7 @@ use Rattle.fb_types.specs.declared.library.Parameter.{Parameter}
 use Rattle.fb_check_names.specs.Types.{port_number}
 use Rattle.fb_check_names.specs.Listed.{unless}
 use Rattle.fb_check_names.specs.declared.numbers.TypeNumber.{TypeNumber}
+use Rattle.fb_check_names.specs.declared.numbers.TypeNumber.TheVariants as number
 use Rattle.fb_check_names.specs.declared.location.UnknownName.{UnknownName}
 use Rattle.fb_check_names.specs.declared.location.UnknownName.TheVariants as location
 use Rattle.fb_check.specs.types.Scopes.{inputs_of_type, number_or, number_past}
@@ -60,7 +61,7 @@ returns-in-None-clause-kind c =
     and_first _ c.and-in-None-2.result c.and-in-None.result c.push-in-None-2.result c.and-in-None-2.ensures
     (and_last _ c.and-in-None.result c.push_one.result c.push-in-None.result c.and-in-None.ensures
     (IfOk-equal c.push-in-None.result c.push-in-None.new.self _ _ c.push-in-None.ensures.ok
-    (ap (λ (k : TypeNumber). c.args.kinds.now ++ k ∷ []) (c.no_type.ensures ∙ ap (number_or (number_past lib)) (sym unknown)))))
+    (ap (λ (k : TypeNumber). c.args.kinds.now ++ k ∷ []) (ap (λ (k : ℕ). number.Declared k) c.len.ensures ∙ ap (number_or (number_past lib)) (sym unknown)))))
 
 pub returns-in-None-clause-inputs : goal.returns-in-None-clause-inputs
 returns-in-None-clause-inputs c =
