@@ -118,7 +118,7 @@ fn fault_of_link(test: TableTest, link: usize, draft: &LinkDraft) -> Option<Depl
     }
 }
 
-/// Where the first link that fails a test does.
+/// Where the first link that fails this test fails it.
 pub(crate) fn fault_among(test: TableTest, links: &[LinkDraft]) -> Option<DeployLocation>
     ensures { result ≡ spec.among_links (spec.fault_of_link test) 0 links.now }
 {
