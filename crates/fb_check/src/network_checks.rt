@@ -54,20 +54,7 @@ fn judge_sources(alloc: Global, case: &Case) -> Result<(), Stop>
     passed(is_right, Refusal::TwoSources(found), ())
 }
 
-/// E25: composites of a height up to 16.
-fn judge_heights(alloc: Global, case: &Case, resolved: &Resolved) -> Result<(), Stop>
-    requires resolved { IsResolved case.now.library.now case.now.plan.now resolved.now }
-    requires passed { HasPassed 25 case.now }
-    ensures ok { IfOk result (λ _. HasPassed 26 case.now) }
-    ensures refused { IfErr result (IsStop (inputs_in case.now)) }
-{
-    match too_high_location(alloc, resolved)? {
-        Some(location) => Err(Stop::Refused(Refusal::TooHigh(location))),
-        None => Ok(()),
-    }
-}
-
-/// The checks from E22 to E25.
+/// The checks from E22 to E24, and E25: composites of a height up to 16.
 pub fn judge_networks(
     alloc: Global,
     case: &Case,
@@ -82,5 +69,8 @@ pub fn judge_networks(
     judge_kinds(alloc, case, catalog, resolved)?;
     judge_ranges(alloc, case, resolved)?;
     judge_sources(alloc, case)?;
-    judge_heights(alloc, case, resolved)
+    match too_high_location(alloc, resolved)? {
+        Some(location) => Err(Stop::Refused(Refusal::TooHigh(location))),
+        None => Ok(()),
+    }
 }

@@ -1,8 +1,6 @@
 //! The block types of a declaration: their networks by number, and their names that are unknown.
 
 ghost use Rattle.std.specs.Prelude.{◌≡◌, ◌++◌, Some, [], IfOk, slice_get};
-ghost use Rattle.fb_types.specs.declared.library.BlockType.TheVariants.{Composite};
-ghost use Rattle.fb_check_names.specs.Numbers.{IsNetwork};
 ghost use Rattle.fb_check_names.specs.Types.{AreTypes};
 ghost use Rattle.fb_check_names.specs.Unknown.{AreBlocks, IsBlockNumbers};
 ghost use Rattle.fb_check.specs.types.Unknowns.{unknown_in_block};
@@ -15,32 +13,8 @@ use crate::types::interface::Interface;
 use crate::types::networks::network_numbers;
 use fb_check_names::types::Types;
 use fb_check_names::{NetworkNumbers, Site, UnknownName};
-use fb_types::{BlockType, CompositeType, Items};
+use fb_types::{BlockType, Items};
 use std::alloc::{AllocError, Global};
-
-/// The network of the composite type at an index, by number. Adds the unknown names of the type.
-fn composite_numbers(
-    alloc: Global,
-    found: &mut Vec<UnknownName>,
-    types: &Types,
-    block: usize,
-    composite: &CompositeType,
-) -> Result<NetworkNumbers, AllocError>
-    requires types { AreTypes types.now }
-    requires index { slice_get types.now.library.now.blocks block ≡ Some (Composite composite.now) }
-    ensures listed { IfOk result (λ _. found.new.items ≡ found.old.items ++ unknown_in_block types.now.library.now block (Composite composite.now)) }
-    ensures numbers { IfOk result (λ x. unknown_in_block types.now.library.now block (Composite composite.now) ≡ [] → IsNetwork types.now.library.now (Some composite.now, composite.now.network) x) }
-{
-    let indexes = &types.catalog.blocks[block];
-    let interface = Interface::new(&composite.ports, &[], &indexes.ports);
-    push_in_withs(found, block, &interface)?;
-    let scope = NetworkScope {
-        composite: Some((composite, &indexes.ports)),
-        network: &composite.network,
-        instances: &indexes.instances,
-    };
-    network_numbers(alloc, found, types, Site::Inside(block), &scope)
-}
 
 /// The network of the block type at an index, by number, or none for a basic type. Adds the unknown names of the type.
 fn block_numbers(
@@ -61,7 +35,15 @@ fn block_numbers(
             Ok(None)
         }
         BlockType::Composite(composite) => {
-            let numbers = composite_numbers(alloc, found, types, block, composite)?;
+            let indexes = &types.catalog.blocks[block];
+            let interface = Interface::new(&composite.ports, &[], &indexes.ports);
+            push_in_withs(found, block, &interface)?;
+            let scope = NetworkScope {
+                composite: Some((composite, &indexes.ports)),
+                network: &composite.network,
+                instances: &indexes.instances,
+            };
+            let numbers = network_numbers(alloc, found, types, Site::Inside(block), &scope)?;
             Ok(Some(numbers))
         }
     }

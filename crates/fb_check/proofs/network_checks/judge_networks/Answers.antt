@@ -1,4 +1,8 @@
-use Rattle.fb_check.proofs.Verdict.{first, passes_20, passes_21}
+use Rattle.std.proofs.lemmas.Option.{MatchOption-at_some, MatchOption-at_none}
+use Rattle.fb_types.specs.Joined.{TooHigh}
+use Rattle.fb_check.specs.networks.Heights.{IsTooHighAt}
+use Rattle.fb_check.proofs.networks.Circles.{height_applies}
+use Rattle.fb_check.proofs.Verdict.{first, least_25, passes_20, passes_21, passes_25}
 use Rattle.fb_check.proofs.network_checks.judge_networks.Goals as goal
 
 pub judge_kinds-requires : goal.judge_kinds-requires
@@ -18,11 +22,16 @@ judge_ranges-requires c = record { resolved = c.requires.resolved; passed = c.in
 pub judge_sources-requires : goal.judge_sources-requires
 judge_sources-requires c = record { passed = c.in_ok-judge_ranges.ensures.ok }
 
-pub judge_heights-requires : goal.judge_heights-requires
-judge_heights-requires c = record { resolved = c.requires.resolved; passed = c.in_ok-judge_sources.ensures.ok }
+pub returns-in-Some-clause-refused : goal.returns-in-Some-clause-refused
+returns-in-Some-clause-refused c =
+    let lib = c.args.case.now.library.now in
+    let plan = c.args.case.now.plan.now in
+    let high = MatchOption-at_some (¬ (TooHigh lib)) (IsTooHighAt lib) c.in-Some.location c.in-Some.is (c.in_ok-location.ensures lib plan c.requires.resolved) in
+    record { least = least_25 lib plan c.args.case.now.stimuli.now c.in_ok-judge_sources.ensures.ok (height_applies lib c.in-Some.location high); all = high }
 
-pub returns-clause-ok : goal.returns-clause-ok
-returns-clause-ok c = c.judge_heights.ensures.ok
-
-pub returns-clause-refused : goal.returns-clause-refused
-returns-clause-refused c = c.judge_heights.ensures.refused
+pub returns-in-None-clause-ok : goal.returns-in-None-clause-ok
+returns-in-None-clause-ok c =
+    let lib = c.args.case.now.library.now in
+    let plan = c.args.case.now.plan.now in
+    passes_25 lib plan c.args.case.now.stimuli.now c.in_ok-judge_sources.ensures.ok
+    (MatchOption-at_none (¬ (TooHigh lib)) (IsTooHighAt lib) c.in-None.is (c.in_ok-location.ensures lib plan c.requires.resolved))
