@@ -1,15 +1,14 @@
 //! What stimuli may name, looked up by name.
 
-ghost use Rattle.std.specs.Prelude.{map, option_map};
+ghost use Rattle.std.specs.Prelude.{◌<◌, length, OnSome};
 ghost use Rattle.std.specs.Option.{option_copied};
-ghost use Rattle.fb_check_names.specs.Indexes.{IsIndex};
-ghost use Rattle.fb_types.specs.Blocks.{ports_of};
-ghost use Rattle.fb_types.specs.Flat.{type_name, type_named};
-ghost use Rattle.fb_check.specs.Directory.{IsDirectory, IsFound};
+ghost use Rattle.fb_types.specs.declared.deploy.Plan.{Plan};
+ghost use Rattle.fb_check_names.specs.Catalog.{IsCatalog};
+ghost use Rattle.fb_check.specs.Directory.{IsDirectory, IsFound, ports_at_index};
 
 use crate::directory_making::{Pairs, TypeInputs};
-use fb_check_names::{Indexes, index_of_name};
-use fb_types::{Items, Library, Name, kind_named};
+use fb_check_names::{Catalog, index_of_name};
+use fb_types::{Items, Library, kind_named};
 
 /// What stimuli may name: of each type its event inputs and its data inputs, and the ports of the
 /// application to which data connections lead.
@@ -23,19 +22,23 @@ pub struct Directory<'a> {
     pub targets: Pairs<'a>,
 }
 
-/// What stimuli may name of the type with a name, or `None` if there is no such type.
-pub fn inputs_named<'d, 'a>(
+/// What a stimulus may name of the instance at an index of the application, or `None` if there is no such instance or
+/// no such type.
+pub fn inputs_at<'d, 'a>(
     library: &Library,
+    catalog: &Catalog,
     directory: &'d Directory<'a>,
-    types: &Indexes,
-    name: &Name,
+    index: usize,
 ) -> Option<&'d TypeInputs<'a>>
+    requires catalog { (plan : Plan) × IsCatalog library.now plan catalog.now }
     requires directory { IsDirectory library.now directory.now }
-    requires types { IsIndex (map type_name library.now.blocks) types.now }
-    ensures { IsFound (option_map ports_of (type_named library.now name.now)) (option_copied result) }
+    ensures found { IsFound (ports_at_index library.now index) (option_copied result) }
+    ensures within { OnSome result (index < length library.now.application.network.instances) }
 {
+    let instance = library.application.network.instances.get(index)?;
+    let name = &instance.block_type;
     match kind_named(name.as_bytes()) {
         Some(kind) => directory.event_blocks.get(kind.index()),
-        None => directory.declared.get(index_of_name(types, name)?),
+        None => directory.declared.get(index_of_name(&catalog.types, name)?),
     }
 }

@@ -1,47 +1,22 @@
 //! The stimuli by number, if the application can take them (E29).
 
-ghost use Rattle.std.specs.Prelude.{◌≡◌, ◌<◌, ◌↔◌, ◌++◌, [], All, length, map, IfOk, IsTrue, OnSome};
-ghost use Rattle.std.specs.Option.{option_copied};
+ghost use Rattle.std.specs.Prelude.{◌≡◌, ◌↔◌, ◌++◌, [], All, map, IfOk, IsTrue};
 ghost use Rattle.fb_types.specs.Accepted.{set_names};
-ghost use Rattle.fb_types.specs.EventPorts.{ArePortsOfKinds};
 ghost use Rattle.fb_types.specs.Repeated.{Twice};
 ghost use Rattle.fb_types.specs.Unknown.{NameUnknown};
 ghost use Rattle.fb_types.specs.declared.deploy.Plan.{Plan};
 ghost use Rattle.fb_check_names.specs.Catalog.{IsCatalog};
-ghost use Rattle.fb_check_names.specs.Indexes.{names_in, index_in};
-ghost use Rattle.fb_check.specs.Directory.{IsDirectory, IsFound, AreTaken, held_slot, input_in, ports_at_index, slot_of};
+ghost use Rattle.fb_check_names.specs.Indexes.{names_in};
+ghost use Rattle.fb_check.specs.Directory.{IsDirectory, AreTaken, held_slot, input_in, slot_of};
 ghost use Rattle.fb_check.specs.Stimuli.{AreAllBad, AreSlotsOr, IsAdded, IsBadAt, IsRowOr};
 
-use crate::directory::{Directory, inputs_named};
+use crate::directory::{Directory, inputs_at};
 use crate::directory_making::{TypeInputs, inputs_of_each, targets_of};
 use crate::location::{StimulusFault, StimulusLocation};
 use fb_check_names::{Catalog, index_of_name, indexes_of};
 use fb_system::{SlotValue, StimulusRow};
-use fb_types::{Items, Library, Name, Ports, Setting, Stimulus, Value, all_ports};
+use fb_types::{Items, Library, Name, Setting, Stimulus, Value, all_ports};
 use std::alloc::{AllocError, Global};
-
-/// What a stimulus may name of the instance at an index of the application.
-fn inputs_at<'d, 'a>(
-    library: &Library,
-    catalog: &Catalog,
-    directory: &'d Directory<'a>,
-    index: usize,
-) -> Option<&'d TypeInputs<'a>>
-    requires catalog { (plan : Plan) × IsCatalog library.now plan catalog.now }
-    requires directory { IsDirectory library.now directory.now }
-    ensures found { IsFound (ports_at_index library.now index) (option_copied result) }
-    ensures within { OnSome result (index < length library.now.application.network.instances) }
-{
-    let instance = library.application.network.instances.get(index)?;
-    inputs_named(library, directory, &catalog.types, &instance.block_type)
-}
-
-/// The index of an event input.
-fn event_index(inputs: &TypeInputs, event: &Name) -> Option<u32>
-    ensures { result ≡ index_in inputs.now.events event.now }
-{
-    inputs.events.get(event).copied()
-}
 
 /// Adds the names of the variables that are set.
 fn push_names<'a>(names: &mut Vec<&'a Name>, settings: &'a [Setting]) -> Result<(), AllocError>
@@ -130,7 +105,7 @@ fn row_of<'a>(
     let Some(inputs) = inputs_at(library, catalog, directory, index) else {
         return Ok(Err(StimulusFault::Event));
     };
-    let Some(event) = event_index(inputs, &stimulus.event) else {
+    let Some(event) = inputs.events.get(&stimulus.event).copied() else {
         return Ok(Err(StimulusFault::Event));
     };
     let is_set_twice = has_setting_twice(alloc, stimulus)?;
@@ -190,31 +165,6 @@ fn rows_by<'a>(
     Ok(rows)
 }
 
-/// The stimuli by number, each at its row, from the interfaces of the event blocks.
-fn rows_in(
-    alloc: Global,
-    found: &mut Vec<StimulusLocation>,
-    library: &Library,
-    catalog: &Catalog,
-    interfaces: &[Ports],
-    stimuli: &[Stimulus],
-) -> Result<Items<StimulusRow>, AllocError>
-    requires empty { found.old.items ≡ [] }
-    requires names { (plan : Plan) × IsCatalog library.now plan catalog.now × ¬ (NameUnknown library.now plan) }
-    requires interfaces { ArePortsOfKinds interfaces.now }
-    ensures each { IfOk result (λ _. All (IsBadAt library.now stimuli.now) found.new.items) }
-    ensures all { IfOk result (λ _. AreAllBad library.now stimuli.now found.new.items) }
-    ensures rows { IfOk result (λ rows. found.new.items ≡ [] → AreTaken library.now stimuli.now rows) }
-{
-    let network = &library.application.network;
-    let directory = Directory {
-        event_blocks: inputs_of_each(alloc, interfaces)?,
-        declared: inputs_of_each(alloc, library.blocks.as_slice())?,
-        targets: targets_of(alloc, network.data_connections.as_slice())?,
-    };
-    rows_by(alloc, found, library, catalog, &directory, stimuli)
-}
-
 /// The stimuli by number, each at its row, in near linear time. Adds all that name no event input of an instance of the
 /// application, or set a variable that is not WITH the event, is connected, is set twice, or can't contain the value
 /// (E29).
@@ -236,12 +186,11 @@ pub(crate) fn stimulus_rows(
     ensures rows { IfOk result (λ rows. found.new.items ≡ [] → AreTaken library.now stimuli.now rows) }
 {
     let interfaces = all_ports(alloc)?;
-    rows_in(
-        alloc,
-        found,
-        library,
-        catalog,
-        interfaces.as_slice(),
-        stimuli,
-    )
+    let network = &library.application.network;
+    let directory = Directory {
+        event_blocks: inputs_of_each(alloc, interfaces.as_slice())?,
+        declared: inputs_of_each(alloc, library.blocks.as_slice())?,
+        targets: targets_of(alloc, network.data_connections.as_slice())?,
+    };
+    rows_by(alloc, found, library, catalog, &directory, stimuli)
 }

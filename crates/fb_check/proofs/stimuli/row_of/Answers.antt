@@ -29,8 +29,8 @@ returns-in_default-inputs_at c =
     let P : Option TypeInputs → Type 0 = λ o. IsFound (ports_at_index lib c.in-Some.index) o in
     no_instance lib s (found_at lib s c.in-Some.index None (at ∙ c.in-Some.is, subst P (ap option_copied c.in_default-inputs_at.is) c.inputs_at.ensures.found))
 
-pub returns-in_default-event_index : goal.returns-in_default-event_index
-returns-in_default-event_index c =
+pub returns-in_default-copied : goal.returns-in_default-copied
+returns-in_default-copied c =
     let lib = c.args.library.now in
     let s = c.args.stimulus.now in
     let at = placed_at (instance_names lib.application.network) c.args.catalog.now.instances s.instance s.instance c.index_of_name.result
@@ -38,7 +38,7 @@ returns-in_default-event_index c =
     let x = c.in-Some-inputs_at.inputs.now in
     let P : Option TypeInputs → Type 0 = λ o. IsFound (ports_at_index lib c.in-Some.index) o in
     no_event lib s x (found_at lib s c.in-Some.index (Some x) (at ∙ c.in-Some.is, subst P (ap option_copied c.in-Some-inputs_at.is) c.inputs_at.ensures.found))
-    (ap is_some (sym c.event_index.ensures ∙ c.in_default-event_index.is))
+    (ap is_some (sym (c.copied.ensures ∙ c.get.ensures.value) ∙ c.in_default-copied.is))
 
 pub returns-in-Err : goal.returns-in-Err
 returns-in-Err c =
@@ -67,8 +67,8 @@ returns c =
     let x = c.in-Some-inputs_at.inputs.now in
     let P : Option TypeInputs → Type 0 = λ o. IsFound (ports_at_index lib c.in-Some.index) o in
     let Q : Result (List SlotValue) ℕ → Type 0 = AreSlotsOr (slot_of d x s) s.settings in
-    taken_is lib d s x _ c.in-Some.index c.in-Some-event_index.event c.requires.directory
+    taken_is lib d s x _ c.in-Some.index c.in-Some-copied.event c.requires.directory
     (at ∙ c.in-Some.is, subst P (ap option_copied c.in-Some-inputs_at.is) c.inputs_at.ensures.found)
-    (sym c.event_index.ensures ∙ c.in-Some-event_index.is)
+    (sym (c.copied.ensures ∙ c.get.ensures.value) ∙ c.in-Some-copied.is)
     (λ t. true≢false (sym (c.in_ok-is_set_twice.ensures.1 t) ∙ c.if-is_set_twice.false)) (subst Q c.in-Ok.is c.in_ok-sets.ensures)
     refl refl refl
