@@ -5,7 +5,7 @@ ghost use Rattle.fb_types.specs.Flat.{name_of_resource};
 ghost use Rattle.fb_types.specs.Mapped.{NoLink};
 ghost use Rattle.fb_check.specs.networks.Mapping.{IsMapping, IsHolding};
 ghost use Rattle.fb_check_names.specs.Listed.{each_at};
-ghost use Rattle.fb_check.specs.networks.Links.{AreWays, IsUnlinkedAt, is_linked, unlinked_all, unlinked_at};
+ghost use Rattle.fb_check.specs.networks.Links.{AreWays, IsUnlinkedAt, unlinked_all, unlinked_at};
 
 use crate::networks::mapping::{Mapping, resource_of};
 use fb_check_names::{FlowKind, Unlinked, push_unless};
@@ -37,25 +37,6 @@ fn name_of(plan: &Plan, resource: usize) -> &[u8]
     }
 }
 
-/// Whether one resource holds both ends of a connection, or there is a link for it.
-fn is_linked<'a>(
-    plan: &'a Plan,
-    mapping: &Mapping,
-    ways: &BTreeSet<Way<'a>, Global>,
-    connection: &Connection,
-) -> bool
-    requires mapping { IsHolding plan.now mapping.now }
-    requires ways { AreWays plan.now.links ways.now }
-    ensures { result ≡ is_linked plan.now connection.now }
-{
-    let from = resource_of(mapping, &connection.from);
-    let to = resource_of(mapping, &connection.to);
-    if from == to {
-        return true;
-    }
-    ways.contains(&(name_of(plan, from), name_of(plan, to)))
-}
-
 /// Adds those of these connections, which carry the same, that go from one resource to another with no link for it.
 fn push_unlinked<'a>(
     found: &mut Vec<Unlinked>,
@@ -70,7 +51,10 @@ fn push_unlinked<'a>(
     ensures { IfOk result (λ _. found.new.items ≡ found.old.items ++ each_at (unlinked_at plan.now flow) connections.now) }
 {
     for (connection, declared) in connections.iter().enumerate() {
-        let is_linked = is_linked(plan, mapping, ways, declared);
+        let from = resource_of(mapping, &declared.from);
+        let to = resource_of(mapping, &declared.to);
+        // One resource holds both ends, or there is a link.
+        let is_linked = from == to || ways.contains(&(name_of(plan, from), name_of(plan, to)));
         push_unless(found, is_linked, Unlinked { flow, connection })?;
     }
     Ok(())

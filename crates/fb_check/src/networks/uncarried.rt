@@ -1,45 +1,19 @@
 //! E28: data connections between two resources that no event serves.
 
-ghost use Rattle.std.specs.Prelude.{◌≡◌, ◌++◌, [], All, None, Contains, IfOk};
+ghost use Rattle.std.specs.Prelude.{◌≡◌, [], All, None, IfOk};
 ghost use Rattle.fb_types.specs.Repeated.{NameTwice};
 ghost use Rattle.fb_types.specs.Mapped.{NoEvent};
 ghost use Rattle.fb_check_names.specs.Numbers.{IsNetwork, IsResolved};
-ghost use Rattle.fb_check_names.specs.Listed.{each_at};
 ghost use Rattle.fb_check.specs.networks.Mapping.{IsMapping, IsHolding};
 ghost use Rattle.fb_check.specs.networks.Serving.{AreServed};
-ghost use Rattle.fb_check.specs.networks.Unserved.{IsUnservedAt, is_served, unserved_all, unserved_at};
+ghost use Rattle.fb_check.specs.networks.Unserved.{IsUnservedAt, unserved_all};
 
 use crate::networks::mapping::{Mapping, resource_of};
 use crate::networks::serving::{Leads, component_of, serve_all};
 use fb_check_names::{NetworkNumbers, Resolved, push_unless};
-use fb_types::{Connection, Library, Plan, all_ports};
+use fb_types::{Library, Plan, all_ports};
 use std::alloc::{AllocError, Global};
 use std::collections::BTreeSet;
-
-/// Whether one resource holds both ends of a data connection of the application, or an event serves it.
-fn is_served<'a>(
-    library: &Library,
-    plan: &Plan,
-    mapping: &Mapping,
-    numbers: &NetworkNumbers,
-    served: &Leads<'a>,
-    connection: &'a Connection,
-) -> bool
-    requires once { ¬ (NameTwice library.now plan.now) }
-    requires mapping { IsHolding plan.now mapping.now }
-    requires numbers { IsNetwork library.now (None, library.now.application.network) numbers.now }
-    requires served { AreServed library.now plan.now served.now }
-    requires there { Contains library.now.application.network.data_connections connection.now }
-    ensures { result ≡ is_served library.now plan.now connection.now }
-{
-    let from = resource_of(mapping, &connection.from);
-    let to = resource_of(mapping, &connection.to);
-    if from == to {
-        return true;
-    }
-    let component = component_of(&connection.from);
-    served.contains(&(component, &connection.from.port, to))
-}
 
 /// The list of all data connections that no event serves, from what is served.
 fn unserved_connections<'a>(
@@ -59,7 +33,11 @@ fn unserved_connections<'a>(
     let mut found = Vec::new(alloc);
     let connections = library.application.network.data_connections.as_slice();
     for (connection, declared) in connections.iter().enumerate() {
-        let is_served = is_served(library, plan, mapping, numbers, served, declared);
+        let from = resource_of(mapping, &declared.from);
+        let to = resource_of(mapping, &declared.to);
+        let component = component_of(&declared.from);
+        // One resource holds both ends, or an event serves it.
+        let is_served = from == to || served.contains(&(component, &declared.from.port, to));
         push_unless(&mut found, is_served, connection)?;
     }
     Ok(found)
