@@ -79,3 +79,7 @@ three_added {X} a b c d p q r first second last =
 pub if_ok : {T E : Type 0} {P Q : T → Type 0} (r : Result T E) → ((x : T) → P x → Q x) → IfOk r P → IfOk r Q
 if_ok (Ok x) f h = f x h
 if_ok (Err e) f h = tt
+
+-- what a call gave that succeeded
+pub of_ok : {T E : Type 0} (P : Type 0) (r : Result T E) (x : T) → r ≡ Ok x → IfOk r (λ _. P) → P
+of_ok {T} {E} P r x is held = subst (λ (d : Result T E). IfOk d (λ _. P)) is held

@@ -5,12 +5,12 @@ ghost use Rattle.fb_types.specs.Repeated.{algorithm_names};
 ghost use Rattle.fb_check_names.specs.PortKinds.{names_of_kind};
 ghost use Rattle.fb_check_names.specs.declared.location.Direction.TheVariants as direction;
 ghost use Rattle.fb_check_names.specs.Listed.{each_at};
-ghost use Rattle.fb_check.specs.types.Unknowns.{is_optional_met, unknown_in_action, unknown_in_state, unknown_names, unknown_variables, unknown_withs};
+ghost use Rattle.fb_check.specs.types.Unknowns.{is_optional_met, unknown_in_state, unknown_names, unknown_variables, unknown_withs};
 
 use crate::types::interface::Interface;
 use crate::types::scope::Scope;
 use fb_check_names::{ActionPart, Direction, PortKind, TransitionPart, UnknownName, push_unless};
-use fb_types::{Action, EventPort, Name, State, Transition};
+use fb_types::{EventPort, Name, State, Transition};
 use std::alloc::AllocError;
 
 /// Adds the variables in the WITH list of an event that are not of the kind.
@@ -126,36 +126,7 @@ pub fn push_names(
         .and(push_unless(found, is_known, event))
 }
 
-/// Adds the names of an action that are unknown.
-fn push_in_action(
-    found: &mut Vec<UnknownName>,
-    scope: &Scope,
-    block: usize,
-    state: usize,
-    action: usize,
-    declared: &Action,
-) -> Result<(), AllocError>
-    ensures { IfOk result (λ _. found.new.items ≡ found.old.items ++ unknown_in_action scope.now block state action declared.now) }
-{
-    let algorithm = UnknownName::Action {
-        block,
-        state,
-        action,
-        part: ActionPart::Algorithm,
-    };
-    let output = UnknownName::Action {
-        block,
-        state,
-        action,
-        part: ActionPart::Output,
-    };
-    let is_known = is_event(scope, PortKind::EventOutput, &declared.output);
-    push_unless(found, is_algorithm(scope, &declared.algorithm), algorithm).and(push_unless(
-        found, is_known, output,
-    ))
-}
-
-/// The same for the actions of a state.
+/// Adds the names of the actions of a state that are unknown.
 fn push_in_state(
     found: &mut Vec<UnknownName>,
     scope: &Scope,
@@ -167,7 +138,22 @@ fn push_in_state(
 {
     let actions = declared.actions.as_slice();
     for (action, each) in actions.iter().enumerate() {
-        push_in_action(found, scope, block, state, action, each)?;
+        let algorithm = UnknownName::Action {
+            block,
+            state,
+            action,
+            part: ActionPart::Algorithm,
+        };
+        let output = UnknownName::Action {
+            block,
+            state,
+            action,
+            part: ActionPart::Output,
+        };
+        let is_known = is_event(scope, PortKind::EventOutput, &each.output);
+        push_unless(found, is_algorithm(scope, &each.algorithm), algorithm).and(push_unless(
+            found, is_known, output,
+        ))?;
     }
     Ok(())
 }

@@ -2,7 +2,7 @@
 
 ghost use Rattle.std.specs.Prelude.{◌≡◌, ◌++◌, Some, IfOk, option_map, option_and_then};
 ghost use Rattle.fb_check_names.specs.Indexes.{index_in};
-ghost use Rattle.fb_check.specs.types.There.{each_there, ends_in, mapped_unless, sides_unless, some_of};
+ghost use Rattle.fb_check.specs.types.There.{each_there, ends_in, mapped_unless, sides_unless};
 ghost use Rattle.fb_check_names.specs.Listed.{each_at};
 
 use crate::types::there::{push_found, push_some};
@@ -59,33 +59,7 @@ fn link_between(from: Option<usize>, to: Option<usize>) -> Option<LinkEnds>
     }
 }
 
-/// Adds the resources of a link, or those of its ends that are no resources.
-fn push_link(
-    found: &mut Vec<UnknownName>,
-    all: &mut Items<LinkEnds>,
-    resources: &Indexes,
-    link: usize,
-    declared: &Link,
-) -> Result<(), AllocError>
-    ensures listed { IfOk result (λ _. found.new.items ≡ found.old.items ++ sides_unless resources.now link declared.now) }
-    ensures number { IfOk result (λ _. all.new ≡ all.old ++ some_of (ends_in resources.now declared.now)) }
-{
-    let from = index_of_name(resources, &declared.from);
-    let from_end = UnknownName::LinkEnd {
-        link,
-        side: Side::From,
-    };
-    let to = index_of_name(resources, &declared.to);
-    let to_end = UnknownName::LinkEnd {
-        link,
-        side: Side::To,
-    };
-    push_unless(found, from.is_some(), from_end)
-        .and(push_unless(found, to.is_some(), to_end))
-        .and(push_some(all, link_between(from, to)))
-}
-
-/// The resources of each link. Adds the ends that are no resources.
+/// The resources of each link, if both are known. Adds the ends that are no resources.
 pub fn links_of(
     alloc: Global,
     found: &mut Vec<UnknownName>,
@@ -97,7 +71,19 @@ pub fn links_of(
 {
     let mut all = Items::new(alloc);
     for (link, declared) in links.iter().enumerate() {
-        push_link(found, &mut all, resources, link, declared)?;
+        let from = index_of_name(resources, &declared.from);
+        let from_end = UnknownName::LinkEnd {
+            link,
+            side: Side::From,
+        };
+        let to = index_of_name(resources, &declared.to);
+        let to_end = UnknownName::LinkEnd {
+            link,
+            side: Side::To,
+        };
+        push_unless(found, from.is_some(), from_end)
+            .and(push_unless(found, to.is_some(), to_end))
+            .and(push_some(&mut all, link_between(from, to)))?;
     }
     Ok(all)
 }

@@ -1,11 +1,11 @@
 //! Connections by number, and their ends that are unknown.
 
-ghost use Rattle.std.specs.Prelude.{◌≡◌, ◌++◌, IfOk, option_and_then};
-ghost use Rattle.fb_check_names.specs.Numbers.{both_ends, end_at, end_number};
+ghost use Rattle.std.specs.Prelude.{◌≡◌, ◌++◌, IfOk};
+ghost use Rattle.fb_check_names.specs.Numbers.{both_ends, end_number};
 ghost use Rattle.fb_check_names.specs.PortKinds.{names_of_kind};
 ghost use Rattle.fb_check_names.specs.Types.{AreTypes};
-ghost use Rattle.fb_check.specs.types.Scopes.{AreTyped, IsScope, component_number, connection_number, placed, side_number};
-ghost use Rattle.fb_check.specs.types.There.{each_there, some_of};
+ghost use Rattle.fb_check.specs.types.Scopes.{AreTyped, IsScope, connection_number, placed, side_number};
+ghost use Rattle.fb_check.specs.types.There.{each_there};
 ghost use Rattle.fb_check.specs.types.Unknown.{inputs_of, outputs_of};
 ghost use Rattle.fb_check.specs.types.Unknowns.{unknown_ends};
 ghost use Rattle.fb_check_names.specs.Listed.{each_at};
@@ -17,7 +17,7 @@ use fb_check_names::{
     ConnectionEnd, FlowKind, Indexes, NumberedConnection, PortKind, Side, Site, TypeNumber,
     UnknownName, index_of_name, push_unless,
 };
-use fb_types::{CompositeType, Connection, Items, Name, Network, PortName};
+use fb_types::{CompositeType, Connection, Items, Network, PortName};
 use std::alloc::{AllocError, Global};
 
 /// A network, with the indexes of the names in it.
@@ -51,42 +51,6 @@ pub fn input_of(flow: FlowKind) -> PortKind
     }
 }
 
-/// An end at the boundary.
-fn boundary_end(scope: &NetworkScope, port_kind: PortKind, end: &PortName) -> Option<ConnectionEnd>
-    requires { IsScope scope.now }
-    ensures { result ≡ option_and_then (λ t. end_at None (names_of_kind port_kind t.ports) end.now) (placed scope.now).0 }
-{
-    let (composite, indexes) = scope.composite?;
-    let port = index_in(&composite.ports, indexes, port_kind, &end.port)?;
-    Some(ConnectionEnd {
-        component: None,
-        port,
-    })
-}
-
-/// An end at a component.
-fn component_end(
-    types: &Types,
-    scope: &NetworkScope,
-    kinds: &Items<TypeNumber>,
-    port_kind: PortKind,
-    component: &Name,
-    end: &PortName,
-) -> Option<ConnectionEnd>
-    requires types { AreTypes types.now }
-    requires scope { IsScope scope.now }
-    requires typed { AreTyped types.now.library.now scope.now.network.now.instances kinds.now }
-    ensures { result ≡ component_number types.now.library.now (placed scope.now) (names_of_kind port_kind) component.now end.now }
-{
-    let instance = index_of_name(scope.instances, component)?;
-    let kind = kinds.get(instance)?;
-    let port = types.port_of(*kind, port_kind, &end.port)?;
-    Some(ConnectionEnd {
-        component: Some(instance),
-        port,
-    })
-}
-
 /// An end, among the ports of the one kind at a component, or of the other at the boundary.
 fn end_of(
     types: &Types,
@@ -102,8 +66,23 @@ fn end_of(
     ensures { result ≡ end_number types.now.library.now (placed scope.now) (names_of_kind component) (names_of_kind boundary) end.now }
 {
     match &end.component {
-        None => boundary_end(scope, boundary, end),
-        Some(name) => component_end(types, scope, kinds, component, name, end),
+        None => {
+            let (composite, indexes) = scope.composite?;
+            let port = index_in(&composite.ports, indexes, boundary, &end.port)?;
+            Some(ConnectionEnd {
+                component: None,
+                port,
+            })
+        }
+        Some(name) => {
+            let instance = index_of_name(scope.instances, name)?;
+            let kind = kinds.get(instance)?;
+            let port = types.port_of(*kind, component, &end.port)?;
+            Some(ConnectionEnd {
+                component: Some(instance),
+                port,
+            })
+        }
     }
 }
 
@@ -141,44 +120,8 @@ fn connection_between(
     }
 }
 
-/// Adds a connection by number, or those of its ends that are unknown.
-fn push_wire(
-    found: &mut Vec<UnknownName>,
-    wires: &mut Items<NumberedConnection>,
-    types: &Types,
-    scope: &NetworkScope,
-    kinds: &Items<TypeNumber>,
-    site: Site,
-    flow: FlowKind,
-    connection: usize,
-    declared: &Connection,
-) -> Result<(), AllocError>
-    requires types { AreTypes types.now }
-    requires scope { IsScope scope.now }
-    requires typed { AreTyped types.now.library.now scope.now.network.now.instances kinds.now }
-    ensures listed { IfOk result (λ _. found.new.items ≡ found.old.items ++ unknown_ends types.now.library.now site (placed scope.now) flow connection declared.now) }
-    ensures number { IfOk result (λ _. wires.new ≡ wires.old ++ some_of (connection_number types.now.library.now (placed scope.now) flow declared.now)) }
-{
-    let from = side_of(types, scope, kinds, flow, Side::From, declared);
-    let from_end = UnknownName::End {
-        site,
-        flow,
-        connection,
-        side: Side::From,
-    };
-    let to = side_of(types, scope, kinds, flow, Side::To, declared);
-    let to_end = UnknownName::End {
-        site,
-        flow,
-        connection,
-        side: Side::To,
-    };
-    push_unless(found, from.is_some(), from_end)
-        .and(push_unless(found, to.is_some(), to_end))
-        .and(push_some(wires, connection_between(from, to)))
-}
-
-/// The connections of a network that carry the same, by number. Adds the ends that are unknown.
+/// The connections of a network that carry the same, by number: those of which both ends are. Adds the ends that are
+/// unknown.
 pub(crate) fn wires_of(
     alloc: Global,
     found: &mut Vec<UnknownName>,
@@ -197,9 +140,23 @@ pub(crate) fn wires_of(
 {
     let mut wires = Items::new(alloc);
     for (connection, declared) in connections.iter().enumerate() {
-        push_wire(
-            found, &mut wires, types, scope, kinds, site, flow, connection, declared,
-        )?;
+        let from = side_of(types, scope, kinds, flow, Side::From, declared);
+        let from_end = UnknownName::End {
+            site,
+            flow,
+            connection,
+            side: Side::From,
+        };
+        let to = side_of(types, scope, kinds, flow, Side::To, declared);
+        let to_end = UnknownName::End {
+            site,
+            flow,
+            connection,
+            side: Side::To,
+        };
+        push_unless(found, from.is_some(), from_end)
+            .and(push_unless(found, to.is_some(), to_end))
+            .and(push_some(&mut wires, connection_between(from, to)))?;
     }
     Ok(wires)
 }
