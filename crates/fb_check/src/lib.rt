@@ -4,8 +4,8 @@
 //! that does. `judgement::judged` returns what the check made on the way: indexes and numbers of names, the resources
 //! that hold instances, and the stimuli by number. `judgement::why_refused` returns why inputs are refused, with all
 //! locations at which the least number applies. `acceptance::accept` returns a system exactly for inputs that are
-//! accepted, and otherwise the least number that applies. `types` also answers what explanations and warnings ask: names,
-//! statements, and types of variables.
+//! accepted, and otherwise the least number that applies. `types` also answers what explanations and warnings ask:
+//! names, statements, and types of variables.
 //!
 //! Read in this order: `types`, names and kinds (E21, E22), and `networks`, networks and their mapping (E22 to E28,
 //! E30). Then `case`, `fault`, `error`, `location` and `refusal`; `judgement`, the checks in the order of their numbers;
