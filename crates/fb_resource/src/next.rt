@@ -1,9 +1,8 @@
 //! The event that is taken next.
 
 ghost use Rattle.std.specs.Prelude.{◌≡◌, ◌<◌, IfOk, OnOk};
-ghost use Rattle.std.specs.Bool.{OnTrue};
 ghost use Rattle.fb_types.specs.declared.key.Key as keys;
-ghost use Rattle.fb_agenda.specs.Agendas.{IsClear, waiting};
+ghost use Rattle.fb_agenda.specs.Agendas.{waiting};
 ghost use Rattle.fb_resource.specs.Takings.{Finds, with_next};
 
 use fb_agenda::{Agenda, Least};
@@ -27,20 +26,6 @@ pub fn put_next(agenda: &mut Agenda, raised: bool, least: &mut Least) -> Result<
     }
 }
 
-/// Whether an event of this key, whose tick is below the horizon, would be taken before all that wait. True only if no
-/// event waits at its tick and resource, nor before.
-#[inline(always)]
-fn is_next(agenda: &mut Agenda, horizon: u64, key: &Key) -> bool
-    ensures below { OnTrue result (key.now.tick < horizon) }
-    ensures clear { OnTrue result (IsClear key.now.tick key.now.resource agenda.old) }
-    ensures kept { agenda.new ≡ agenda.old }
-{
-    if key.tick >= horizon {
-        return false;
-    }
-    agenda.is_clear(key.tick, key.resource)
-}
-
 /// Takes the event with the least key, if its tick is below the horizon (in milliseconds), and moves it into the slot.
 /// Returns whether it did. The event in the slot is one of those that wait, if it was raised. Mostly it is the least:
 /// then it stays in the slot, and never goes onto the agenda.
@@ -60,7 +45,8 @@ pub fn find_next(
     if !raised {
         return Ok(agenda.take_least_into(horizon, least));
     }
-    if is_next(agenda, horizon, &least.key) {
+    // It comes before all that wait if none waits at its tick and resource, nor before.
+    if least.key.tick < horizon && agenda.is_clear(least.key.tick, least.key.resource) {
         return Ok(true);
     }
     put_next(agenda, raised, least)?;

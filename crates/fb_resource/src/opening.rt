@@ -1,11 +1,11 @@
 //! The events that wait at the beginning: the stimuli, and the timers that start by themselves.
 
-ghost use Rattle.std.specs.Prelude.{◌≡◌, ◌+◌, ◌<◌, ℕ, length, IfOk, OnOk, Some};
+ghost use Rattle.std.specs.Prelude.{◌≡◌, ◌+◌, ◌<◌, length, IfOk, OnOk, Some};
 ghost use Rattle.fb_types.specs.Keys.{found, or_else};
 ghost use Rattle.fb_types.specs.declared.key.Key as keys;
 ghost use Rattle.fb_types.specs.declared.run.Event.TheVariants.{Stimulus};
 ghost use Rattle.fb_types.specs.OfSystem.{IsInstance, IsResource, instance_count, link_count, opening_state, path_at, resource_at};
-ghost use Rattle.fb_resource.specs.Openings.{AreOpenedApart, HasRestarts, HasStimuli, HasTimersBelow, IsOpened, IsStimulusKey, OneEach, is_of};
+ghost use Rattle.fb_resource.specs.Openings.{AreOpenedApart, HasTimersBelow, IsOpened, IsStimulusKey, is_of};
 ghost use Rattle.fb_resource.specs.Posts.{CountsAre};
 ghost use Rattle.fb_resource.specs.Waiting.{IsInOrder, MayWait, meaning};
 ghost use Rattle.fb_resource.specs.OfSystem.{restart_of};
@@ -56,20 +56,6 @@ fn key_of_stimulus(system: &System, row: u32) -> Key
     Key::stimulus(stimulus.tick, resource, row)
 }
 
-/// Puts the stimuli that are asked for on an empty agenda, each at its tick and under its row.
-fn put_stimuli(agenda: &mut Agenda, system: &System, of: Option<u32>) -> Result<(), AllocError>
-    requires { HasStimuli system.now of 0 agenda.old }
-    ensures { OnOk result (HasStimuli system.now of (length system.now.stimuli) agenda.new) }
-{
-    for row in 0..row_count(system) {
-        let key = key_of_stimulus(system, row);
-        if is_asked(of, key.resource) {
-            agenda.put(key, Event::Stimulus(row))?;
-        }
-    }
-    Ok(())
-}
-
 /// Starts the timer of an instance at tick 0, where it is an E_RESTART.
 fn start_restart(agenda: &mut Agenda, system: &System, instance: u32) -> Result<(), AllocError>
     requires instance { IsInstance system.now instance }
@@ -94,21 +80,6 @@ fn start_restart(agenda: &mut Agenda, system: &System, instance: u32) -> Result<
     }
 }
 
-/// Starts the timers of all E_RESTART that are asked for.
-fn start_restarts(agenda: &mut Agenda, system: &System, of: Option<u32>) -> Result<(), AllocError>
-    requires { HasRestarts system.now of 0 agenda.old }
-    ensures { OnOk result (HasRestarts system.now of (instance_count system.now) agenda.new) }
-{
-    system.facts();
-    for instance in 0..system.count() {
-        let number = instance as u32;
-        if is_asked(of, resource_of(system, number)) {
-            start_restart(agenda, system, number)?;
-        }
-    }
-    Ok(())
-}
-
 /// An agenda with the events of the opening: of one resource, or of all where none is named. It looks at each stimulus
 /// and each instance.
 ///
@@ -118,46 +89,20 @@ pub fn open_agenda(alloc: Global, system: &System, of: Option<u32>) -> Result<Ag
     ensures { IfOk result (IsOpened system.now of) }
 {
     let mut agenda = Agenda::new(alloc, system.count())?;
-    put_stimuli(&mut agenda, system, of)?;
-    start_restarts(&mut agenda, system, of)?;
-    Ok(agenda)
-}
-
-/// Agendas on which nothing waits, one for each resource.
-fn empty_agendas(alloc: Global, system: &System) -> Result<Vec<Agenda>, AllocError>
-    ensures { IfOk result (λ v. OneEach system.now (λ r. HasStimuli system.now (Some r) 0) v.items) }
-{
-    let mut agendas = Vec::new(alloc);
-    for _ in 0..system.resources() {
-        agendas.push(Agenda::new(alloc, system.count())?)?;
-    }
-    Ok(agendas)
-}
-
-/// Puts each stimulus on the agenda of its resource, at its tick and under its row.
-fn put_apart(agendas: &mut Vec<Agenda>, system: &System) -> Result<(), AllocError>
-    requires { OneEach system.now (λ r. HasStimuli system.now (Some r) 0) agendas.old.items }
-    ensures { OnOk result (OneEach system.now (λ r. HasStimuli system.now (Some r) (length system.now.stimuli)) agendas.new.items) }
-{
     for row in 0..row_count(system) {
         let key = key_of_stimulus(system, row);
-        agendas[key.resource as usize].put(key, Event::Stimulus(row))?;
+        if is_asked(of, key.resource) {
+            agenda.put(key, Event::Stimulus(row))?;
+        }
     }
-    Ok(())
-}
-
-/// Starts the timer of each E_RESTART on the agenda of its resource.
-fn start_apart(agendas: &mut Vec<Agenda>, system: &System) -> Result<(), AllocError>
-    requires { OneEach system.now (λ r. HasRestarts system.now (Some r) 0) agendas.old.items }
-    ensures { OnOk result (OneEach system.now (λ r. HasRestarts system.now (Some r) (instance_count system.now)) agendas.new.items) }
-{
     system.facts();
     for instance in 0..system.count() {
         let number = instance as u32;
-        let resource = resource_of(system, number);
-        start_restart(&mut agendas[resource as usize], system, number)?;
+        if is_asked(of, resource_of(system, number)) {
+            start_restart(&mut agenda, system, number)?;
+        }
     }
-    Ok(())
+    Ok(agenda)
 }
 
 /// The agendas of all resources, each with its own events of the opening. It looks at each stimulus and each instance
@@ -168,9 +113,20 @@ fn start_apart(agendas: &mut Vec<Agenda>, system: &System) -> Result<(), AllocEr
 pub fn open_agendas(alloc: Global, system: &System) -> Result<Vec<Agenda>, AllocError>
     ensures { IfOk result (λ v. AreOpenedApart system.now v.items) }
 {
-    let mut agendas = empty_agendas(alloc, system)?;
-    put_apart(&mut agendas, system)?;
-    start_apart(&mut agendas, system)?;
+    let mut agendas = Vec::new(alloc);
+    for _ in 0..system.resources() {
+        agendas.push(Agenda::new(alloc, system.count())?)?;
+    }
+    for row in 0..row_count(system) {
+        let key = key_of_stimulus(system, row);
+        agendas[key.resource as usize].put(key, Event::Stimulus(row))?;
+    }
+    system.facts();
+    for instance in 0..system.count() {
+        let number = instance as u32;
+        let resource = resource_of(system, number);
+        start_restart(&mut agendas[resource as usize], system, number)?;
+    }
     Ok(agendas)
 }
 

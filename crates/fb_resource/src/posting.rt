@@ -2,7 +2,6 @@
 
 ghost use Rattle.std.specs.Prelude.{◌≡◌, ◌+◌, ◌<◌, ◌≤◌, ◌^◌, ◌++◌, ◌∷◌, ℕ, [], length, All, IfOk, IfSome, OnOk, slice_index, slice_set};
 ghost use Rattle.std.specs.Bool.{OnTrue};
-ghost use Rattle.fb_types.specs.Keys.{local_key};
 ghost use Rattle.fb_types.specs.States.{path_of};
 ghost use Rattle.fb_types.specs.declared.run.Event.TheVariants.{Local};
 ghost use Rattle.fb_types.specs.declared.run.TimerAsk.TheVariants.{Keep};
@@ -11,7 +10,7 @@ ghost use Rattle.fb_system.specs.OfSystem.{arrival_over, number_at};
 ghost use Rattle.fb_net.specs.Events.{IsEventIn, IsNumbered, event_of};
 ghost use Rattle.fb_net.specs.declared.outbox.Out.TheVariants as put_out;
 ghost use Rattle.fb_net.specs.declared.outbox.OutgoingMessage.{OutgoingMessage};
-ghost use Rattle.fb_resource.specs.Posts.{IsOneMessage, IsPut};
+ghost use Rattle.fb_resource.specs.Posts.{IsOneMessage};
 ghost use Rattle.fb_resource.specs.Takings.{IsEmptied, IsLater};
 ghost use Rattle.fb_resource.specs.OfSystem.{message_of};
 
@@ -22,24 +21,6 @@ use fb_system::System;
 use fb_types::{Event, Key, Message, Target, TimerAsk};
 use std::alloc::AllocError;
 use std::mem::forget;
-
-/// Puts a local event on the agenda, under its number within the tick.
-#[inline(always)]
-fn post_local(
-    agenda: &mut Agenda,
-    locals: &mut u128,
-    key: &Key,
-    target: Target,
-) -> Result<(), AllocError>
-    requires { locals.old + 1 < 2 ^ 128 }
-    ensures put { OnOk result (IsPut agenda.old agenda.new (local_key key.now.tick key.now.resource locals.old) (Local target)) }
-    ensures due { agenda.new.due ≡ agenda.old.due }
-    ensures counted { OnOk result (locals.new ≡ locals.old + 1) }
-{
-    agenda.put_local(key.tick, key.resource, *locals, target)?;
-    *locals += 1;
-    Ok(())
-}
 
 /// The number of the next message of a link, which is counted.
 ///
@@ -282,7 +263,13 @@ impl Posting<'_> {
         ensures same { IsSame self.old self.new }
     {
         match out {
-            Out::Local(target) => post_local(self.agenda, self.locals, self.key, target),
+            Out::Local(target) => {
+                // It goes under its number within the tick.
+                self.agenda
+                    .put_local(self.key.tick, self.key.resource, *self.locals, target)?;
+                *self.locals += 1;
+                Ok(())
+            }
             Out::Send(sending) => {
                 post_message(self.mail, self.sent, self.system, self.key, sending)
             }
@@ -352,25 +339,11 @@ impl Posting<'_> {
         // Most reactions ask nothing, and then nothing is called.
         match ask {
             TimerAsk::Keep => Ok(()),
-            _ => self.change_timer(ask, event),
+            _ => {
+                let instance = instance_of(self.system, event);
+                self.agenda.set_timer(self.key.resource, instance, *ask)
+            }
         }
-    }
-
-    /// The same as `set_timer`, whatever the reaction asks.
-    ///
-    /// # Errors
-    /// When memory runs out.
-    #[inline(always)]
-    fn change_timer(&mut self, ask: &TimerAsk, event: &Event) -> Result<(), AllocError>
-        requires may { MayPost self.old }
-        requires event { IsEventIn self.old.system.now self.old.key.now.resource event.now }
-        requires later { IsLater self.old.key.now.tick ask.now }
-        ensures set { OnOk result (HasSet self.old ask.now event.now self.new) }
-        ensures grown { OnOk result (HasGrown self.old 0 self.new) }
-        ensures same { IsSame self.old self.new }
-    {
-        let instance = instance_of(self.system, event);
-        self.agenda.set_timer(self.key.resource, instance, *ask)
     }
 
     /// Sets the timer of the instance at which an event came and posts what was put out, as its reaction asks. Of the

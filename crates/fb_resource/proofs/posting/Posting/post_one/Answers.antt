@@ -1,4 +1,4 @@
-use Rattle.std.proofs.Common.{◌<◌, All, length, sym, ap, subst, ◌∙◌, arith}
+use Rattle.std.proofs.Common.{◌+◌, ◌<◌, All, length, refl, sym, ap, subst, ◌∙◌, arith}
 use Rattle.std.proofs.lemmas.List.{length-set}
 use Rattle.std.proofs.lemmas.List.Elements.{All-push}
 use Rattle.fb_types.specs.Headline.{system_of}
@@ -11,34 +11,32 @@ use Rattle.fb_resource.proofs.posting.Posting.post_one.Goals as goal
 
 -- ---- A local event
 
-pub returns-in-Local-clause-posted : goal.returns-in-Local-clause-posted
-returns-in-Local-clause-posted c = when_ok_both c.post_local.result c.post_local.ensures.put c.post_local.ensures.counted
-    (λ put counted before base first are.
+pub returns-in_ok-put_local-in-Local-clause-posted : goal.returns-in_ok-put_local-in-Local-clause-posted
+returns-in_ok-put_local-in-Local-clause-posted c = λ before base first are.
     let p = c.args.self.now in
-    one_local p.system.now p.key.now base p.agenda.now c.post_local.new.agenda first p.mail.now.items before c.args.out
-    p.locals.now c.post_local.new.locals p.sent.now.items c.in-Local.target c.in-Local.is counted are put)
+    one_local p.system.now p.key.now base p.agenda.now c.put_local.new.self first p.mail.now.items before c.args.out
+    p.locals.now (p.locals.now + 1) p.sent.now.items c.in-Local.target c.in-Local.is refl are c.in_ok-put_local-in-Local.ensures.put
 
-pub returns-in-Local-clause-grown : goal.returns-in-Local-clause-grown
-returns-in-Local-clause-grown c = when_ok_both c.post_local.result c.post_local.ensures.put c.post_local.ensures.counted
-    (λ put counted.
+pub returns-in_ok-put_local-in-Local-clause-grown : goal.returns-in_ok-put_local-in-Local-clause-grown
+returns-in_ok-put_local-in-Local-clause-grown c =
     let p = c.args.self.now in
     let i = p.system.now in
     let k = p.key.now in
     let n = p.locals.now in
     let t = c.in-Local.target in
     let may = c.requires.may in
-    let due = c.post_local.ensures.due in
+    let due = c.put_local.ensures.due in
     let is = subst (IsPostable (system_of i) k.resource) c.in-Local.is c.requires.out in
     record {
       may = record {
-        order = order_put i k.tick p.agenda.now c.post_local.new.agenda (local_key k.tick k.resource n) (Local t) put (λ one. omega (arith, one)) (local_waits i k n t is p.named) due may.order;
+        order = order_put i k.tick p.agenda.now c.put_local.new.self (local_key k.tick k.resource n) (Local t) c.in_ok-put_local-in-Local.ensures.put (λ one. omega (arith, one)) (local_waits i k n t is p.named) due may.order;
         due = ap length due ∙ may.due;
         counted = may.counted;
         mail = may.mail;
       };
       later = λ all. all;
-      few = omega (arith, counted);
-    })
+      few = omega arith;
+    }
 
 -- ---- A message
 
