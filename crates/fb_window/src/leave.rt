@@ -3,7 +3,7 @@
 ghost use Rattle.std.specs.Prelude.{◌≡◌, ◌^◌, ◌≤◌, ◌++◌, ℕ, [], ◌∷◌, IfOk, None, OnOk, Some, length, map, slice_get, vec_len};
 ghost use Rattle.fb_resource.specs.Resources.{IsOf};
 ghost use Rattle.fb_resource.specs.declared.resource.Resource.{Resource};
-ghost use Rattle.fb_window.specs.Jobs.{AreOf, MayLeave, job_of, jobs_of, resting_of};
+ghost use Rattle.fb_window.specs.Jobs.{MayLeave, job_of, jobs_of, resting_of};
 ghost use Rattle.fb_window.specs.Leaving.{AreLegal, HasLeft};
 ghost use Rattle.fb_window.specs.Reached.{IsReached, KeepHorizon};
 ghost use Rattle.fb_window.specs.Reaching.{OfEachCore};
@@ -66,45 +66,6 @@ impl CoreState {
         }
         Ok(())
     }
-
-    /// One job for each resource that has not stopped, with the bound at its index, and what remains.
-    fn jobs(
-        self,
-        alloc: Global,
-        system: &System,
-        bounds: Bounds,
-    ) -> Result<(AwayState, Vec<Job>), Failed>
-        requires system { system.now ≡ self.system }
-        requires resources { AreOf self.system self.resources.items }
-        requires bounds { MayLeave bounds.all self.resources.items }
-        requires some_steps { 1 ≤ self.steps }
-        requires few_steps { self.steps ≤ 10 ^ 7 }
-        ensures jobs { IfOk result (λ r. r.1.items ≡ jobs_of self.system self.steps bounds.all 0 self.resources.items) }
-        ensures away { IfOk result (λ r. HasLeft self.resources.items bounds.all r.0) }
-        ensures kept { IfOk result (λ r. (r.0.system ≡ self.system) × (r.0.steps ≡ self.steps) × (r.0.horizon ≡ bounds.horizon) × (r.0.pending ≡ self.pending)) }
-        ensures few { IfOk result (λ r. vec_len r.1 ≤ 256) }
-    {
-        system.facts();
-        let mut jobs = Vec::new(alloc);
-        let mut resting = Vec::new(alloc);
-        CoreState::leave_all(
-            &mut jobs,
-            &mut resting,
-            system,
-            self.steps,
-            self.resources,
-            &bounds,
-        )?;
-        let away = AwayState {
-            system: self.system,
-            steps: self.steps,
-            horizon: bounds.horizon,
-            resting,
-            pending: self.pending,
-            jobs: Snapshot::of(&jobs),
-        };
-        Ok((away, jobs))
-    }
 }
 
 impl Core {
@@ -137,7 +98,25 @@ impl Core {
     {
         system.facts();
         let Core { state } = self;
-        let (away, jobs) = state.jobs(alloc, system, bounds)?;
+        let mut jobs = Vec::new(alloc);
+        let mut resting = Vec::new(alloc);
+        CoreState::leave_all(
+            &mut jobs,
+            &mut resting,
+            system,
+            state.steps,
+            state.resources,
+            &bounds,
+        )?;
+        let sent_out = Snapshot::of(&jobs);
+        let away = AwayState {
+            system: state.system,
+            steps: state.steps,
+            horizon: bounds.horizon,
+            resting,
+            pending: state.pending,
+            jobs: sent_out,
+        };
         Ok((Away { state: away }, jobs))
     }
 }

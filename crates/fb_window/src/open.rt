@@ -3,7 +3,6 @@
 ghost use Rattle.std.specs.Prelude.{◌≡◌, ◌^◌, ◌≤◌, ℕ, [], length, All, IfOk};
 ghost use Rattle.fb_resource.specs.Resources.{AreOpened};
 ghost use Rattle.fb_laws.specs.Finality.{HasHanded, core_of};
-ghost use Rattle.fb_window.specs.Reached.{IsReached};
 ghost use Rattle.fb_window.specs.Settling.{lists_of};
 ghost use Rattle.fb_window.specs.Standing.{IsAt};
 
@@ -26,35 +25,6 @@ fn no_lines(alloc: Global, count: usize) -> Result<Vec<Vec<Line>>, AllocError>
     Ok(lists)
 }
 
-impl CoreState {
-    /// The resources of a system, in order, each as it is opened, and no lines.
-    fn open(
-        alloc: Global,
-        system: &System,
-        resources: Vec<Resource>,
-        steps: u64,
-    ) -> Result<CoreState, AllocError>
-        requires opened { AreOpened system.now resources.items }
-        requires some_steps { 1 ≤ steps }
-        requires few_steps { steps ≤ 10 ^ 7 }
-        ensures reached { IfOk result IsReached }
-        ensures system { IfOk result (λ c. c.system ≡ system.now) }
-        ensures steps { IfOk result (λ c. c.steps ≡ steps) }
-        ensures at { IfOk result (λ c. IsAt system.now steps (core_of system.now steps []) c.resources.items) }
-        ensures left { IfOk result (λ c. (horizon : ℕ) → HasHanded system.now steps horizon (core_of system.now steps []) (lists_of c.pending.items) []) }
-    {
-        system.facts();
-        let pending = no_lines(alloc, resources.len())?;
-        let system = SystemLinks::of(alloc, system)?;
-        Ok(CoreState {
-            system,
-            steps,
-            resources,
-            pending,
-        })
-    }
-}
-
 impl Core {
     /// The core before the first event: the resources of a system, in order, each as it is opened.
     ///
@@ -74,7 +44,15 @@ impl Core {
         ensures at { IfOk result (λ c. IsAt system.now steps (core_of system.now steps []) c.resources.items) }
         ensures left { IfOk result (λ c. (horizon : ℕ) → HasHanded system.now steps horizon (core_of system.now steps []) (lists_of c.pending.items) []) }
     {
-        let state = CoreState::open(alloc, system, resources, steps)?;
+        system.facts();
+        let pending = no_lines(alloc, resources.len())?;
+        let links = SystemLinks::of(alloc, system)?;
+        let state = CoreState {
+            system: links,
+            steps,
+            resources,
+            pending,
+        };
         Ok(Core { state })
     }
 }

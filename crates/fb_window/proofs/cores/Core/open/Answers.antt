@@ -3,7 +3,7 @@ use Rattle.fb_types.specs.Headline.{system_of}
 use Rattle.fb_types.specs.Parts.{count_of}
 use Rattle.fb_laws.specs.Sound.{AreGood}
 use Rattle.fb_window.proofs.Opens.{opened_at, opened_belong, opened_brought, opened_left, reached_as}
-use Rattle.fb_window.proofs.cores.CoreState.open.Goals as goal
+use Rattle.fb_window.proofs.cores.Core.open.Goals as goal
 
 pub returns-clause-at : goal.returns-clause-at
 returns-clause-at c =
@@ -16,9 +16,9 @@ returns-clause-left c = λ horizon.
     c.in_ok-pending.ensures.counted ∙ c.len.ensures ∙ c.args.resources.ok.0 ∙ c.requires.opened.counted in
     opened_left c.args.system.now c.args.steps horizon c.in_ok-pending.pending.items counted c.in_ok-pending.ensures.none
 
-pub returns-clause-reached : goal.returns-clause-reached
-returns-clause-reached c =
+pub invariant_of-result : goal.invariant_of-result
+invariant_of-result c =
     let good : AreGood c.args.system.now = record { accepted = c.facts.ensures.accepted; limits = c.facts.ensures.limits } in
-    reached_as c.args.system.now c.in_ok-system.system c.args.steps c.args.resources c.in_ok-pending.pending (c.in_ok-system.ensures)
+    reached_as c.args.system.now c.in_ok-links.links c.args.steps c.args.resources c.in_ok-pending.pending (c.in_ok-links.ensures)
     (opened_brought c.args.system.now c.args.steps c.args.resources.items good c.requires.opened) c.requires.some_steps c.requires.few_steps
     (c.in_ok-pending.ensures.counted ∙ c.len.ensures ∙ c.args.resources.ok.0) (opened_belong c.args.system.now c.in_ok-pending.pending.items c.in_ok-pending.ensures.none)
