@@ -7,7 +7,7 @@ use Rattle.std.proofs.lemmas.List.Elements.{All-append}
 use Rattle.fb_types.specs.Headline.{Inputs, system_of, stimuli_of}
 use Rattle.fb_types.specs.Cores as model_cores
 use Rattle.fb_types.specs.Cores.{CoreStep, opening_core}
-use Rattle.fb_types.specs.Parts.{machine, count_of}
+use Rattle.fb_types.specs.Parts.{machine}
 use Rattle.fb_types.specs.Schedules.{IsSchedule}
 use Rattle.fb_types.specs.declared.key.Key.{Key}
 use Rattle.fb_types.specs.declared.run.Line.{Line}
@@ -81,9 +81,6 @@ module _ (i : Inputs) (limit horizon : ℕ) (first : CoreState) where
   module _ (k : ℕ) (core : CoreState) (gone : HasGone i limit horizon first core k)
       (come : (es : List (CoreStep (machine (system_of i) limit))) × IsSchedule (machine (system_of i) limit) horizon (opening_core (system_of i) (stimuli_of i) limit) es
       × IsAt i limit (core_of i limit es) first.resources.items) where
-    pub all_counted : length core.resources.items ≡ count_of (system_of i)
-    all_counted = let h = gone.leads come.0 come.1 come.2 in h.1.at.counted
-
     pub each_of : (r : ℕ) (x : Resource) → slice_get core.resources.items r ≡ Some x → IsOf i x
     each_of r x e = let h = gone.leads come.0 come.1 come.2 in (h.1.at.each r x e).of
 

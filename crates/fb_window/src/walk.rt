@@ -1,23 +1,17 @@
 //! Turns of one resource after another, on one thread.
 
-ghost use Rattle.std.specs.Prelude.{◌≡◌, ◌^◌, ◌<◌, ◌≤◌, List, All, IfOk, OnOk, length};
-ghost use Rattle.fb_types.specs.Cores.{CoreStep};
-ghost use Rattle.fb_types.specs.Headline.{stimuli_of};
-ghost use Rattle.fb_types.specs.Schedules.{IsSchedule};
-ghost use Rattle.fb_types.specs.OfSystem.{IsInstance, machine, opening_core};
-ghost use Rattle.fb_laws.specs.Finality.{core_of};
+ghost use Rattle.std.specs.Prelude.{◌≡◌, ◌^◌, ◌<◌, ◌≤◌, All, IfOk, OnOk, length};
+ghost use Rattle.fb_types.specs.OfSystem.{IsInstance};
 ghost use Rattle.fb_laws.specs.Sound.{AreGood};
 ghost use Rattle.fb_system.specs.OfSystem.{BelongsTo};
 ghost use Rattle.fb_window.specs.Frontiers.{AreLive};
 ghost use Rattle.fb_window.specs.Reached.{KeepHorizon};
-ghost use Rattle.fb_window.specs.Standing.{IsAt};
 ghost use Rattle.fb_window.specs.Walking.{HasTurned, Walks};
 
 use crate::cores::{Core, CoreState, Failed};
 use crate::ends::first_stop;
 use crate::home::append_lines;
 use crate::nexts::Nexts;
-use fb_resource::Resource;
 use fb_system::System;
 use fb_types::{Message, StopMark};
 use std::alloc::{AllocError, Global};
@@ -54,19 +48,6 @@ impl Walk<'_> {
         }
     }
 
-    /// Puts the one message on the agenda of its receiver.
-    fn give_one(&mut self, sent: Vec<Message>) -> Result<(), AllocError>
-        requires may { MayTurn self.old }
-        requires one { length sent.items ≡ 1 }
-        requires targets { All (λ m. IsInstance self.old.system.now m.target.instance) sent.items }
-        ensures given { OnOk result (HasGiven self.old sent.items self.new) }
-        ensures may { OnOk result (MayTurn self.new) }
-        ensures same { IsSame self.old self.new }
-    {
-        let receiver = self.system.resource(sent[0].target.instance);
-        self.hand(receiver, sent)
-    }
-
     /// Puts each message on the agenda of its receiver.
     fn give(&mut self, sent: Vec<Message>) -> Result<(), AllocError>
         requires may { MayTurn self.old }
@@ -76,7 +57,8 @@ impl Walk<'_> {
         ensures same { IsSame self.old self.new }
     {
         if sent.len() == 1 {
-            return self.give_one(sent);
+            let receiver = self.system.resource(sent[0].target.instance);
+            return self.hand(receiver, sent);
         }
         for message in sent {
             let receiver = self.system.resource(message.target.instance);
@@ -138,47 +120,6 @@ impl Walk<'_> {
     }
 }
 
-impl CoreState {
-    /// Up to `most` turns, each of the first resource that has the least event of all.
-    fn walk(
-        self,
-        alloc: Global,
-        system: &System,
-        horizon: u64,
-        most: u64,
-    ) -> Result<CoreState, Failed>
-        requires system { system.now ≡ self.system }
-        requires come { (es : List (CoreStep (machine self.system self.steps)))
-            × IsSchedule (machine self.system self.steps) horizon (opening_core self.system (stimuli_of self.system) self.steps) es
-            × IsAt self.system self.steps (core_of self.system self.steps es) self.resources.items }
-        requires counted { length self.pending.items ≡ length self.resources.items }
-        requires pending { All (λ p. All (BelongsTo self.system) p.items) self.pending.items }
-        requires early { horizon ≤ 10 ^ 12 }
-        requires some_steps { 1 ≤ self.steps }
-        requires few_steps { self.steps ≤ 10 ^ 7 }
-        ensures system { IfOk result (λ d. d.system ≡ self.system) }
-        ensures steps { IfOk result (λ d. d.steps ≡ self.steps) }
-        ensures pending { IfOk result (λ d. All (λ p. All (BelongsTo self.system) p.items) d.pending.items) }
-        ensures counted { IfOk result (λ d. length d.pending.items ≡ length d.resources.items) }
-        ensures walks { IfOk result (Walks self.system self.steps horizon most self) }
-    {
-        system.facts();
-        let mut state = self;
-        if first_stop(&state.resources).is_some() {
-            return Ok(state);
-        }
-        let mut nexts = Nexts::of_all(alloc, &state.resources, horizon)?;
-        let mut walk = Walk {
-            core: &mut state,
-            nexts: &mut nexts,
-            alloc,
-            system,
-        };
-        walk.take_turns(most)?;
-        Ok(state)
-    }
-}
-
 impl Core {
     /// Up to `most` turns, each of the first resource that has the least event of all: it takes what it has at the
     /// tick of this event, and its messages are delivered. All is done on this thread, and no line is handed out. The
@@ -204,8 +145,18 @@ impl Core {
         ensures walks { IfOk result (Walks self.system self.steps horizon most self) }
     {
         system.facts();
-        let Core { state } = self;
-        let state = state.walk(alloc, system, horizon, most)?;
+        let Core { mut state } = self;
+        if first_stop(&state.resources).is_some() {
+            return Ok(Core { state });
+        }
+        let mut nexts = Nexts::of_all(alloc, &state.resources, horizon)?;
+        let mut walk = Walk {
+            core: &mut state,
+            nexts: &mut nexts,
+            alloc,
+            system,
+        };
+        walk.take_turns(most)?;
         Ok(Core { state })
     }
 }
