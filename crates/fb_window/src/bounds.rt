@@ -6,7 +6,7 @@ ghost use Rattle.fb_resource.specs.declared.resource.Resource.{Resource};
 ghost use Rattle.fb_types.specs.Cores.{floor_of};
 ghost use Rattle.fb_types.specs.declared.key.Key.{Key};
 ghost use Rattle.fb_types.specs.OfSystem.{link_count, resource_count};
-ghost use Rattle.fb_laws.specs.Cuts.{IsCut, StopAllows};
+ghost use Rattle.fb_laws.specs.Cuts.{IsCut};
 ghost use Rattle.fb_window.specs.Jobs.{AreOf};
 ghost use Rattle.fb_window.specs.Reached.{KeepHorizon};
 ghost use Rattle.fb_window.specs.Reaching.{OfEachCore};
@@ -49,7 +49,14 @@ impl CoreState {
     {
         self.system.facts();
         let least = least_next(&self.resources, horizon);
-        let last = last_tick(&self.resources, horizon);
+        // The tick after the least stop, or the horizon where that is less.
+        let mut last = horizon;
+        let resources = self.resources.as_slice();
+        for resource in resources {
+            if resource.stopped().is_some() {
+                last = last.min(resource.clock().saturating_add(1));
+            }
+        }
         // The least event is cut to the horizon, since timers may wait at ticks to which nothing can be added.
         let top = last.min(least.saturating_add(cap));
         let mut all = arrivals(&self.system, &self.resources, least, top);
@@ -73,19 +80,6 @@ pub(crate) fn least_next(resources: &[Resource], horizon: u64) -> u64
         }
     }
     least
-}
-
-/// The tick after the least stop, or the horizon where that is less.
-fn last_tick(resources: &[Resource], horizon: u64) -> u64
-    ensures { IsCut (StopAllows (λ (x : Resource). x.clock) (λ (x : Resource). x.stopped) resources.now) horizon (length resources.now) result }
-{
-    let mut last = horizon;
-    for resource in resources {
-        if resource.stopped().is_some() {
-            last = last.min(resource.clock().saturating_add(1));
-        }
-    }
-    last
 }
 
 /// The tick from which on a resource may send, where no event comes before the least tick.

@@ -1,8 +1,8 @@
 //! Whether anything is left to do.
 
-ghost use Rattle.std.specs.Prelude.{◌≡◌, ◌≤◌, ℕ, false, true, IfNone, IfSome, None, Some, length, slice_get};
+ghost use Rattle.std.specs.Prelude.{◌≤◌, true, IfNone, IfSome, None, Some, length};
 ghost use Rattle.fb_resource.specs.declared.resource.Resource.{Resource};
-ghost use Rattle.fb_window.specs.Frontiers.{AreAllPast, AreLive, IsEnd, IsFirstStop};
+ghost use Rattle.fb_window.specs.Frontiers.{AreLive, IsEnd, IsFirstStop};
 
 use fb_resource::Resource;
 use fb_types::StopMark;
@@ -44,32 +44,6 @@ pub(crate) fn first_stop(resources: &[Resource]) -> Option<StopMark>
     first
 }
 
-/// Whether all clocks are at a tick.
-fn are_at(resources: &[Resource], tick: u64) -> bool
-    ensures yes { result ≡ true → (r : ℕ) (x : Resource) → slice_get resources.now r ≡ Some x → x.clock ≡ tick }
-    ensures no { result ≡ false → (r : ℕ) × (x : Resource) × (slice_get resources.now r ≡ Some x) × (x.clock ≡ tick → ⊥) }
-{
-    for resource in resources {
-        if resource.clock() != tick {
-            return false;
-        }
-    }
-    true
-}
-
-/// Whether the clock of each that has not stopped is past a tick.
-fn are_past(resources: &[Resource], tick: u64) -> bool
-    ensures yes { result ≡ true → AreAllPast tick resources.now }
-    ensures no { result ≡ false → (r : ℕ) × (x : Resource) × (slice_get resources.now r ≡ Some x) × (x.stopped ≡ None) × (x.clock ≤ tick) }
-{
-    for resource in resources {
-        if resource.stopped().is_none() && resource.clock() <= tick {
-            return false;
-        }
-    }
-    true
-}
-
 /// How far resources are, of a run to a horizon.
 pub(crate) fn end_of(resources: &[Resource], horizon: u64) -> End
     requires { length resources.now ≤ 256 }
@@ -77,18 +51,20 @@ pub(crate) fn end_of(resources: &[Resource], horizon: u64) -> End
 {
     match first_stop(resources) {
         Some(mark) => {
-            if are_past(resources, mark.tick) {
-                End::Stop(mark)
-            } else {
-                End::Open
+            for resource in resources {
+                if resource.stopped().is_none() && resource.clock() <= mark.tick {
+                    return End::Open;
+                }
             }
+            End::Stop(mark)
         }
         None => {
-            if are_at(resources, horizon) {
-                End::Horizon
-            } else {
-                End::Open
+            for resource in resources {
+                if resource.clock() != horizon {
+                    return End::Open;
+                }
             }
+            End::Horizon
         }
     }
 }
