@@ -1,5 +1,5 @@
 -- What came home belongs to the system.
-use Rattle.std.proofs.Common.{◌≡◌, ℕ, suc, ◌<◌, Some, List, [], ◌∷◌, ◌++◌, length, refl, sym, subst, ⊎_elim, arith, All}
+use Rattle.std.proofs.Common.{◌≡◌, ℕ, suc, ◌+◌, ◌<◌, ◌≤◌, Some, List, [], ◌∷◌, ◌++◌, length, refl, sym, subst, ⊎_elim, arith, All}
 use Rattle.std.specs.Global.{Vec}
 use Rattle.std.specs.Prelude.{slice_get}
 use Rattle.std.proofs.lemmas.List.Elements.{All-nil, All-cons, All-head, All-tail, All-append, All-weaker}
@@ -16,11 +16,22 @@ use Rattle.fb_laws.specs.Finality.{Edge}
 use Rattle.fb_window.specs.Homes.{AreHome}
 use Rattle.fb_window.specs.declared.home.Home.{Home}
 use Rattle.fb_laws.proofs.Indexes.{has_at, is_at, one_at}
+use Rattle.fb_laws.proofs.Scans.{holds_more}
 use Rattle.fb_types.proofs.ByIndex.{all_at}
 
 pub all_by_index : {X : Type 0} (P : X → Type 0) (xs : List X) → ((n : ℕ) (x : X) → slice_get xs n ≡ Some x → P x) → All P xs
 all_by_index P [] h = All-nil P
 all_by_index P (x ∷ xs) h = All-cons P x xs (h 0 x refl) (all_by_index P xs (λ n y e. h (suc n) y e))
+
+-- No list at an index below has anything in it.
+abbrev pub AreEmptyBelow : {X : Type 0} (lists : List (Vec X)) (n : ℕ) → Type 0
+AreEmptyBelow {X} lists n = (r : ℕ) (list : Vec X) → r < n → slice_get lists r ≡ Some list → list.items ≡ []
+
+pub empty_more : {X : Type 0} (lists : List (Vec X)) (n : ℕ) (x : Vec X) → slice_get lists n ≡ Some x → x.items ≡ [] → AreEmptyBelow lists n → AreEmptyBelow lists (n + 1)
+empty_more {X} lists n x at none below = holds_more (λ (y : Vec X). y.items ≡ []) lists n x at none below
+
+pub empty_all : {X : Type 0} (lists : List (Vec X)) (n : ℕ) → length lists ≤ n → AreEmptyBelow lists n → All (λ (p : Vec X). p.items ≡ []) lists
+empty_all {X} lists n end below = all_by_index (λ (p : Vec X). p.items ≡ []) lists (λ r p e. let b = is_at lists r p e in below r p (omega arith) e)
 
 all_front : {X : Type 0} (P : X → Type 0) (xs ys : List X) → All P (xs ++ ys) → All P xs
 all_front P [] ys h = All-nil P

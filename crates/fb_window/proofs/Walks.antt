@@ -1,5 +1,5 @@
 -- What is found on the way over the resources, and over their lines.
-use Rattle.std.proofs.Common.{◌≡◌, ℕ, zero, suc, ◌+◌, ◌<◌, ◌≤◌, ◌⊎◌, true, false, not, Option, Some, None, List, [], ◌∷◌, ◌++◌, length, get_or, take, drop, refl, sym, ap, ◌∙◌, subst, inl, inr, ⊎_elim, arith, IfOk, Result, Ok, Err}
+use Rattle.std.proofs.Common.{◌≡◌, ℕ, zero, suc, ◌+◌, ◌<◌, ◌≤◌, ◌⊎◌, true, false, not, Option, Some, None, List, [], ◌∷◌, ◌++◌, length, get_or, take, drop, refl, sym, ap, ◌∙◌, subst, inl, inr, ⊎_elim, arith, IfOk, Result, Ok}
 use Rattle.std.specs.Global.{Vec}
 use Rattle.std.specs.List.{filter}
 use Rattle.std.specs.List.Sorted.{IsNonDecreasingBy, IsPartitionedBy, IsPartitionPoint}
@@ -297,10 +297,6 @@ boxes_empty (b ∷ bs) h = ap (λ z. z ++ all_of bs) (h 0 b refl) ∙ boxes_empt
 -- what is said of what was made, where that was
 pub made_ok : {A E : Type 0} (P : A → Type 0) (r : Result A E) (a : A) → r ≡ Ok a → IfOk r P → P a
 made_ok P r a e h = subst (λ z. IfOk z P) e h
-
-pub if_ok : {A E : Type 0} (P Q : A → Type 0) (r : Result A E) → ((a : A) → P a → Q a) → IfOk r P → IfOk r Q
-if_ok P Q (Ok a) f h = f a h
-if_ok P Q (Err e) f h = tt
 
 -- Each has received what is for it.
 pub posted_of : (sys : System) (all : List Message) (xs ys : List Resource) (boxes : List (Vec Message)) → ((r : ℕ) (box : Vec Message) → slice_get boxes r ≡ Some box → AreFor sys r all box.items)

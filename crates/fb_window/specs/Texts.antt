@@ -1,21 +1,15 @@
 -- The text of the lines that a job gave (this project's profile).
 use Rattle.std.specs.Prelude.{◌≡◌, List, [], ◌++◌, All, Option, None}
 use Rattle.std.specs.Global.{Vec}
-use Rattle.fb_types.specs.Headline.{Inputs, system_of}
+use Rattle.fb_types.specs.Headline.{Inputs}
 use Rattle.fb_types.specs.declared.run.Form.{Form}
 use Rattle.fb_types.specs.declared.run.Line.{Line}
-use Rattle.fb_system.specs.Lines.{BelongsTo}
 use Rattle.fb_trace.specs.Marks.{IsMarkedText}
 use Rattle.fb_trace.specs.declared.marks.MarkedText.{MarkedText}
 use Rattle.fb_resource.specs.declared.resource.Resource.{Resource}
 use Rattle.fb_resource.specs.declared.resource.WindowDone.{WindowDone}
 use Rattle.fb_resource.specs.declared.resource.WindowDone.TheVariants.{NoMemory, Ran}
 use Rattle.fb_window.specs.declared.cores.AwayState.{AwayState}
-
--- The lines that the job gave are lines of the system.
-abbrev pub IsDoneOf : Inputs → WindowDone → Type 0
-IsDoneOf i (Ran x lines sent stop) = All (BelongsTo (system_of i)) lines.items
-IsDoneOf i NoMemory = Unit {0}
 
 -- It is the marked text of the lines that the job gave.
 abbrev pub IsTextOf : Inputs → Form → WindowDone → MarkedText → Type 0

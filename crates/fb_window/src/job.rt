@@ -3,7 +3,7 @@
 ghost use Rattle.std.specs.Prelude.{◌≡◌, ◌^◌, ◌≤◌, IfSome, None};
 ghost use Rattle.fb_resource.specs.Resources.{IsOf};
 ghost use Rattle.fb_window.specs.Jobs.{Does, MayRun};
-ghost use Rattle.fb_window.specs.Texts.{IsDoneOf, IsTextOf};
+ghost use Rattle.fb_window.specs.Texts.{IsTextOf};
 
 use fb_resource::{Resource, WindowDone};
 use fb_system::System;
@@ -32,28 +32,6 @@ impl Model for Job {
     ghost view = { λ j. record { inputs = j.system; steps = j.steps; resource = j.resource; to = j.to } };
 
     ghost invariant = { λ j. MayRun (record { inputs = j.system; steps = j.steps; resource = j.resource; to = j.to }) };
-}
-
-/// The text of the lines that a job gave, if there are this many and there is memory for it.
-fn text_of(
-    alloc: Global,
-    system: &System,
-    form: Form,
-    least: usize,
-    done: &WindowDone,
-) -> Option<MarkedText>
-    requires { IsDoneOf system.now done.now }
-    ensures { IfSome result (IsTextOf system.now form done.now) }
-{
-    match done {
-        WindowDone::Ran { lines, .. } => {
-            if lines.len() < least {
-                return None;
-            }
-            marked_text(alloc, system, form, lines).ok()
-        }
-        WindowDone::NoMemory => None,
-    }
 }
 
 impl Job {
@@ -118,7 +96,12 @@ impl Job {
             to,
         } = self;
         let done = resource.run_over(alloc, &system, to, steps, spent);
-        let text = text_of(alloc, &system, form, least, &done);
+        let text = match &done {
+            WindowDone::Ran { lines, .. } if lines.len() >= least => {
+                marked_text(alloc, &system, form, lines).ok()
+            }
+            _ => None,
+        };
         (done, text)
     }
 }

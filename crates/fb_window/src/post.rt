@@ -1,6 +1,6 @@
 //! How messages come from the outboxes of resources onto the agendas of others.
 
-ghost use Rattle.std.specs.Prelude.{◌≡◌, ◌<◌, ◌++◌, ℕ, [], ◌∷◌, true, All, IfOk, OnOk, Some, length, slice_get};
+ghost use Rattle.std.specs.Prelude.{◌≡◌, ◌<◌, ◌++◌, [], ◌∷◌, All, IfOk, IsTrue, OnOk, length};
 ghost use Rattle.std.specs.Global.{Vec};
 ghost use Rattle.std.specs.Vec.Iter.{into_iter_items};
 ghost use Rattle.fb_types.specs.declared.run.Message as model;
@@ -57,27 +57,12 @@ fn deliver_each(
     Ok(())
 }
 
-/// Puts messages on the agendas of the resources, for each those in the list at its index.
-fn deliver(
-    alloc: Global,
-    resources: Vec<Resource>,
-    inboxes: Vec<Vec<Message>>,
-) -> Result<Vec<Resource>, AllocError>
-    requires { length inboxes.items ≡ length resources.items }
-    ensures { IfOk result (λ v. AreDelivered resources.items inboxes.items v.items) }
+/// Whether nothing is in any list.
+pub(crate) fn are_empty<T>(lists: &[Vec<T>]) -> bool
+    ensures { IsTrue result → All (λ p. p.items ≡ []) lists.now }
 {
-    let mut delivered = Vec::new(alloc);
-    let received = deliver_each(&mut delivered, resources, &mut inboxes.into_iter());
-    received?;
-    Ok(delivered)
-}
-
-/// Whether nothing is in any outbox.
-fn are_empty(outboxes: &[Vec<Message>]) -> bool
-    ensures { result ≡ true → (r : ℕ) (outbox : Vec model.Message) → slice_get outboxes.now r ≡ Some outbox → outbox.items ≡ [] }
-{
-    for outbox in outboxes {
-        if !outbox.is_empty() {
+    for list in lists {
+        if !list.is_empty() {
             return false;
         }
     }
@@ -102,5 +87,8 @@ pub(crate) fn post(
         return Ok(resources);
     }
     let inboxes = exchange(alloc, system, outboxes)?;
-    deliver(alloc, resources, inboxes)
+    let mut delivered = Vec::new(alloc);
+    let received = deliver_each(&mut delivered, resources, &mut inboxes.into_iter());
+    received?;
+    Ok(delivered)
 }

@@ -1,7 +1,7 @@
 //! How resources come home.
 
 ghost use Rattle.std.specs.Global.{Vec};
-ghost use Rattle.std.specs.Prelude.{◌≡◌, ℕ, [], List, All, IfOk, IsTrue, None};
+ghost use Rattle.std.specs.Prelude.{◌≡◌, ℕ, List, All, IfOk, IsTrue, None};
 ghost use Rattle.std.specs.List.{AllZip};
 ghost use Rattle.fb_types.specs.Cores.{CoreStep};
 ghost use Rattle.fb_types.specs.Headline.{stimuli_of};
@@ -13,67 +13,23 @@ ghost use Rattle.fb_laws.specs.Finality.{core_of};
 ghost use Rattle.fb_system.specs.OfSystem.{BelongsTo};
 ghost use Rattle.fb_window.specs.Jobs.{Does};
 ghost use Rattle.fb_window.specs.Leaving.{AreLegal, HasLeft};
-ghost use Rattle.fb_window.specs.Reached.{IsAway};
 ghost use Rattle.fb_window.specs.Settling.{IsMerged, Settles, lists_of, reach_of, settled_of};
 ghost use Rattle.fb_window.specs.Standing.{IsAt};
 ghost use Rattle.fb_window.specs.Texts.{KeepsNothing, IsFrontOf};
 
 use crate::bounds::least_next;
-use crate::cores::{Away, AwayState, Core, CoreState, Failed, Reach, Settled};
+use crate::cores::{Away, Core, CoreState, Failed, Reach, Settled};
 use crate::cut::cut_all;
 use crate::ends::{End, end_of};
 use crate::frontier::frontier_of;
 use crate::home::come_home;
 use crate::paired::paired;
-use crate::post::post;
+use crate::post::{are_empty, post};
 use fb_resource::{Resource, WindowDone};
 use fb_system::System;
 use fb_trace::merge;
 use fb_types::Line;
 use std::alloc::Global;
-
-impl AwayState {
-    /// Puts all resources back, with what became of each job in the jobs' order, and exchanges their messages. The lines
-    /// that have become final are in a list for each resource.
-    fn settle_apart(
-        self,
-        alloc: Global,
-        system: &System,
-        dones: Vec<WindowDone>,
-    ) -> Result<(Reach, Vec<Vec<Line>>), Failed>
-        requires system { system.now ≡ self.system }
-        requires away { IsAway self }
-        requires done { AllZip Does self.jobs.value.items dones.items }
-        ensures settles { IfOk result (λ r. (all : Vec Line) → IsMerged r.1.items all.items
-            → (xs : List Resource) (bounds : List ℕ) (es : List (CoreStep (machine self.system self.steps))) (workers : ℕ → ℕ)
-            → HasLeft xs bounds self
-            → IsSchedule (machine self.system self.steps) self.horizon (opening_core self.system (stimuli_of self.system) self.steps) es
-            → IsAt self.system self.steps (core_of self.system self.steps es) xs
-            → AreLegal self.system self.steps self.horizon (core_of self.system self.steps es) bounds
-            → Settles self.system self.steps self.horizon es bounds (lists_of self.pending.items) workers (settled_of r.0 all)) }
-        ensures belong { IfOk result (λ r. All (λ p. All (BelongsTo self.system) p.items) r.1.items) }
-        ensures fronts { KeepsNothing self → IfOk result (λ r. AllZip IsFrontOf r.1.items dones.items) }
-    {
-        system.facts();
-        let home = come_home(alloc, self.resting, self.pending, dones)?;
-        let posted = post(alloc, system, home.resources, home.outboxes);
-        let (kept, resources) = paired(home.pending, posted)?;
-        let least = least_next(&resources, self.horizon);
-        let frontier = frontier_of(&resources, least);
-        let (resources, cut) = paired(resources, cut_all(alloc, kept, &frontier))?;
-        let (finals, pending) = cut;
-        let end = end_of(&resources, self.horizon);
-        let state = CoreState {
-            system: self.system,
-            steps: self.steps,
-            resources,
-            pending,
-        };
-        let core = Core { state };
-        let reach = reached(core, end);
-        Ok((reach, finals))
-    }
-}
 
 /// How far the run is, with all resources in this core.
 fn reached(core: Core, end: End) -> Reach
@@ -97,18 +53,6 @@ fn settled(reach: Reach, lines: Vec<Line>) -> Settled
     }
 }
 
-/// Whether no line is in any list.
-fn are_all_empty(lists: &[Vec<Line>]) -> bool
-    ensures { IsTrue result → All (λ p. p.items ≡ []) lists.now }
-{
-    for list in lists {
-        if !list.is_empty() {
-            return false;
-        }
-    }
-    true
-}
-
 /// Whether no resource rests.
 fn have_all_left(resting: &[Option<Resource>]) -> bool
     ensures { IsTrue result → All (λ x. x ≡ None) resting.now }
@@ -126,7 +70,7 @@ impl Away {
     pub fn keeps_nothing(&self) -> bool
         ensures { IsTrue result → KeepsNothing self.now }
     {
-        are_all_empty(&self.state.pending) && have_all_left(&self.state.resting)
+        are_empty(&self.state.pending) && have_all_left(&self.state.resting)
     }
 
     /// Puts all resources back, with what became of each job in the jobs' order, exchanges their messages, and hands
@@ -176,7 +120,24 @@ impl Away {
         ensures belong { IfOk result (λ r. All (λ p. All (BelongsTo self.system) p.items) r.1.items) }
         ensures fronts { KeepsNothing self → IfOk result (λ r. AllZip IsFrontOf r.1.items dones.items) }
     {
-        let Away { state } = self;
-        state.settle_apart(alloc, system, dones)
+        system.facts();
+        let Away { state: away } = self;
+        let home = come_home(alloc, away.resting, away.pending, dones)?;
+        let posted = post(alloc, system, home.resources, home.outboxes);
+        let (kept, resources) = paired(home.pending, posted)?;
+        let least = least_next(&resources, away.horizon);
+        let frontier = frontier_of(&resources, least);
+        let (resources, cut) = paired(resources, cut_all(alloc, kept, &frontier))?;
+        let (finals, pending) = cut;
+        let end = end_of(&resources, away.horizon);
+        let state = CoreState {
+            system: away.system,
+            steps: away.steps,
+            resources,
+            pending,
+        };
+        let core = Core { state };
+        let reach = reached(core, end);
+        Ok((reach, finals))
     }
 }

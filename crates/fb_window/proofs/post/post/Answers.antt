@@ -1,21 +1,21 @@
-use Rattle.std.proofs.Common.{◌≡◌, List, Some, sym, subst}
+use Rattle.std.proofs.Common.{◌≡◌, All, List, [], subst}
 use Rattle.std.specs.Global.{Vec}
-use Rattle.std.specs.Prelude.{slice_get}
 use Rattle.fb_types.specs.Headline.{system_of}
 use Rattle.fb_types.specs.declared.run.Message.{Message}
+use Rattle.fb_types.proofs.ByIndex.{all_at}
 use Rattle.fb_link.specs.Exchanges.{all_of}
-use Rattle.fb_window.specs.Mails.{AreDelivered, ArePosted}
-use Rattle.fb_window.proofs.Walks.{boxes_empty, if_ok, posted_none, posted_of}
+use Rattle.fb_window.specs.Mails.{AreDelivered}
+use Rattle.fb_window.proofs.Walks.{boxes_empty, posted_none, posted_of}
 use Rattle.fb_window.proofs.post.post.Goals as goal
 
 pub returns-then-are_empty : goal.returns-then-are_empty
 returns-then-are_empty c =
-    let same : c.deref.result.now ≡ c.args.outboxes.items = cc in
-    posted_none (system_of c.args.system.now) (all_of c.args.outboxes.items) c.args.resources.items
-    (boxes_empty c.args.outboxes.items (λ r box e. c.are_empty.ensures c.if-are_empty.true r box (subst (λ (z : List (Vec Message)). slice_get z r ≡ Some box) (sym same) e)))
+    let boxes = c.args.outboxes.items in
+    let none = subst (λ (z : List (Vec Message)). All (λ p. p.items ≡ []) z) c.deref.ensures.value (c.are_empty.ensures c.if-are_empty.true) in
+    posted_none (system_of c.args.system.now) (all_of boxes) c.args.resources.items (boxes_empty boxes (λ r box e. all_at (λ (p : Vec Message). p.items ≡ []) boxes r box none e))
 
 pub returns : goal.returns
 returns c =
-    let sys = system_of c.args.system.now in
-    if_ok (λ v. AreDelivered c.args.resources.items c.in_ok-inboxes.inboxes.items v.items) (λ v. ArePosted sys (all_of c.args.outboxes.items) c.args.resources.items v.items) c.deliver.result
-    (λ v h. posted_of sys (all_of c.args.outboxes.items) c.args.resources.items v.items c.in_ok-inboxes.inboxes.items c.in_ok-inboxes.ensures.each h) c.deliver.ensures
+    let boxes = c.in_ok-inboxes.inboxes.items in
+    let given = subst (λ (z : List (Vec Message)). AreDelivered c.args.resources.items z c.deliver_each-received.new.delivered.items) c.into_iter.ensures.rest c.in_ok-received.ensures in
+    posted_of (system_of c.args.system.now) (all_of c.args.outboxes.items) c.args.resources.items c.deliver_each-received.new.delivered.items boxes c.in_ok-inboxes.ensures.each given
