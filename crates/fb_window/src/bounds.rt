@@ -7,13 +7,12 @@ ghost use Rattle.fb_types.specs.Cores.{floor_of};
 ghost use Rattle.fb_types.specs.declared.key.Key.{Key};
 ghost use Rattle.fb_types.specs.OfSystem.{link_count, resource_count};
 ghost use Rattle.fb_laws.specs.Cuts.{IsCut};
-ghost use Rattle.fb_window.specs.Jobs.{AreOf};
 ghost use Rattle.fb_window.specs.Reached.{KeepHorizon};
 ghost use Rattle.fb_window.specs.Reaching.{OfEachCore};
 ghost use Rattle.fb_window.specs.Leaving.{AreLegal};
 ghost use Rattle.fb_window.specs.OfSystem.{AreGreatest, LinkAllows};
 
-use crate::cores::{Bounds, Core, CoreState};
+use crate::cores::{Bounds, Core};
 use crate::links::SystemLinks;
 use fb_link::earliest;
 use fb_resource::Resource;
@@ -32,26 +31,12 @@ impl Core {
         ensures bounds { OfEachCore self.now.system self.now.steps self.now.resources.items (λ c. AreGreatest self.now.system self.now.steps horizon cap c result.all) }
         ensures legal { OfEachCore self.now.system self.now.steps self.now.resources.items (λ c. AreLegal self.now.system self.now.steps horizon c result.all) }
     {
-        self.state.bounds(horizon, cap)
-    }
-}
-
-impl CoreState {
-    /// How far each resource may run.
-    fn bounds(&self, horizon: u64, cap: u64) -> Bounds
-        requires resources { AreOf self.now.system self.now.resources.items }
-        requires clocks { KeepHorizon horizon self.now.resources.items }
-        requires early { horizon ≤ 10 ^ 12 }
-        requires cap { 1 ≤ cap }
-        ensures horizon { result.horizon ≡ horizon }
-        ensures bounds { OfEachCore self.now.system self.now.steps self.now.resources.items (λ c. AreGreatest self.now.system self.now.steps horizon cap c result.all) }
-        ensures legal { OfEachCore self.now.system self.now.steps self.now.resources.items (λ c. AreLegal self.now.system self.now.steps horizon c result.all) }
-    {
-        self.system.facts();
-        let least = least_next(&self.resources, horizon);
+        let core = &self.state;
+        core.system.facts();
+        let least = least_next(&core.resources, horizon);
         // The tick after the least stop, or the horizon where that is less.
         let mut last = horizon;
-        let resources = self.resources.as_slice();
+        let resources = core.resources.as_slice();
         for resource in resources {
             if resource.stopped().is_some() {
                 last = last.min(resource.clock().saturating_add(1));
@@ -59,8 +44,8 @@ impl CoreState {
         }
         // The least event is cut to the horizon, since timers may wait at ticks to which nothing can be added.
         let top = last.min(least.saturating_add(cap));
-        let mut all = arrivals(&self.system, &self.resources, least, top);
-        for (number, resource) in self.resources.iter().enumerate() {
+        let mut all = arrivals(&core.system, &core.resources, least, top);
+        for (number, resource) in core.resources.iter().enumerate() {
             all[number] = all[number].max(resource.clock());
         }
         Bounds { horizon, all }

@@ -1,7 +1,7 @@
 //! How resources come home.
 
 ghost use Rattle.std.specs.Global.{Vec};
-ghost use Rattle.std.specs.Prelude.{◌≡◌, ℕ, List, All, IfOk, IsTrue, None};
+ghost use Rattle.std.specs.Prelude.{◌≡◌, ℕ, List, All, IfOk, IsTrue};
 ghost use Rattle.std.specs.List.{AllZip};
 ghost use Rattle.fb_types.specs.Cores.{CoreStep};
 ghost use Rattle.fb_types.specs.Headline.{stimuli_of};
@@ -53,24 +53,21 @@ fn settled(reach: Reach, lines: Vec<Line>) -> Settled
     }
 }
 
-/// Whether no resource rests.
-fn have_all_left(resting: &[Option<Resource>]) -> bool
-    ensures { IsTrue result → All (λ x. x ≡ None) resting.now }
-{
-    for rested in resting {
-        if rested.is_some() {
-            return false;
-        }
-    }
-    true
-}
-
 impl Away {
     /// Whether no line is kept and each resource has left with a job.
     pub fn keeps_nothing(&self) -> bool
         ensures { IsTrue result → KeepsNothing self.now }
     {
-        are_empty(&self.state.pending) && have_all_left(&self.state.resting)
+        if !are_empty(&self.state.pending) {
+            return false;
+        }
+        let resting = self.state.resting.as_slice();
+        for rested in resting {
+            if rested.is_some() {
+                return false;
+            }
+        }
+        true
     }
 
     /// Puts all resources back, with what became of each job in the jobs' order, exchanges their messages, and hands

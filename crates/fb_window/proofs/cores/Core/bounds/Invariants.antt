@@ -1,6 +1,6 @@
 use Rattle.fb_laws.specs.Cuts.{IsCut, StopAllows}
 use Rattle.fb_window.proofs.Passes.{AreRaised, clock_of, stop_of}
-use Rattle.fb_window.proofs.cores.CoreState.bounds.Given as goal
+use Rattle.fb_window.proofs.cores.Core.bounds.Given as goal
 
 abbrev pub invariant-loop-number : goal.invariant-loop-number
 invariant-loop-number l = AreRaised l.self.resources.items l.number l.initial.all l.all
