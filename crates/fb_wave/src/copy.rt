@@ -12,16 +12,18 @@ ghost use Rattle.fb_wave.specs.OfSystem.{BlamesShown, FailsShown, HasNames, HasS
 use crate::current_line::CurrentLine;
 use crate::dump::Dump;
 use crate::error::WaveError;
+use crate::head::put_head;
 use crate::last::read_last;
 use crate::line::read_line;
 use crate::page::DumpPage;
+use crate::system_signals::Signals;
 use crate::table::{Guess, PortTable};
 use crate::truncation::{Cut, is_cut};
 use crate::words::{cut, is_digit};
 use fb_system::System;
 use fb_trace::Outcome;
 use fb_types::Form;
-use std::alloc::Global;
+use std::alloc::{AllocError, Global};
 use std::io::{BufRead, Write};
 
 /// Reads the next line into a buffer, with its line feed. At the end of the text the buffer is empty.
@@ -96,6 +98,25 @@ pub(crate) struct Progress {
 }
 
 impl Progress {
+    /// Before the first line: the head of the dump waits to be written.
+    pub(crate) fn begin(alloc: Global, table: &PortTable) -> Result<Progress, AllocError>
+        ensures dump { IfOk result (λ p. IsDump table.now.system.now p.dump) }
+        ensures tick { IfOk result (λ p. p.tick ≡ 0) }
+        ensures shown { IfOk result (λ p. HasShown table.now.system.now [] p.page.text.items p.dump) }
+        ensures written { IfOk result (λ p. p.page.written ≡ 0) }
+    {
+        let guess = Guess::new(alloc, table)?;
+        let signals = Signals::of(alloc, table.system)?;
+        let mut text = Vec::new(alloc);
+        put_head(alloc, &mut text, table.system, signals.firsts.as_slice())?;
+        Ok(Progress {
+            dump: Dump { signals, tick: 0 },
+            page: DumpPage { text, written: 0 },
+            guess,
+            tick: 0,
+        })
+    }
+
     /// Shows the line with this number, if a trace can go on with it.
     fn take(
         &mut self,

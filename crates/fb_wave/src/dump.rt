@@ -1,9 +1,8 @@
 //! A dump, line by line.
 
-ghost use Rattle.std.specs.Prelude.{◌≡◌, ℕ, List, [], ◌∷◌, ◌++◌, length, IfOk, OnOk};
+ghost use Rattle.std.specs.Prelude.{◌≡◌, ℕ, List, ◌∷◌, [], ◌++◌, length, OnOk};
 ghost use Rattle.fb_types.specs.Systems.{System as Flat};
 ghost use Rattle.fb_types.specs.Text.{reason_text};
-ghost use Rattle.fb_types.specs.OfSystem.{resource_name};
 ghost use Rattle.fb_system.specs.OfSystem.{BelongsTo};
 ghost use Rattle.fb_trace.specs.End.{ending_of};
 ghost use Rattle.fb_wave.specs.CutOff.{cut_text};
@@ -13,20 +12,19 @@ ghost use Rattle.fb_wave.specs.Writing as writing;
 ghost use Rattle.fb_wave.specs.OfSystem.{HasShown, IsDump, dump_text, end_text};
 
 use crate::change::{put_changes, put_time};
-use crate::head::put_head;
 use crate::levels::Levels;
 use crate::system_signals::Signals;
 use fb_system::System;
 use fb_trace::Outcome;
 use fb_types::{Line, Reason};
-use std::alloc::{AllocError, Global};
+use std::alloc::AllocError;
 
 /// The dump of the lines of a trace so far. It keeps a cell for each signal.
 #[derive(Drop)]
 pub(crate) struct Dump {
-    signals: Signals,
+    pub(crate) signals: Signals,
     /// The tick of the last line, or 0 before the first.
-    tick: u64,
+    pub(crate) tick: u64,
 }
 
 fn reason_text(reason: Reason) -> &'static [u8]
@@ -36,17 +34,6 @@ fn reason_text(reason: Reason) -> &'static [u8]
         Reason::Steps => b"steps",
         Reason::Divide => b"divide",
         Reason::Range => b"range",
-    }
-}
-
-/// The name of the resource with this number. Where there is none, it is empty.
-fn name_of(system: &System, resource: u32) -> &[u8]
-    ensures { result.now ≡ resource_name system.now resource }
-{
-    if (resource as usize) < system.resources() {
-        system.resource_name(resource as usize)
-    } else {
-        b""
     }
 }
 
@@ -63,7 +50,12 @@ pub fn put_end(
         Outcome::End(horizon) => put_time(text, shown, horizon),
         Outcome::Stop(mark) => {
             put_time(text, shown, mark.tick)?;
-            put_stop(text, name_of(system, mark.resource), mark.reason)
+            let resource = mark.resource as usize;
+            if resource < system.resources() {
+                put_stop(text, system.resource_name(resource), mark.reason)
+            } else {
+                put_stop(text, b"", mark.reason)
+            }
         }
     }
 }
@@ -93,20 +85,6 @@ fn move_to(levels: &mut Levels, shown: u64, tick: u64, text: &mut Vec<u8>) -> Re
 }
 
 impl Dump {
-    /// Begins a dump of a trace of the system: appends its head.
-    pub(crate) fn begin(
-        alloc: Global,
-        system: &System,
-        text: &mut Vec<u8>,
-    ) -> Result<Dump, AllocError>
-        ensures numbers { IfOk result (IsDump system.now) }
-        ensures shown { text.old.items ≡ [] → IfOk result (HasShown system.now [] text.new.items) }
-    {
-        let signals = Signals::of(alloc, system)?;
-        put_head(alloc, text, system, signals.firsts.as_slice())?;
-        Ok(Dump { signals, tick: 0 })
-    }
-
     /// Shows a line of the trace. If it is the first of its tick, this appends what changed in the tick before.
     pub(crate) fn take(
         &mut self,

@@ -7,7 +7,6 @@ ghost use Rattle.fb_wave.specs.Copying.{IsCutShort, IsFlushed};
 
 use crate::error::WaveError;
 use fb_trace::write_front;
-use std::alloc::Global;
 use std::io::Write;
 
 /// Bytes wait up to this count, so that there are few writes.
@@ -17,21 +16,10 @@ const MANY: usize = 65_536;
 #[derive(Drop)]
 pub(crate) struct DumpPage {
     pub(crate) text: Vec<u8>,
-    written: u128,
+    pub(crate) written: u128,
 }
 
 impl DumpPage {
-    /// An empty page, before which nothing was written.
-    pub(crate) fn new(alloc: Global) -> DumpPage
-        ensures empty { result.text.items ≡ [] }
-        ensures none { result.written ≡ 0 }
-    {
-        DumpPage {
-            text: Vec::new(alloc),
-            written: 0,
-        }
-    }
-
     /// Writes all that waits.
     pub(crate) fn flush<W: Write>(&mut self, out: &mut W) -> Result<(), WaveError>
         ensures whole { OnOk result (Appends (W.contents out.old) (W.contents out.new) self.old.text.items) }

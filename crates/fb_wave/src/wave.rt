@@ -5,12 +5,10 @@ ghost use Rattle.fb_wave.specs.OfSystem.{Blames, BlamesShown, FailsShown, FailsW
 
 use crate::copy::Progress;
 use crate::current_line::CurrentLine;
-use crate::dump::Dump;
 use crate::error::WaveError;
 use crate::names::has_names;
-use crate::page::DumpPage;
 use crate::system_ports::SystemPorts;
-use crate::table::{Guess, PortTable};
+use crate::table::PortTable;
 use crate::truncation::Cut;
 use fb_system::System;
 use std::alloc::Global;
@@ -83,15 +81,7 @@ pub fn write_wave_with<R: BufRead, W: Write>(
     let Some(table) = PortTable::of(alloc, &ports)? else {
         unreachable!()
     };
-    let guess = Guess::new(alloc, &table)?;
-    let mut page = DumpPage::new(alloc);
-    let dump = Dump::begin(alloc, system, &mut page.text)?;
-    let mut progress = Progress {
-        dump,
-        page,
-        guess,
-        tick: 0,
-    };
+    let mut progress = Progress::begin(alloc, &table)?;
     current.after_end = false;
     let written = progress.copy(alloc, &table, cut, current, input, out);
     current.follow(progress.tick);

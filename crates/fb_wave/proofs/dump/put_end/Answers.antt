@@ -1,4 +1,5 @@
-use Rattle.std.proofs.Common.{◌≡◌, ℕ, List, ◌++◌, sym, ap, ◌∙◌, append_assoc}
+use Rattle.std.proofs.Common.{◌≡◌, ◌≤◌, ℕ, List, [], ◌++◌, length, sym, ap, ◌∙◌, append_assoc, arith}
+use Rattle.std.proofs.lemmas.List.{get_or_past}
 use Rattle.fb_types.specs.Headline.{system_of}
 use Rattle.fb_types.specs.Names.{Name}
 use Rattle.fb_trace.specs.End.{ending_of}
@@ -8,17 +9,34 @@ use Rattle.fb_wave.specs.Dumps.{end_text, stop_comment}
 use Rattle.fb_wave.proofs.Handing.{on_ok}
 use Rattle.fb_wave.proofs.dump.put_end.Goals as goal
 
-pub returns-in_ok-put_time-in-Stop : goal.returns-in_ok-put_time-in-Stop
-returns-in_ok-put_time-in-Stop c =
+pub returns-then-resource-resources : goal.returns-then-resource-resources
+returns-then-resource-resources c =
     let sys = system_of c.args.system.now in
     let m = c.in-Stop.mark in
     let old = c.args.text.now.items in
     let mid = c.put_time-in-Stop.new.text.items in
     let new = c.put_stop.new.text.items in
     let time : List ℕ = time_text c.args.shown m.tick in
-    let stop : List ℕ = stop_comment c.name_of.result.now m.reason in
+    let stop : List ℕ = stop_comment c.resource_name.result.now m.reason in
     on_ok c.put_stop.result (new ≡ mid ++ stop) (new ≡ old ++ end_text sys c.args.shown (ending_of c.args.end)) c.put_stop.ensures
     (λ e.
     e ∙ ap (λ (t : List ℕ). t ++ stop) c.in_ok-put_time-in-Stop.ensures ∙ append_assoc old time stop
-    ∙ ap (λ (n : Name). old ++ (time ++ stop_comment n m.reason)) c.name_of.ensures
+    ∙ ap (λ (n : Name). old ++ (time ++ stop_comment n m.reason)) c.resource_name.ensures
+    ∙ ap (λ (x : Outcome). old ++ end_text sys c.args.shown (ending_of x)) (sym c.in-Stop.is))
+
+-- there is no such resource
+pub returns-else-resource-resources : goal.returns-else-resource-resources
+returns-else-resource-resources c =
+    let sys = system_of c.args.system.now in
+    let m = c.in-Stop.mark in
+    let old = c.args.text.now.items in
+    let mid = c.put_time-in-Stop.new.text.items in
+    let new = c.put_stop-else-resource-resources.new.text.items in
+    let time : List ℕ = time_text c.args.shown m.tick in
+    let stop : List ℕ = stop_comment [] m.reason in
+    let past : length sys.resource_names ≤ m.resource = omega arith in
+    on_ok c.put_stop-else-resource-resources.result (new ≡ mid ++ stop) (new ≡ old ++ end_text sys c.args.shown (ending_of c.args.end)) c.put_stop-else-resource-resources.ensures
+    (λ e.
+    e ∙ ap (λ (t : List ℕ). t ++ stop) c.in_ok-put_time-in-Stop.ensures ∙ append_assoc old time stop
+    ∙ ap (λ (n : Name). old ++ (time ++ stop_comment n m.reason)) (sym (get_or_past sys.resource_names m.resource [] past))
     ∙ ap (λ (x : Outcome). old ++ end_text sys c.args.shown (ending_of x)) (sym c.in-Stop.is))

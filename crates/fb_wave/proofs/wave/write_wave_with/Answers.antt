@@ -1,7 +1,6 @@
-use Rattle.std.proofs.Common.{◌≡◌, Bool, true, [], Option, Some, None, sym, subst, ◌∙◌}
+use Rattle.std.proofs.Common.{◌≡◌, Bool, true, Option, Some, None, sym, subst, ◌∙◌}
 use Rattle.std.specs.Prelude.{IfErr, IfSome, IsSome, IsTrue, OnOk}
 use Rattle.fb_types.specs.Headline.{Inputs, system_of}
-use Rattle.fb_wave.specs.Writing.{HasShown, IsDump}
 use Rattle.fb_wave.specs.declared.current_line.CurrentLine.{CurrentLine}
 use Rattle.fb_wave.specs.declared.error.WaveError.TheVariants.{Names}
 use Rattle.fb_wave.specs.declared.table.PortTable.{PortTable}
@@ -25,13 +24,16 @@ names_so : {P : Type 0} (b : Bool) → b ≡ true → (IsTrue b → P) → P
 names_so b is so = so is
 
 pub copy-written-requires-clause-dump : goal.copy-written-requires-clause-dump
-copy-written-requires-clause-dump g c =
-    subst (λ (s : Inputs). IsDump (system_of s) c.in_ok-dump.dump) (sym (of_table _ c.in-Some.table _ c.in-Some.is c.in_ok-table.ensures.system ∙ c.in_ok-ports.ensures)) c.in_ok-dump.ensures.numbers
+copy-written-requires-clause-dump g c = c.in_ok-progress.ensures.dump
+
+pub copy-written-requires-clause-tick : goal.copy-written-requires-clause-tick
+copy-written-requires-clause-tick g c = c.in_ok-progress.ensures.tick
 
 pub copy-written-requires-clause-shown : goal.copy-written-requires-clause-shown
-copy-written-requires-clause-shown g c =
-    subst (λ (s : Inputs). HasShown (system_of s) [] c.begin.new.text.items c.in_ok-dump.dump) (sym (of_table _ c.in-Some.table _ c.in-Some.is c.in_ok-table.ensures.system ∙ c.in_ok-ports.ensures))
-    (c.in_ok-dump.ensures.shown c.new-page.ensures.empty)
+copy-written-requires-clause-shown g c = c.in_ok-progress.ensures.shown
+
+pub copy-written-requires-clause-written : goal.copy-written-requires-clause-written
+copy-written-requires-clause-written g c = c.in_ok-progress.ensures.written
 
 pub returns-clause-whole : goal.returns-clause-whole
 returns-clause-whole g c =
@@ -53,11 +55,8 @@ returns-in_err-ports-clause-whole g c = ok_passed c.from_residual.result _ _ c.f
 pub returns-in_err-table-clause-whole : goal.returns-in_err-table-clause-whole
 returns-in_err-table-clause-whole g c = ok_passed c.from_residual-in_err-table.result _ _ c.from_residual-in_err-table.ensures.1
 
-pub returns-in_err-guess-clause-whole : goal.returns-in_err-guess-clause-whole
-returns-in_err-guess-clause-whole g c = ok_passed c.from_residual-in_err-guess.result _ _ c.from_residual-in_err-guess.ensures.1
-
-pub returns-in_err-dump-clause-whole : goal.returns-in_err-dump-clause-whole
-returns-in_err-dump-clause-whole g c = ok_passed c.from_residual-in_err-dump.result _ _ c.from_residual-in_err-dump.ensures.1
+pub returns-in_err-progress-clause-whole : goal.returns-in_err-progress-clause-whole
+returns-in_err-progress-clause-whole g c = ok_passed c.from_residual-in_err-progress.result _ _ c.from_residual-in_err-progress.ensures.1
 
 pub returns-in_err-ports-clause-part : goal.returns-in_err-ports-clause-part
 returns-in_err-ports-clause-part g c = on_passed _ _ _ c.from_residual.ensures.1 (fails_in c.args.cut (system_of c.args.system.now) _ _ _ (front_none _ _))
@@ -71,11 +70,8 @@ returns-then-not-has_names-clause-part g c = fails_in c.args.cut (system_of c.ar
 pub returns-then-not-has_names-clause-refused : goal.returns-then-not-has_names-clause-refused
 returns-then-not-has_names-clause-refused g c = blames_names c.args.cut _ _ (c.has_names.ensures.unnamed c.if-not-has_names.true)
 
-pub returns-in_err-guess-clause-part : goal.returns-in_err-guess-clause-part
-returns-in_err-guess-clause-part g c = on_passed _ _ _ c.from_residual-in_err-guess.ensures.1 (fails_in c.args.cut (system_of c.args.system.now) _ _ _ (front_none _ _))
-
-pub returns-in_err-dump-clause-part : goal.returns-in_err-dump-clause-part
-returns-in_err-dump-clause-part g c = on_passed _ _ _ c.from_residual-in_err-dump.ensures.1 (fails_in c.args.cut (system_of c.args.system.now) _ _ _ (front_none _ _))
+pub returns-in_err-progress-clause-part : goal.returns-in_err-progress-clause-part
+returns-in_err-progress-clause-part g c = on_passed _ _ _ c.from_residual-in_err-progress.ensures.1 (fails_in c.args.cut (system_of c.args.system.now) _ _ _ (front_none _ _))
 
 pub returns-clause-refused : goal.returns-clause-refused
 returns-clause-refused g c =
@@ -91,11 +87,8 @@ returns-in_err-ports-clause-refused g c = on_passed _ _ (BlamesShown c.args.cut 
 pub returns-in_err-table-clause-refused : goal.returns-in_err-table-clause-refused
 returns-in_err-table-clause-refused g c = on_passed _ _ (BlamesShown c.args.cut (system_of c.args.system.now) (g.R.Read.remaining c.args.input.now)) c.from_residual-in_err-table.ensures.1 (blames_memory c.args.cut _ _)
 
-pub returns-in_err-guess-clause-refused : goal.returns-in_err-guess-clause-refused
-returns-in_err-guess-clause-refused g c = on_passed _ _ (BlamesShown c.args.cut (system_of c.args.system.now) (g.R.Read.remaining c.args.input.now)) c.from_residual-in_err-guess.ensures.1 (blames_memory c.args.cut _ _)
-
-pub returns-in_err-dump-clause-refused : goal.returns-in_err-dump-clause-refused
-returns-in_err-dump-clause-refused g c = on_passed _ _ (BlamesShown c.args.cut (system_of c.args.system.now) (g.R.Read.remaining c.args.input.now)) c.from_residual-in_err-dump.ensures.1 (blames_memory c.args.cut _ _)
+pub returns-in_err-progress-clause-refused : goal.returns-in_err-progress-clause-refused
+returns-in_err-progress-clause-refused g c = on_passed _ _ (BlamesShown c.args.cut (system_of c.args.system.now) (g.R.Read.remaining c.args.input.now)) c.from_residual-in_err-progress.ensures.1 (blames_memory c.args.cut _ _)
 
 -- there are names, so there is a table
 pub unreachable-requires : goal.unreachable-requires
@@ -118,8 +111,5 @@ returns-in_err-ports-clause-current g c = on_passed _ _ (IsRefusedLine (system_o
 pub returns-in_err-table-clause-current : goal.returns-in_err-table-clause-current
 returns-in_err-table-clause-current g c = on_passed _ _ (IsRefusedLine (system_of c.args.system.now) (g.R.Read.remaining c.args.input.now) _) c.from_residual-in_err-table.ensures.1 tt
 
-pub returns-in_err-guess-clause-current : goal.returns-in_err-guess-clause-current
-returns-in_err-guess-clause-current g c = on_passed _ _ (IsRefusedLine (system_of c.args.system.now) (g.R.Read.remaining c.args.input.now) _) c.from_residual-in_err-guess.ensures.1 tt
-
-pub returns-in_err-dump-clause-current : goal.returns-in_err-dump-clause-current
-returns-in_err-dump-clause-current g c = on_passed _ _ (IsRefusedLine (system_of c.args.system.now) (g.R.Read.remaining c.args.input.now) _) c.from_residual-in_err-dump.ensures.1 tt
+pub returns-in_err-progress-clause-current : goal.returns-in_err-progress-clause-current
+returns-in_err-progress-clause-current g c = on_passed _ _ (IsRefusedLine (system_of c.args.system.now) (g.R.Read.remaining c.args.input.now) _) c.from_residual-in_err-progress.ensures.1 tt
