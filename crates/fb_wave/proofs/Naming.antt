@@ -1,5 +1,5 @@
 -- From what the code asks of each name to what it says of a system.
-use Rattle.std.proofs.Common.{◌≡◌, ℕ, zero, suc, ◌<◌, Bool, true, false, ◌&&◌, List, [], ◌∷◌, ◌++◌, map, length, Option, Some, None, Contains, slice_index_or, refl, sym, subst, ◌∙◌, inl, inr, arith}
+use Rattle.std.proofs.Common.{◌≡◌, ℕ, zero, suc, ◌<◌, Bool, true, false, ◌&&◌, List, [], ◌∷◌, ◌++◌, map, length, Option, Some, None, Contains, slice_index_or, refl, sym, ap, subst, ◌∙◌, inl, inr, arith}
 use Rattle.std.specs.List.{list_all}
 use Rattle.std.proofs.lemmas.Bool.{and_from, and_parts, true≢false}
 use Rattle.std.proofs.lemmas.List.Elements.{Contains-append_cases, Contains-append_left, Contains-append_right}
@@ -140,6 +140,11 @@ module _ (i : Inputs) where
       }
 
   -- ---- What is no name
+
+  pub resource_unnamed :
+      (k : ℕ) → k < length (system_of i).resource_names → is_name (slice_index_or (system_of i).resource_names k []) ≡ false → HasNames (system_of i) → ⊥
+  resource_unnamed k h is names =
+      let rs = (system_of i).resource_names in true≢false (sym (names.resources _ (there rs k [] h)) ∙ ap is_name (unwrap_or-slice_get rs k []) ∙ is)
 
   own_named : (p : Path) → 0 < length p → AreNames p → is_name (own_name p) ≡ true
   own_named [] h are = absurd (omega (arith, h))

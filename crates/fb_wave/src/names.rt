@@ -1,10 +1,9 @@
 //! Whether the names of a system are those of a declaration and a deployment.
 
-ghost use Rattle.std.specs.Prelude.{◌≡◌, ◌||◌, ℕ, IsTrue, true, false};
+ghost use Rattle.std.specs.Prelude.{◌≡◌, ◌||◌, IsTrue, false};
 ghost use Rattle.std.specs.List.{list_all};
-ghost use Rattle.fb_types.specs.OfSystem.{IsInstance, IsResource, resource_name};
 ghost use Rattle.fb_wave.specs.Named as named;
-ghost use Rattle.fb_wave.specs.OfSystem.{HasNames, is_named_at};
+ghost use Rattle.fb_wave.specs.OfSystem.{HasNames};
 
 use crate::head::own_name;
 use crate::words::is_digit;
@@ -78,43 +77,22 @@ fn are_ports_named(ports: &Ports) -> bool
         && are_variables_named(ports.outputs.as_slice())
 }
 
-/// Whether an instance has a name, and all its ports.
-fn is_instance_named(system: &System, instance: u32) -> bool
-    requires { IsInstance system.now instance }
-    ensures { result ≡ is_named_at system.now instance }
-{
-    is_name(own_name(system, instance)) && are_ports_named(system.ports(instance))
-}
-
-fn are_instances_named(system: &System) -> bool
-    ensures named { IsTrue result → (k : ℕ) → IsInstance system.now k → is_named_at system.now k ≡ true }
-    ensures unnamed { result ≡ false → (k : ℕ) × (IsInstance system.now k) × (is_named_at system.now k ≡ false) }
-{
-    system.facts();
-    for index in 0..system.count() {
-        if !is_instance_named(system, index as u32) {
-            return false;
-        }
-    }
-    true
-}
-
-fn are_resources_named(system: &System) -> bool
-    ensures named { IsTrue result → (k : ℕ) → IsResource system.now k → named.is_name (resource_name system.now k) ≡ true }
-    ensures unnamed { result ≡ false → (k : ℕ) × (IsResource system.now k) × (named.is_name (resource_name system.now k) ≡ false) }
-{
-    for resource in 0..system.resources() {
-        if !is_name(system.resource_name(resource)) {
-            return false;
-        }
-    }
-    true
-}
-
 /// Whether the resources of a system, its instances and their ports have names.
 pub(crate) fn has_names(system: &System) -> bool
     ensures named { IsTrue result → HasNames system.now }
     ensures unnamed { result ≡ false → HasNames system.now → ⊥ }
 {
-    are_resources_named(system) && are_instances_named(system)
+    system.facts();
+    for resource in 0..system.resources() {
+        if !is_name(system.resource_name(resource)) {
+            return false;
+        }
+    }
+    for index in 0..system.count() {
+        let instance = index as u32;
+        if !is_name(own_name(system, instance)) || !are_ports_named(system.ports(instance)) {
+            return false;
+        }
+    }
+    true
 }
