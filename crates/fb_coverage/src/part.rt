@@ -63,23 +63,15 @@ pub(crate) fn basic_of(system: &System, instance: u32) -> Option<&BasicType>
 }
 
 /// Whether an instance is a basic block of the type with this name.
-fn has_type(system: &System, instance: u32, name: &Name) -> bool
-    requires { IsInstance system.now instance }
-    ensures { result ≡ spec.has_type name.now (kind_at system.now (path_at system.now instance)) }
-{
-    match basic_of(system, instance) {
-        Some(basic) => basic.name.is(name),
-        None => false,
-    }
-}
-
-/// Whether an instance has the basic type with this name.
 pub(crate) fn is_used(system: &System, name: &Name) -> bool
     ensures { result ≡ is_used system.now name.now }
 {
     system.facts();
     for instance in 0..system.count() {
-        if has_type(system, instance as u32, name) {
+        let Some(basic) = basic_of(system, instance as u32) else {
+            continue;
+        };
+        if basic.name.is(name) {
             return true;
         }
     }

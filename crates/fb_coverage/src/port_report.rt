@@ -1,10 +1,9 @@
 //! What is not covered of the event ports of instances that are no basic blocks.
 
 ghost use Rattle.std.specs.Prelude.{◌≡◌, ◌++◌, OnOk};
-ghost use Rattle.fb_types.specs.OfSystem.{IsInstance, path_at};
 ghost use Rattle.fb_coverage.specs.Reports as spec;
 ghost use Rattle.fb_coverage.specs.Reports.{listed};
-ghost use Rattle.fb_coverage.specs.OfSystem.{instance_text, instances_text};
+ghost use Rattle.fb_coverage.specs.OfSystem.{instances_text};
 
 use crate::block_report::{put_titled, put_unless};
 use crate::marks::Marks;
@@ -47,25 +46,6 @@ fn put_ports(
     put_side(text, outputs, emitted, b" was never emitted\n")
 }
 
-/// Adds what is not covered of the ports of an instance, if it is no basic block.
-fn put_instance(
-    alloc: Global,
-    text: &mut Vec<u8>,
-    system: &System,
-    marks: &Marks,
-    instance: u32,
-) -> Result<(), AllocError>
-    requires { IsInstance system.now instance }
-    ensures { OnOk result (text.new.items ≡ text.old.items ++ instance_text system.now marks.now instance (path_at system.now instance)) }
-{
-    if basic_of(system, instance).is_some() {
-        return Ok(());
-    }
-    let mut part = Vec::new(alloc);
-    put_ports(&mut part, marks, instance as usize, system.ports(instance))?;
-    put_titled(text, b"instance ", system.path(instance), part.as_slice())
-}
-
 /// Adds what is not covered of the ports of all instances that are no basic blocks.
 pub(crate) fn put_instances(
     alloc: Global,
@@ -77,7 +57,13 @@ pub(crate) fn put_instances(
 {
     system.facts();
     for instance in 0..system.count() {
-        put_instance(alloc, text, system, marks, instance as u32)?;
+        let number = instance as u32;
+        if basic_of(system, number).is_some() {
+            continue;
+        }
+        let mut part = Vec::new(alloc);
+        put_ports(&mut part, marks, instance, system.ports(number))?;
+        put_titled(text, b"instance ", system.path(number), part.as_slice())?;
     }
     Ok(())
 }
