@@ -1,10 +1,10 @@
 //! Networks of instances.
 
-ghost use Rattle.std.specs.Prelude.{◌≡◌, ◌++◌, OnOk, option_map};
+ghost use Rattle.std.specs.Prelude.{◌≡◌, ◌++◌, OnOk};
 ghost use Rattle.std.specs.List.{flat_map};
 ghost use Rattle.std.specs.Option.{option_copied};
 ghost use Rattle.fb_types.specs.Blocks.{named};
-ghost use Rattle.fb_types.specs.Flat.{kind_of, type_name};
+ghost use Rattle.fb_types.specs.Flat.{type_name};
 ghost use Rattle.fb_draw.specs.Networks as spec;
 
 use crate::block::{put_block, put_sides};
@@ -22,21 +22,6 @@ pub(crate) fn find_type<'a>(library: &'a Library, name: &Name) -> Option<&'a Blo
     block_named(library.blocks.as_slice(), name)
 }
 
-/// Adds the node of an instance of a declared type, which exists, as the check has found.
-fn put_declared(
-    alloc: Global,
-    text: &mut Vec<u8>,
-    library: &Library,
-    instance: &Instance,
-) -> Result<(), AllocError>
-    ensures { OnOk result (text.new.items ≡ text.old.items ++ spec.node_of instance.now (option_map kind_of (named type_name instance.now.block_type library.now.blocks))) }
-{
-    match find_type(library, &instance.block_type) {
-        Some(block) => put_block(alloc, text, instance, block.ports()),
-        None => Ok(()),
-    }
-}
-
 /// Adds the node of an instance.
 fn put_instance(
     alloc: Global,
@@ -51,7 +36,11 @@ fn put_instance(
             let ports = ports_of(alloc, kind)?;
             put_block(alloc, text, instance, &ports)
         }
-        None => put_declared(alloc, text, library, instance),
+        // A declared type exists, as the check has found.
+        None => match find_type(library, &instance.block_type) {
+            Some(block) => put_block(alloc, text, instance, block.ports()),
+            None => Ok(()),
+        },
     }
 }
 

@@ -73,20 +73,6 @@ fn put_resource_head(text: &mut Vec<u8>, resource: &ResourceEntry) -> Result<(),
     )
 }
 
-/// Adds the cluster of a resource.
-fn put_resource(
-    text: &mut Vec<u8>,
-    plan: &Plan,
-    instances: &[Instance],
-    resource: &ResourceEntry,
-) -> Result<(), AllocError>
-    ensures { OnOk result (text.new.items ≡ text.old.items ++ spec.resource_cluster plan.now instances.now resource.now) }
-{
-    put_resource_head(text, resource)?;
-    put_members(text, plan, instances, resource)?;
-    text.extend_from_slice(b"  }\n")
-}
-
 /// Adds the clusters of resources.
 fn put_resources(
     text: &mut Vec<u8>,
@@ -97,7 +83,9 @@ fn put_resources(
     ensures { OnOk result (text.new.items ≡ text.old.items ++ flat_map (spec.resource_cluster plan.now instances.now) resources.now) }
 {
     for resource in resources {
-        put_resource(text, plan, instances, resource)?;
+        put_resource_head(text, resource)?;
+        put_members(text, plan, instances, resource)?;
+        text.extend_from_slice(b"  }\n")?;
     }
     Ok(())
 }
