@@ -3,7 +3,8 @@
 ghost use Rattle.std.specs.Prelude.{◌≡◌, ◌≤◌, ℕ, List, All, Contains, IfNone, IfOk, IfSome, IsSome, MatchOption, Some, slice_get, length, map};
 ghost use Rattle.fb_types.specs.Headline.{AreAccepted};
 ghost use Rattle.fb_types.specs.Limits.{IsWithinLimits};
-ghost use Rattle.fb_check_names.specs.Indexes.{IsIndex, names_in};
+ghost use Rattle.fb_types.specs.Repeated.{Twice};
+ghost use Rattle.fb_check_names.specs.Indexes.{IsIndex};
 ghost use Rattle.fb_wave.specs.declared.ports.Port as declared;
 ghost use Rattle.fb_wave.specs.Words.{HasNoThree, HasThree, is_ended};
 ghost use Rattle.fb_wave.specs.OfSystem.{BeginsWith, HasNames, HasNoPort, IsPortOf, port_text};
@@ -80,14 +81,15 @@ fn ends_word(rest: &[u8]) -> bool
     }
 }
 
-fn names_of(alloc: Global, texts: &[Name]) -> Result<Vec<&Name>, AllocError>
-    ensures { IfOk result (λ v. names_in v.items ≡ texts.now) }
+/// The indexes of texts, or `None` if one is given twice.
+fn indexes_in(alloc: Global, texts: &[Name]) -> Result<Option<Indexes<'_>>, AllocError>
+    ensures { IfOk result (λ o. MatchOption o (Twice texts.now) (IsIndex texts.now)) }
 {
     let mut names = Vec::new(alloc);
     for text in texts {
         names.push(text)?;
     }
-    Ok(names)
+    indexes_of(alloc, names.as_slice())
 }
 
 /// The length of the port's text at the beginning of a text: up to the end of its third word.
@@ -114,8 +116,7 @@ impl<'a> PortTable<'a> {
         ensures some { HasNames ports.now.system.now → IfOk result IsSome }
     {
         ports.system.facts();
-        let names = names_of(alloc, ports.texts.as_slice())?;
-        match indexes_of(alloc, names.as_slice())? {
+        match indexes_in(alloc, ports.texts.as_slice())? {
             Some(indexes) => Ok(Some(PortTable {
                 system: ports.system,
                 ports: ports.ports.as_slice(),

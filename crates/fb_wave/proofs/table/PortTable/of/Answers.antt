@@ -4,7 +4,7 @@ use Rattle.std.specs.BTreeMap.{BTreeMap}
 use Rattle.fb_types.specs.Headline.{system_of}
 use Rattle.fb_types.specs.Names.{Name}
 use Rattle.fb_types.specs.Repeated.{Twice}
-use Rattle.fb_check_names.specs.Indexes.{IsIndex, names_in}
+use Rattle.fb_check_names.specs.Indexes.{IsIndex}
 use Rattle.fb_wave.specs.Ports.{IsPortOf, port_text}
 use Rattle.fb_wave.specs.declared.ports.Port.{Port}
 use Rattle.fb_wave.proofs.Alike.{texts_differ}
@@ -16,7 +16,7 @@ invariant_of-result c =
     let ports = c.args.ports.now in
     let found = c.in_ok-indexes.ensures in
     let texts = ports.texts_are ∙ ap (map (port_text sys)) (sym c.as_slice-in-Some.ensures.value) in
-    let names = ap names_in c.as_slice-2.ensures.value ∙ c.in_ok-names.ensures ∙ c.as_slice.ensures.value ∙ texts in
+    let names = c.as_slice.ensures.value ∙ texts in
     record {
       accepted = c.facts.ensures.accepted;
       limits = c.facts.ensures.limits;
@@ -25,14 +25,14 @@ invariant_of-result c =
       texts_are = c.as_slice-in-Some-2.ensures.value ∙ texts;
       index =
           subst (λ (ns : List Name). IsIndex ns c.in-Some.indexes) names
-          (subst (λ (o : Option (BTreeMap (Bor Name) ℕ)). MatchOption o (Twice (names_in c.as_slice-2.result.now)) (IsIndex (names_in c.as_slice-2.result.now))) c.in-Some.is found);
+          (subst (λ (o : Option (BTreeMap (Bor Name) ℕ)). MatchOption o (Twice c.as_slice.result.now) (IsIndex c.as_slice.result.now)) c.in-Some.is found);
     }
 
 -- no two ports are written alike
-pub returns-clause-some : goal.returns-clause-some
-returns-clause-some c named =
+pub returns-in-None-clause-some : goal.returns-in-None-clause-some
+returns-in-None-clause-some c named =
     let i = c.args.ports.now.system.now in
     let ports = c.args.ports.now in
-    let names = ap names_in c.as_slice-2.ensures.value ∙ c.in_ok-names.ensures ∙ c.as_slice.ensures.value ∙ ports.texts_are in
-    let twice = subst (λ (o : Option (BTreeMap (Bor Name) ℕ)). MatchOption o (Twice (names_in c.as_slice-2.result.now)) (IsIndex (names_in c.as_slice-2.result.now))) c.in-None.is c.in_ok-indexes.ensures in
+    let names = c.as_slice.ensures.value ∙ ports.texts_are in
+    let twice = subst (λ (o : Option (BTreeMap (Bor Name) ℕ)). MatchOption o (Twice c.as_slice.result.now) (IsIndex c.as_slice.result.now)) c.in-None.is c.in_ok-indexes.ensures in
     absurd (texts_differ i c.facts.ensures.accepted c.facts.ensures.numbered named ports.ports.items ports.are ports.once (subst (λ (ns : List Name). Twice ns) names twice))
