@@ -244,25 +244,6 @@ pub(crate) fn put_lines<W: Write>(
     Ok(())
 }
 
-/// Puts the text of the lines of parts, one part after another.
-fn put_parts<W: Write>(
-    page: &mut Page,
-    out: &mut W,
-    system: &System,
-    form: Form,
-    parts: &[&[Line]],
-) -> Result<(), WriteFault>
-    requires { All (λ q. All (BelongsTo system.now) q.now) parts.now }
-    ensures { Gathers (W.contents out.old) (W.contents out.new) page.old page.new
-        (lines_text form system.now (map (line_of system.now) (joint (map (λ q. q.now) parts.now)))) result }
-{
-    let mut tick = LastNumber::of(0);
-    for part in parts {
-        put_lines(page, out, system, form, &mut tick, *part)?;
-    }
-    Ok(())
-}
-
 /// Writes the text of lines that belong to the system, and returns how many bytes it has, up to the greatest `u128`. It
 /// takes no memory.
 ///
@@ -322,6 +303,9 @@ pub fn write_parts<W: Write>(
     ensures part { IfErr result (λ fault. IsPartWritten (W.contents out.old) (W.contents out.new) (lines_text form system.now (map (line_of system.now) (joint (map (λ q. q.now) parts.now)))) fault.written) }
 {
     let mut page = Page::new();
-    put_parts(&mut page, out, system, form, parts)?;
+    let mut tick = LastNumber::of(0);
+    for part in parts {
+        put_lines(&mut page, out, system, form, &mut tick, *part)?;
+    }
     page.flush(out)
 }

@@ -4,7 +4,7 @@ use Rattle.fb_types.specs.Numbers.{line_of}
 use Rattle.fb_types.specs.Text.{lines_text}
 use Rattle.fb_trace.specs.Fronts.{joint}
 use Rattle.fb_trace.specs.Progress.{Puts}
-use Rattle.fb_trace.proofs.lines.put_parts.Given as goal
+use Rattle.fb_trace.proofs.lines.write_parts.Given as goal
 
 abbrev pub invariant-loop-part : goal.invariant-loop-part
 invariant-loop-part g l =
