@@ -2,9 +2,8 @@
 
 ghost use Rattle.std.specs.Prelude.{◌≡◌, [], ◌∷◌, ◌++◌, codes, decimal, IfErr, OnOk};
 ghost use Rattle.std.specs.Io.KnownBytes.{Appends};
-ghost use Rattle.fb_types.specs.Simulation.{AtStop};
 ghost use Rattle.fb_types.specs.Text.{reason_text};
-ghost use Rattle.fb_types.specs.OfSystem.{IsResource, last_line};
+ghost use Rattle.fb_types.specs.OfSystem.{last_line};
 ghost use Rattle.fb_trace.specs.End.{ending_of};
 ghost use Rattle.fb_trace.specs.Progress.{Gathers, IsPartWritten};
 ghost use Rattle.fb_trace.specs.OfSystem.{EndsIn};
@@ -44,37 +43,26 @@ fn reason_name(reason: Reason) -> &'static [u8]
     }
 }
 
-fn put_stop<W: Write>(
-    page: &mut Page,
-    out: &mut W,
-    system: &System,
-    mark: &StopMark,
-) -> Result<(), WriteFault>
-    requires { IsResource system.now mark.now.resource }
-    ensures { Gathers (W.contents out.old) (W.contents out.new) page.old page.new
-        (last_line system.now (AtStop mark.now.tick mark.now.resource mark.now.reason)) result }
-{
-    page.put(out, b"stop ")?;
-    put_tick_and_resource(page, out, system, mark.tick, mark.resource)?;
-    page.put(out, b" ")?;
-    page.put(out, reason_name(mark.reason))?;
-    page.put(out, b"\n")
-}
-
 /// Puts the last line.
 fn put_last<W: Write>(
     page: &mut Page,
     out: &mut W,
     system: &System,
-    end: &Outcome,
+    end: Outcome,
 ) -> Result<(), WriteFault>
-    requires { EndsIn system.now end.now }
+    requires { EndsIn system.now end }
     ensures { Gathers (W.contents out.old) (W.contents out.new) page.old page.new
-        (last_line system.now (ending_of end.now)) result }
+        (last_line system.now (ending_of end)) result }
 {
     match end {
-        Outcome::End(horizon) => put_horizon(page, out, *horizon),
-        Outcome::Stop(mark) => put_stop(page, out, system, mark),
+        Outcome::End(horizon) => put_horizon(page, out, horizon),
+        Outcome::Stop(mark) => {
+            page.put(out, b"stop ")?;
+            put_tick_and_resource(page, out, system, mark.tick, mark.resource)?;
+            page.put(out, b" ")?;
+            page.put(out, reason_name(mark.reason))?;
+            page.put(out, b"\n")
+        }
     }
 }
 
@@ -91,6 +79,6 @@ pub fn write_last<W: Write>(out: &mut W, system: &System, end: Outcome) -> Resul
         (last_line system.now (ending_of end)) fault.written) }
 {
     let mut page = Page::new();
-    put_last(&mut page, out, system, &end)?;
+    put_last(&mut page, out, system, end)?;
     page.flush(out)
 }
