@@ -1,6 +1,6 @@
 //! The lines of a trace.
 
-ghost use Rattle.std.specs.Prelude.{◌≡◌, ◌+◌, ◌≤◌, [], ◌++◌, drop, false, map, length, All, IfErr, IfOk, IsTrue, OnOk};
+ghost use Rattle.std.specs.Prelude.{◌≡◌, ◌+◌, ◌≤◌, ◌++◌, drop, false, map, length, All, IfErr, IfOk, IsTrue, OnOk};
 ghost use Rattle.std.specs.Io.KnownBytes.{Appends};
 ghost use Rattle.fb_types.specs.Text.{values_text};
 ghost use Rattle.fb_types.specs.declared.run.Form.TheVariants.{One};
@@ -169,26 +169,6 @@ fn put_any<W: Write>(
     }
 }
 
-/// Puts a line of form one without values in one step, if its head is kept. Otherwise it returns that it has put
-/// nothing.
-#[inline(always)]
-fn append_without_values(page: &mut Page, system: &System, tick: &LastNumber, line: &Line) -> bool
-    requires belongs { BelongsTo system.now line.now }
-    requires tick { tick.now ≡ line.now.key.tick }
-    requires values { line.now.values ≡ [] }
-    requires room { length page.old.waiting + START ≤ SIZE }
-    ensures put { IsTrue result → page.new ≡ record page.old {
-      waiting = page.old.waiting ++ (line_text One system.now (line_of system.now line.now));
-    } }
-    ensures kept { result ≡ false → page.new ≡ page.old }
-{
-    let Some(head) = system.head(head_of(line)) else {
-        return false;
-    };
-    append_bare(page, tick, head);
-    true
-}
-
 /// Puts a line in one step if it can: a line of form one, whose head is kept, with at most one value, if the page has
 /// room for any such line. Otherwise it returns that it has put nothing.
 #[inline(always)]
@@ -208,7 +188,11 @@ fn append_line(page: &mut Page, system: &System, form: Form, tick: &LastNumber, 
     }
     // Such a line needs no slice of its values.
     if line.values.is_empty() {
-        return append_without_values(page, system, tick, line);
+        let Some(head) = system.head(head_of(line)) else {
+            return false;
+        };
+        append_bare(page, tick, head);
+        return true;
     }
     let [value] = line.values.as_slice() else {
         return false;
