@@ -57,13 +57,13 @@ is_named c values = list_any (is_named_by c) (words_after values)
 abbrev pub is_met : Condition → (values : Text) → Bool
 is_met c values = list_any (is_met_by c) (words_after values)
 
--- whether one of them is of the variable, and says what is asked for if values count
-abbrev pub is_found_by : Condition → (counts : Bool) → (word : Text) → Bool
+-- whether one of them is of the variable and, if it must meet the condition, also does
+abbrev pub is_found_by : Condition → (must_meet : Bool) → (word : Text) → Bool
 is_found_by c true = is_met_by c
 is_found_by c false = is_named_by c
 
-abbrev pub is_found : Condition → (counts : Bool) → (values : Text) → Bool
-is_found c counts values = list_any (is_found_by c counts) (words_after values)
+abbrev pub is_found : Condition → (must_meet : Bool) → (values : Text) → Bool
+is_found c must_meet values = list_any (is_found_by c must_meet) (words_after values)
 
 abbrev pub is_way : Way → (taken : Bool) → Bool
 is_way Taken taken = taken

@@ -77,31 +77,31 @@ fn is_named_by(condition: &Condition, word: &[u8]) -> bool
     }
 }
 
-/// Whether a word `VAR=value` names the variable of a condition and, if `counts`, also meets it.
-fn is_found_by(condition: &Condition, counts: bool, word: &[u8]) -> bool
-    ensures { result ≡ spec.is_found_by condition.now counts word.now }
+/// Whether a word `VAR=value` names the variable of a condition and, if `must_meet`, also meets it.
+fn is_found_by(condition: &Condition, must_meet: bool, word: &[u8]) -> bool
+    ensures { result ≡ spec.is_found_by condition.now must_meet word.now }
 {
-    if counts {
+    if must_meet {
         is_met_by(condition, word)
     } else {
         is_named_by(condition, word)
     }
 }
 
-/// Whether one of the values of a line names the variable of a condition and, if `counts`, also meets it.
-fn is_found(condition: &Condition, counts: bool, values: &[u8]) -> bool
-    ensures { result ≡ spec.is_found condition.now counts values.now }
+/// Whether one of the values of a line names the variable of a condition and, if `must_meet`, also meets it.
+fn is_found(condition: &Condition, must_meet: bool, values: &[u8]) -> bool
+    ensures { result ≡ spec.is_found condition.now must_meet values.now }
 {
     let Some(mut rest) = after_blank(values) else {
         return false;
     };
     while let Some((word, after)) = split_at_mark(rest, b' ') {
-        if is_found_by(condition, counts, word) {
+        if is_found_by(condition, must_meet, word) {
             return true;
         }
         rest = after;
     }
-    is_found_by(condition, counts, rest)
+    is_found_by(condition, must_meet, rest)
 }
 
 fn is_way(way: Way, taken: bool) -> bool
@@ -144,12 +144,12 @@ pub fn is_at(pattern: &Pattern, entry: &Entry<'_>) -> bool
         && is_in(&pattern.resource, entry.resource)
 }
 
-/// Whether for each condition one of the values of a line names its variable and, if `counts`, also meets it.
-fn are_found(conditions: &[Condition], counts: bool, values: &[u8]) -> bool
-    ensures { result ≡ list_all (λ c. spec.is_found c counts values.now) conditions.now }
+/// Whether for each condition one of the values of a line names its variable and, if `must_meet`, also meets it.
+fn are_found(conditions: &[Condition], must_meet: bool, values: &[u8]) -> bool
+    ensures { result ≡ list_all (λ c. spec.is_found c must_meet values.now) conditions.now }
 {
     for condition in conditions {
-        if !is_found(condition, counts, values) {
+        if !is_found(condition, must_meet, values) {
             return false;
         }
     }

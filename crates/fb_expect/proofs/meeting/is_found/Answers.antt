@@ -10,14 +10,14 @@ loop-word-smaller c = part_shorter 32 c.loop-word.rest.now _ _ c.in-Some-split_a
 pub loop-word-preserved : goal.loop-word-preserved
 loop-word-preserved c =
     c.loop-word.invariant
-    ∙ any-first (is_found_by c.args.condition.now c.args.counts) 32 c.loop-word.rest.now _ _ _ c.in-Some-split_at_mark.ensures (sym c.is_found_by.ensures ∙ c.if-is_found_by.false)
+    ∙ any-first (is_found_by c.args.condition.now c.args.must_meet) 32 c.loop-word.rest.now _ _ _ c.in-Some-split_at_mark.ensures (sym c.is_found_by.ensures ∙ c.if-is_found_by.false)
 
 pub returns-then-is_found_by : goal.returns-then-is_found_by
 returns-then-is_found_by c =
-    sym (ap (list_any (is_found_by c.args.condition.now c.args.counts)) c.in-Some.ensures.some ∙ c.loop-word.invariant
-    ∙ any-first (is_found_by c.args.condition.now c.args.counts) 32 c.loop-word.rest.now _ _ _ c.in-Some-split_at_mark.ensures (sym c.is_found_by.ensures ∙ c.if-is_found_by.true))
+    sym (ap (list_any (is_found_by c.args.condition.now c.args.must_meet)) c.in-Some.ensures.some ∙ c.loop-word.invariant
+    ∙ any-first (is_found_by c.args.condition.now c.args.must_meet) 32 c.loop-word.rest.now _ _ _ c.in-Some-split_at_mark.ensures (sym c.is_found_by.ensures ∙ c.if-is_found_by.true))
 
 pub returns : goal.returns
 returns c =
-    c.is_found_by-2.ensures ∙ sym (ap (list_any (is_found_by c.args.condition.now c.args.counts)) c.in-Some.ensures.some ∙ c.loop-word.invariant
-    ∙ any-last (is_found_by c.args.condition.now c.args.counts) 32 c.loop-word.rest.now c.in_default-split_at_mark.ensures)
+    c.is_found_by-2.ensures ∙ sym (ap (list_any (is_found_by c.args.condition.now c.args.must_meet)) c.in-Some.ensures.some ∙ c.loop-word.invariant
+    ∙ any-last (is_found_by c.args.condition.now c.args.must_meet) 32 c.loop-word.rest.now c.in_default-split_at_mark.ensures)
