@@ -24,26 +24,33 @@ known n hs v w same knows = subst (λ (x : Watch). Knows n hs x) same knows
 
 -- ---- Rules that are broken
 
-pub see-ends : (within line : ℕ) (w : Watch) (end : End) (b : Breach) → w ≡ watch.Broken b → Concludes (need.See within) w line end (Broken b)
+see-ends : (within line : ℕ) (w : Watch) (end : End) (b : Breach) → w ≡ watch.Broken b → Concludes (need.See within) w line end (Broken b)
 see-ends within line w end b is hs number below knows = see-late within hs end b below (known (need.See within) hs w (watch.Broken b) is knows)
 
-pub not-ends : (within line : ℕ) (w : Watch) (end : End) (b : Breach) → w ≡ watch.Broken b → Concludes (need.Not within) w line end (Broken b)
+not-ends : (within line : ℕ) (w : Watch) (end : End) (b : Breach) → w ≡ watch.Broken b → Concludes (need.Not within) w line end (Broken b)
 not-ends within line w end b is hs number below knows =
     broken-here (need.Not within) hs end b (λ k f lt x. x) (known (need.Not within) hs w (watch.Broken b) is knows)
 
-pub before-ends : (within line : ℕ) (w : Watch) (end : End) (b : Breach) → w ≡ watch.Broken b → Concludes (need.Before within) w line end (Broken b)
+before-ends : (within line : ℕ) (w : Watch) (end : End) (b : Breach) → w ≡ watch.Broken b → Concludes (need.Before within) w line end (Broken b)
 before-ends within line w end b is hs number below knows =
     broken-here (need.Before within) hs end b (λ k f lt x. x) (known (need.Before within) hs w (watch.Broken b) is knows)
 
-pub never-ends : (f : Bool) (line : ℕ) (w : Watch) (end : End) (b : Breach) → w ≡ watch.Broken b → Concludes (need.Never f) w line end (Broken b)
+never-ends : (f : Bool) (line : ℕ) (w : Watch) (end : End) (b : Breach) → w ≡ watch.Broken b → Concludes (need.Never f) w line end (Broken b)
 never-ends f line w end b is hs number below knows =
     broken-here (need.Never f) hs end b (λ k g lt x. x) (known (need.Never f) hs w (watch.Broken b) is knows)
 
-pub count-ends :
+count-ends :
     (least : ℕ) (most every : Option ℕ) (line : ℕ) (w : Watch) (end : End) (b : Breach) → w ≡ watch.Broken b
     → Concludes (need.Count least most every) w line end (Broken b)
 count-ends least most every line w end b is hs number below knows =
     count-broken least most every hs end b (known (need.Count least most every) hs w (watch.Broken b) is knows)
+
+pub broken-ends : (n : Need) (line : ℕ) (w : Watch) (end : End) (b : Breach) → w ≡ watch.Broken b → Concludes n w line end (Broken b)
+broken-ends (need.See within) line w end b is = see-ends within line w end b is
+broken-ends (need.Not within) line w end b is = not-ends within line w end b is
+broken-ends (need.Before within) line w end b is = before-ends within line w end b is
+broken-ends (need.Never f) line w end b is = never-ends f line w end b is
+broken-ends (need.Count least most every) line w end b is = count-ends least most every line w end b is
 
 -- ---- Rules that are not
 

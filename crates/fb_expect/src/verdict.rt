@@ -67,16 +67,6 @@ fn conclude_mark(within: u64, mark: Option<Mark>, end: End) -> Verdict
     }
 }
 
-fn conclude_see(within: u64, watch: Watch, line: u64, end: End) -> Verdict
-    ensures { Concludes (Need.See within) watch line end result }
-{
-    match watch {
-        Watch::Broken(breach) => Verdict::Broken(breach),
-        Watch::See(mark) => conclude_mark(within, mark, end),
-        _ => Verdict::Holds,
-    }
-}
-
 /// The result of a rule if this is the tick of its last P.
 fn conclude_last(within: u64, last: Option<u64>, end: End) -> Verdict
     ensures { (hs : List Hit) → KnowsLast (λ h. h.first) hs last → IsClean (Need.Not within) hs → IsVerdict (Need.Not within) hs end result }
@@ -90,27 +80,6 @@ fn conclude_last(within: u64, last: Option<u64>, end: End) -> Verdict
             }
         }
         None => Verdict::Holds,
-    }
-}
-
-fn conclude_not(within: u64, watch: Watch, line: u64, end: End) -> Verdict
-    ensures { Concludes (Need.Not within) watch line end result }
-{
-    match watch {
-        Watch::Broken(breach) => Verdict::Broken(breach),
-        Watch::Not(last) => conclude_last(within, last, end),
-        _ => Verdict::Holds,
-    }
-}
-
-/// The result of a rule of which each line decides at once.
-fn conclude_at_lines(watch: Watch) -> Verdict
-    ensures before { (within line : ℕ) (end : End) → Concludes (Need.Before within) watch line end result }
-    ensures never { (from_start : Bool) (line : ℕ) (end : End) → Concludes (Need.Never from_start) watch line end result }
-{
-    match watch {
-        Watch::Broken(breach) => Verdict::Broken(breach),
-        _ => Verdict::Holds,
     }
 }
 
@@ -159,27 +128,29 @@ fn conclude_window(bounds: Bounds, window: u64, count: u64, line: u64, end: End)
     }
 }
 
-fn conclude_count(bounds: Bounds, watch: Watch, line: u64, end: End) -> Verdict
-    ensures { Concludes (Need.Count bounds.least bounds.most bounds.every) watch line end result }
-{
-    match watch {
-        Watch::Broken(breach) => Verdict::Broken(breach),
-        Watch::Count { window, count } => conclude_window(bounds, window, count, line, end),
-        _ => Verdict::Holds,
-    }
-}
-
 /// The result of a rule after the whole trace, whose last line has this number.
 pub(crate) fn verdict_of(need: Need, watch: Watch, line: u64, end: End) -> Verdict
     ensures { Concludes need watch line end result }
 {
+    if let Watch::Broken(breach) = watch {
+        return Verdict::Broken(breach);
+    }
     match need {
-        Need::See { within } => conclude_see(within, watch, line, end),
-        Need::Not { within } => conclude_not(within, watch, line, end),
-        Need::Before { .. } => conclude_at_lines(watch),
-        Need::Never { .. } => conclude_at_lines(watch),
-        Need::Count { least, most, every } => {
-            conclude_count(Bounds { least, most, every }, watch, line, end)
-        }
+        Need::See { within } => match watch {
+            Watch::See(mark) => conclude_mark(within, mark, end),
+            _ => Verdict::Holds,
+        },
+        Need::Not { within } => match watch {
+            Watch::Not(last) => conclude_last(within, last, end),
+            _ => Verdict::Holds,
+        },
+        // Of these rules each line decides at once.
+        Need::Before { .. } | Need::Never { .. } => Verdict::Holds,
+        Need::Count { least, most, every } => match watch {
+            Watch::Count { window, count } => {
+                conclude_window(Bounds { least, most, every }, window, count, line, end)
+            }
+            _ => Verdict::Holds,
+        },
     }
 }

@@ -243,62 +243,32 @@ fn count(bounds: Bounds, window: u64, count: u64, line: u64, hit: Hit) -> Watch
     count_on(bounds.most, next, before, line, hit)
 }
 
-fn step_see(within: u64, watch: Watch, line: u64, hit: Hit) -> Watch
-    ensures { Steps (Need.See within) watch line hit result }
-{
-    match watch {
-        Watch::See(mark) => see(within, mark, line, hit),
-        _ => watch,
-    }
-}
-
-fn step_not(within: u64, watch: Watch, line: u64, hit: Hit) -> Watch
-    ensures { Steps (Need.Not within) watch line hit result }
-{
-    match watch {
-        Watch::Not(last) => not(within, last, line, hit),
-        _ => watch,
-    }
-}
-
-fn step_before(within: u64, watch: Watch, line: u64, hit: Hit) -> Watch
-    ensures { Steps (Need.Before within) watch line hit result }
-{
-    match watch {
-        Watch::Before(last) => before(within, last, line, hit),
-        _ => watch,
-    }
-}
-
-fn step_never(from_start: bool, watch: Watch, line: u64, hit: Hit) -> Watch
-    ensures { Steps (Need.Never from_start) watch line hit result }
-{
-    match watch {
-        Watch::Never(is_on) => never(from_start, is_on, line, hit),
-        _ => watch,
-    }
-}
-
-fn step_count(bounds: Bounds, watch: Watch, line: u64, hit: Hit) -> Watch
-    ensures { Steps (Need.Count bounds.least bounds.most bounds.every) watch line hit result }
-{
-    match watch {
-        Watch::Count { window, count } => self::count(bounds, window, count, line, hit),
-        _ => watch,
-    }
-}
-
-/// The state after one more line, which has this number.
+/// The state after one more line, which has this number. A rule that is broken stays so.
 pub(crate) fn step(need: Need, watch: Watch, line: u64, hit: Hit) -> Watch
     ensures { Steps need watch line hit result }
 {
     match need {
-        Need::See { within } => step_see(within, watch, line, hit),
-        Need::Not { within } => step_not(within, watch, line, hit),
-        Need::Before { within } => step_before(within, watch, line, hit),
-        Need::Never { from_start } => step_never(from_start, watch, line, hit),
-        Need::Count { least, most, every } => {
-            step_count(Bounds { least, most, every }, watch, line, hit)
-        }
+        Need::See { within } => match watch {
+            Watch::See(mark) => see(within, mark, line, hit),
+            _ => watch,
+        },
+        Need::Not { within } => match watch {
+            Watch::Not(last) => not(within, last, line, hit),
+            _ => watch,
+        },
+        Need::Before { within } => match watch {
+            Watch::Before(last) => before(within, last, line, hit),
+            _ => watch,
+        },
+        Need::Never { from_start } => match watch {
+            Watch::Never(is_on) => never(from_start, is_on, line, hit),
+            _ => watch,
+        },
+        Need::Count { least, most, every } => match watch {
+            Watch::Count { window, count } => {
+                self::count(Bounds { least, most, every }, window, count, line, hit)
+            }
+            _ => watch,
+        },
     }
 }

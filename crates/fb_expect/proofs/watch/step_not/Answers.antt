@@ -1,5 +1,0 @@
-use Rattle.fb_expect.proofs.Stepping.{not-broken}
-use Rattle.fb_expect.proofs.watch.step_not.Goals as goal
-
-pub returns-in_default : goal.returns-in_default
-returns-in_default c = not-broken c.args.within c.args.line c.args.hit c.args.watch c.in_default.not-Not
