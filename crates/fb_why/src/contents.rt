@@ -4,39 +4,59 @@ use fb_check::types::mentions::{Mention, push_body, push_expression};
 use fb_check::types::{Standing, all_statements};
 use fb_check_names::Named;
 use fb_read_positions::Text;
-use fb_types::{Body, Expr, Stmt};
+use fb_types::{BasicType, Body, Expr, Stmt};
 use std::alloc::{AllocError, Global};
+use std::mem;
 
-/// A part of a basic type: an algorithm or a guard, by the indexes of the type and its own, or a list of the type.
+/// A kind of the parts of a basic type.
 #[derive(Clone, Copy, PartialEq, Eq)]
-pub(crate) enum Source {
-    Algorithm(usize, usize),
-    Guard(usize, usize),
-    States(usize),
-    Algorithms(usize),
+pub(crate) enum Kind {
+    Algorithm,
+    Guard,
+    State,
 }
 
-/// The text of an algorithm or of a guard.
-#[derive(Clone, Copy)]
-pub(crate) enum SourceText<'a> {
-    Body(&'a Body),
-    Guard(&'a Expr),
-}
+/// An algorithm or a guard: its kind, and the indexes of the basic type and its own.
+pub(crate) type Source = (Kind, usize, usize);
 
 /// What the last algorithm or guard consists of, and the names of the last list. Findings follow the order of the text,
 /// so each is gone through once for all that are in it.
 #[derive(Drop)]
 pub(crate) struct Contents<'a> {
     alloc: Global,
-    /// The algorithm that has these statements.
-    stated: Option<Source>,
+    /// The basic type and its algorithm that has these statements.
+    stated: Option<(usize, usize)>,
     statements: Vec<Standing<'a>>,
     /// The algorithm or the guard that has these mentions.
     mentioned: Option<Source>,
     mentions: Vec<Mention<'a>>,
-    /// The list that has these names.
-    named: Option<Source>,
+    /// The basic type whose parts of a kind have these names.
+    named: Option<(Kind, usize)>,
     names: String,
+}
+
+/// The guard of the transition at an index, if it has one.
+pub(crate) fn guard_of(basic: &BasicType, transition: usize) -> Option<&Expr> {
+    basic.transitions.get(transition)?.condition.guard.as_ref()
+}
+
+/// Adds what an algorithm or a guard names, in the order of the text.
+fn push_mentions<'a>(
+    all: &mut Vec<Mention<'a>>,
+    basic: &'a BasicType,
+    (kind, _, index): Source,
+) -> Result<(), AllocError> {
+    match kind {
+        Kind::Algorithm => match basic.algorithms.get(index) {
+            Some(algorithm) => push_body(all, &algorithm.body),
+            None => Ok(()),
+        },
+        Kind::Guard => match guard_of(basic, index) {
+            Some(guard) => push_expression(all, guard),
+            None => Ok(()),
+        },
+        Kind::State => Ok(()),
+    }
 }
 
 impl<'a> Contents<'a> {
@@ -53,20 +73,21 @@ impl<'a> Contents<'a> {
         }
     }
 
-    /// The statement at an index of an algorithm, which has this body.
+    /// The statement at an index of an algorithm, which has this body. The algorithm is given by the indexes of the
+    /// basic type and its own.
     ///
     /// # Errors
     ///
     /// When memory runs out.
     pub fn statement(
         &mut self,
-        source: Source,
+        algorithm: (usize, usize),
         body: &'a Body,
         index: usize,
     ) -> Result<Option<&'a Stmt>, AllocError> {
-        if self.stated != Some(source) {
-            self.statements = all_statements(self.alloc, body)?;
-            self.stated = Some(source);
+        if self.stated != Some(algorithm) {
+            drop(mem::replace(&mut self.statements, all_statements(self.alloc, body)?));
+            self.stated = Some(algorithm);
         }
         match self.statements.get(index) {
             Some(standing) => Ok(Some(standing.statement)),
@@ -74,40 +95,37 @@ impl<'a> Contents<'a> {
         }
     }
 
-    /// What an algorithm or a guard, which has this text, names at an index.
+    /// What an algorithm or a guard of a basic type names at an index.
     ///
     /// # Errors
     ///
     /// When memory runs out.
     pub fn mention(
         &mut self,
+        basic: &'a BasicType,
         source: Source,
-        text: SourceText<'a>,
         index: usize,
     ) -> Result<Option<Mention<'a>>, AllocError> {
         if self.mentioned != Some(source) {
-            let mut mentions = Vec::new(self.alloc);
-            match text {
-                SourceText::Body(body) => push_body(&mut mentions, body)?,
-                SourceText::Guard(guard) => push_expression(&mut mentions, guard)?,
-            }
-            self.mentions = mentions;
+            self.mentioned = None;
+            self.mentions.clear();
+            push_mentions(&mut self.mentions, basic, source)?;
             self.mentioned = Some(source);
         }
         Ok(self.mentions.get(index).copied())
     }
 
-    /// Adds the names of a list, which has these items.
-    pub fn push_names<T: Named>(&mut self, text: &mut Text, list: Source, items: &[T]) {
-        if self.named != Some(list) {
+    /// Adds the names of the parts of a kind, which are these items of the basic type at an index.
+    pub fn push_names<T: Named>(&mut self, text: &mut Text, kind: Kind, block: usize, items: &[T]) {
+        if self.named != Some((kind, block)) {
             let mut names = Text::new(self.alloc);
             names.names(items);
             let Ok(names) = names.into_string() else {
                 text.give_up();
                 return;
             };
-            self.names = names;
-            self.named = Some(list);
+            drop(mem::replace(&mut self.names, names));
+            self.named = Some((kind, block));
         }
         text.words(self.names.as_str());
     }

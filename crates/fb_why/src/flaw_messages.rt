@@ -42,27 +42,34 @@ fn push_ports(text: &mut Text, library: &Library, block: usize, pair: Repeat) {
     text.phrase(&[AGAIN, ", as ", kind_at(first), " and as ", kind_at(second)]);
 }
 
-/// Adds that the link is given twice, if it is there.
-fn push_link(text: &mut Text, link: Option<&Link>) {
-    if let Some(link) = link {
-        text.named("link from ", &link.from);
-        text.named(" to ", &link.to);
-        text.words(AGAIN);
-    }
+/// Adds words for a link.
+pub(crate) fn push_link(text: &mut Text, link: &Link) {
+    text.named("link from ", &link.from);
+    text.named(" to ", &link.to);
 }
 
 /// Adds that something is given twice (E20).
 fn push_given(text: &mut Text, library: &Library, plan: &Plan, given: GivenTwice) {
     match given {
-        GivenTwice::EventBlock(_) => text.words(": an event block has this name"),
-        GivenTwice::Block(block, InBlock::Port(pair)) => push_ports(text, library, block, pair),
+        GivenTwice::EventBlock(_) => {
+            text.words(": an event block has this name");
+            return;
+        }
+        GivenTwice::Block(block, InBlock::Port(pair)) => {
+            push_ports(text, library, block, pair);
+            return;
+        }
         GivenTwice::Resource((_, resource)) => {
             push_item(text, "resource ", plan.resources.as_slice(), resource);
-            text.words(AGAIN);
         }
-        GivenTwice::Link((_, link)) => push_link(text, plan.links.get(link)),
-        _ => text.words(AGAIN),
+        GivenTwice::Link((_, link)) => {
+            if let Some(link) = plan.links.get(link) {
+                push_link(text, link);
+            }
+        }
+        _ => {}
     }
+    text.words(AGAIN);
 }
 
 /// Adds which two data connections lead to one port (E24).
@@ -73,17 +80,6 @@ fn push_joined(text: &mut Text, library: &Library, joined: Joined) {
         push_connection(text, ": data connections ", connections.get(first));
         push_connection(text, " and ", connections.get(second));
         text.words(" lead to one port");
-    }
-}
-
-/// Adds that a composite type is too high (E25).
-fn push_descent(text: &mut Text, library: &Library, descent: Descent) {
-    match descent {
-        Descent::Circle(block, _) => {
-            push_item(text, ": ", library.blocks.as_slice(), block);
-            text.words(" contains itself through it");
-        }
-        Descent::Height(_, _) => text.words(": composites nest more than 16 deep through it"),
     }
 }
 
@@ -100,7 +96,7 @@ fn listed_at(plan: &Plan, location: usize) -> Option<(&ResourceEntry, &Name)> {
     None
 }
 
-/// Adds which resources list an instance, by two indexes in all their lists.
+/// Adds which resources list an instance, by two indexes in all their lists (E26).
 fn push_listed(text: &mut Text, plan: &Plan, first: usize, second: usize) {
     let (Some((one, name)), Some((other, _))) = (listed_at(plan, first), listed_at(plan, second))
     else {
@@ -112,14 +108,6 @@ fn push_listed(text: &mut Text, plan: &Plan, first: usize, second: usize) {
         text.words(" lists it twice");
     } else {
         text.named(" lists it, and so does resource ", &other.name);
-    }
-}
-
-/// Adds how an instance is not mapped to one resource (E26).
-fn push_unmapped(text: &mut Text, plan: &Plan, unmapped: Unmapped) {
-    match unmapped {
-        Unmapped::Again((first, second)) => push_listed(text, plan, first, second),
-        Unmapped::Unlisted(_) => text.words(": no resource lists it"),
     }
 }
 
@@ -192,8 +180,15 @@ fn push_flaw<'a>(
         Spot::Misfit(misfit) => push_misfit(text, types, contents, misfit),
         Spot::Misjoin(misjoin) => push_misjoin(text, types, misjoin),
         Spot::Joined(joined) => push_joined(text, library, joined),
-        Spot::TooHigh(descent) => push_descent(text, library, descent),
-        Spot::Unmapped(unmapped) => push_unmapped(text, plan, unmapped),
+        Spot::TooHigh(Descent::Circle(block, _)) => {
+            push_item(text, ": ", library.blocks.as_slice(), block);
+            text.words(" contains itself through it");
+        }
+        Spot::TooHigh(Descent::Height(_, _)) => {
+            text.words(": composites nest more than 16 deep through it");
+        }
+        Spot::Unmapped(Unmapped::Again((first, second))) => push_listed(text, plan, first, second),
+        Spot::Unmapped(Unmapped::Unlisted(_)) => text.words(": no resource lists it"),
         Spot::Unlinked(unlinked) => push_unlinked(text, network, plan, unlinked),
         Spot::Unserved(connection) => push_unserved(text, network, plan, connection),
         Spot::Stimulus(at) => push_stimulus(text, types, case.stimuli, at),

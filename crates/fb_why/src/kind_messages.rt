@@ -1,7 +1,7 @@
 //! The texts for a wrong kind (E22) and a wrong range (E23), after the words for its position: what is there, and what
 //! was expected.
 
-use crate::contents::{Contents, Source};
+use crate::contents::{Contents, guard_of};
 use fb_check::types::{
     Typing, internals_of, port_type, value_kind_of, value_kind_of_type, variable_type,
 };
@@ -10,136 +10,137 @@ use fb_draw::type_words;
 use fb_read_positions::headings::{basic_at, network_at};
 use fb_read_positions::{BlockTypes, Text};
 use fb_types::{
-    BasicType, BlockType, Choice, Expr, Instance, Name, Network, PortName, Ports, Reference, Stmt,
-    Transition, Ty, Value, ValueKind, instance_named,
+    BasicType, BlockType, Expr, Instance, Name, Network, PortName, Ports, Stmt, Ty, Value,
+    ValueKind, instance_named,
 };
 
 /// Adds a value, and that one of the type is expected.
-fn push_expected(text: &mut Text, (value, ty): (Value, Ty)) {
+fn push_expected(text: &mut Text, value: Value, ty: Ty) {
     text.words(" := ");
     text.value(value);
     text.phrase(&[": a value of ", type_words(ty), " is expected"]);
 }
 
 /// Adds words for an expression, the kind that is expected, and its kind.
-fn push_kind(
-    text: &mut Text,
-    basic: &BasicType,
-    words: &str,
-    (required, expr): (ValueKind, &Expr),
-) {
-    text.words(words);
-    text.words(match required {
+fn push_kind(text: &mut Text, basic: &BasicType, words: &str, required: ValueKind, expr: &Expr) {
+    let expected = match required {
         ValueKind::TruthValue => ": a truth value is expected, and ",
         ValueKind::WholeNumber => ": a number is expected, and ",
-    });
-    text.words(match value_kind_of(expr, basic) {
+    };
+    let found = match value_kind_of(expr, basic) {
         Some(ValueKind::TruthValue) => "it is a truth value",
         Some(ValueKind::WholeNumber) => "it is a number",
         None => "an operand or an argument in it is wrong",
-    });
+    };
+    text.phrase(&[words, expected, found]);
 }
 
-/// Adds that a data input is assigned, or controls a FOR.
-fn push_assigned(text: &mut Text, words: &str, variable: &Reference) {
-    text.named(words, variable.name());
-    text.named(" := ..: ", variable.name());
-    text.words(" is a data input");
-}
-
-/// Adds what is wrong with the condition at an index of an IF.
-fn push_choice(text: &mut Text, basic: &BasicType, choices: &[Choice], choice: usize) {
-    text.words("IF ..");
-    if choice > 0 {
-        text.numbered(", ELSIF number ", choice, "");
-    }
-    if let Some(choice) = choices.get(choice) {
-        push_kind(text, basic, "", (ValueKind::TruthValue, &choice.condition));
-    }
-}
-
-/// Adds what is wrong with a part of a FOR, whose bounds and step these are.
-fn push_bound(
-    text: &mut Text,
-    basic: &BasicType,
-    (start, end, step): (&Expr, &Expr, Option<&Expr>),
-    part: StatementPart,
-) {
-    let number = ValueKind::WholeNumber;
-    match (part, step) {
-        (StatementPart::Start, _) => push_kind(text, basic, " := ..", (number, start)),
-        (StatementPart::End, _) => push_kind(text, basic, " TO ..", (number, end)),
-        (StatementPart::Step, Some(step)) => push_kind(text, basic, " BY ..", (number, step)),
-        _ => text.words(": a number is expected, and it is a truth value"),
-    }
-}
-
-/// Adds what is wrong with a part of a statement.
-fn push_part(text: &mut Text, basic: &BasicType, stmt: &Stmt, part: StatementPart) {
-    let number = ValueKind::WholeNumber;
-    let truth = ValueKind::TruthValue;
+/// Adds the words for a statement that come before those for its part.
+fn push_front(text: &mut Text, stmt: &Stmt, part: StatementPart) {
     match (stmt, part) {
-        (Stmt::Exit, _) => text.words("EXIT: a loop around it is expected"),
-        (Stmt::Assign(variable, _), StatementPart::Assigned) => push_assigned(text, "", variable),
-        (Stmt::Assign(variable, expr), _) => {
-            let required = value_kind_of_type(basic.type_of(variable.name()));
-            text.named("", variable.name());
-            push_kind(text, basic, " := ..", (required, expr));
-        }
-        (Stmt::If(choices, _), StatementPart::Choice(choice)) => {
-            push_choice(text, basic, choices.as_slice(), choice);
-        }
-        (Stmt::Case(selector, _, _), _) => push_kind(text, basic, "CASE ..", (number, selector)),
-        (Stmt::While(condition, _), _) => push_kind(text, basic, "WHILE ..", (truth, condition)),
-        (Stmt::Repeat(_, condition), _) => {
-            push_kind(text, basic, "REPEAT, UNTIL ..", (truth, condition));
-        }
-        (Stmt::For(variable, _, _, _, _), StatementPart::Assigned) => {
-            push_assigned(text, "FOR ", variable);
-        }
-        (Stmt::For(variable, start, end, step, _), part) => {
-            text.named("FOR ", variable.name());
-            push_bound(text, basic, (start, end, step.as_ref()), part);
+        (Stmt::Assign(variable, _), _) => text.named("", variable.name()),
+        (Stmt::For(variable, _, _, _, _), _) => text.named("FOR ", variable.name()),
+        (Stmt::If(_, _), StatementPart::Choice(0)) => text.words("IF .."),
+        (Stmt::If(_, _), StatementPart::Choice(choice)) => {
+            text.numbered("IF .., ELSIF number ", choice, "");
         }
         _ => {}
     }
 }
 
-/// The value and the type of a variable of the block type, if that and the value are there.
-fn initial_of(block: Option<&BlockType>, list: Variables, index: usize) -> Option<(Value, Ty)> {
-    let block = block?;
+/// The expression that is a part of a statement.
+fn expression_of(stmt: &Stmt, part: StatementPart) -> Option<&Expr> {
+    match (stmt, part) {
+        (Stmt::Assign(_, expr), _) => Some(expr),
+        (Stmt::If(choices, _), StatementPart::Choice(choice)) => {
+            Some(&choices.get(choice)?.condition)
+        }
+        (Stmt::Case(selector, _, _), _) => Some(selector),
+        (Stmt::While(condition, _) | Stmt::Repeat(_, condition), _) => Some(condition),
+        (Stmt::For(_, start, _, _, _), StatementPart::Start) => Some(start),
+        (Stmt::For(_, _, end, _, _), StatementPart::End) => Some(end),
+        (Stmt::For(_, _, _, step, _), StatementPart::Step) => step.as_ref(),
+        _ => None,
+    }
+}
+
+/// Words for a part of a statement.
+fn words_of(part: StatementPart) -> &'static str {
+    match part {
+        StatementPart::Choice(_) => "",
+        StatementPart::Selector => "CASE ..",
+        StatementPart::Condition => "WHILE ..",
+        StatementPart::Until => "REPEAT, UNTIL ..",
+        StatementPart::End => " TO ..",
+        StatementPart::Step => " BY ..",
+        _ => " := ..",
+    }
+}
+
+/// The kind that is expected of an expression that is a part of a statement.
+fn required_of(basic: &BasicType, stmt: &Stmt, part: StatementPart) -> ValueKind {
+    match (stmt, part) {
+        (Stmt::Assign(variable, _), _) => value_kind_of_type(basic.type_of(variable.name())),
+        (_, StatementPart::Choice(_) | StatementPart::Condition | StatementPart::Until) => {
+            ValueKind::TruthValue
+        }
+        _ => ValueKind::WholeNumber,
+    }
+}
+
+/// Adds what is wrong with a part of a statement.
+fn push_part(text: &mut Text, basic: &BasicType, stmt: &Stmt, part: StatementPart) {
+    push_front(text, stmt, part);
+    match (stmt, part) {
+        (_, StatementPart::Exit) => text.words("EXIT: a loop around it is expected"),
+        (_, StatementPart::Control) => text.words(
+            ": a number is expected, and it is a truth value",
+        ),
+        (Stmt::Assign(variable, _) | Stmt::For(variable, _, _, _, _), StatementPart::Assigned) => {
+            text.named(" := ..: ", variable.name());
+            text.words(" is a data input");
+        }
+        _ => {
+            if let Some(expr) = expression_of(stmt, part) {
+                let required = required_of(basic, stmt, part);
+                push_kind(text, basic, words_of(part), required, expr);
+            }
+        }
+    }
+}
+
+/// Adds the value of a variable of the block type, and that one of its type is expected.
+fn push_initial(text: &mut Text, block: &BlockType, list: Variables, index: usize) {
     let variables = match list {
         Variables::Inputs => block.ports().inputs.as_slice(),
         Variables::Outputs => block.ports().outputs.as_slice(),
         Variables::Internals => internals_of(block),
     };
-    let variable = variables.get(index)?;
-    Some((variable.initial?, variable.ty))
-}
-
-/// The value of a parameter, and the type of its data input, if the instance is there.
-fn parameter_of(
-    types: &BlockTypes,
-    instance: Option<&Instance>,
-    index: usize,
-) -> Option<(Value, Ty)> {
-    let instance = instance?;
-    let parameter = instance.parameters.get(index)?;
-    let ports = types.ports_named(&instance.block_type)?;
-    let ty = variable_type(ports.inputs.as_slice(), &parameter.name)?;
-    Some((parameter.value, ty))
-}
-
-/// Adds that the guard of the transition is no truth value, if it has one.
-fn push_guard(text: &mut Text, basic: &BasicType, transition: Option<&Transition>) {
-    if let Some(transition) = transition {
-        if let Some(guard) = &transition.condition.guard {
-            push_kind(text, basic, ": guard", (ValueKind::TruthValue, guard));
+    if let Some(variable) = variables.get(index) {
+        if let Some(value) = variable.initial {
+            push_expected(text, value, variable.ty);
         }
     }
 }
 
-/// Adds what is wrong with a part of the statement at these indexes.
+/// Adds the value of a parameter, and that one of the type of its data input is expected.
+fn push_parameter(text: &mut Text, types: &BlockTypes, instance: &Instance, index: usize) {
+    let ports = types.ports_named(&instance.block_type);
+    if let (Some(parameter), Some(ports)) = (instance.parameters.get(index), ports) {
+        if let Some(ty) = variable_type(ports.inputs.as_slice(), &parameter.name) {
+            push_expected(text, parameter.value, ty);
+        }
+    }
+}
+
+/// Adds that the guard of the transition at an index is no truth value, if it has one.
+fn push_guard(text: &mut Text, basic: &BasicType, transition: usize) {
+    if let Some(guard) = guard_of(basic, transition) {
+        push_kind(text, basic, ": guard", ValueKind::TruthValue, guard);
+    }
+}
+
+/// Adds what is wrong with a part of the statement at these indexes, if it is there.
 fn push_statement<'a>(
     text: &mut Text,
     contents: &mut Contents<'a>,
@@ -150,8 +151,7 @@ fn push_statement<'a>(
     let Some(declared) = basic.algorithms.get(algorithm) else {
         return;
     };
-    let source = Source::Algorithm(block, algorithm);
-    match contents.statement(source, &declared.body, statement) {
+    match contents.statement((block, algorithm), &declared.body, statement) {
         Ok(Some(found)) => {
             text.words(": ");
             push_part(text, basic, found, part);
@@ -175,8 +175,8 @@ pub(crate) fn push_misfit<'a>(
             variables,
             variable,
         } => {
-            if let Some(value) = initial_of(library.blocks.get(block), variables, variable) {
-                push_expected(text, value);
+            if let Some(block) = library.blocks.get(block) {
+                push_initial(text, block, variables, variable);
             }
         }
         Misfit::Parameter {
@@ -185,15 +185,14 @@ pub(crate) fn push_misfit<'a>(
             parameter,
         } => {
             if let Some(network) = network_at(library, site) {
-                let instance = network.instances.get(instance);
-                if let Some(value) = parameter_of(types, instance, parameter) {
-                    push_expected(text, value);
+                if let Some(instance) = network.instances.get(instance) {
+                    push_parameter(text, types, instance, parameter);
                 }
             }
         }
         Misfit::Guard { block, transition } => {
             if let Some(basic) = basic_at(library, block) {
-                push_guard(text, basic, basic.transitions.get(transition));
+                push_guard(text, basic, transition);
             }
         }
         Misfit::Statement {

@@ -1,6 +1,7 @@
 //! The text for an unknown name (E21), after the words for its position: what was expected there.
 
-use crate::contents::{Contents, Source, SourceText};
+use crate::contents::{Contents, Kind, Source};
+use crate::flaw_messages::push_link;
 use fb_check::types::mentions::Mention;
 use fb_check_names::{PortKind, Side, UnknownName};
 use fb_read_positions::headings::basic_at;
@@ -9,10 +10,8 @@ use fb_read_positions::{
     name_at,
 };
 use fb_types::{
-    BasicType, BlockType, CompositeType, Connection, Instance, Library, Name, Network, Plan,
-    instance_named,
+    BasicType, BlockType, CompositeType, Connection, Instance, Name, Network, Plan, instance_named,
 };
-use std::alloc::AllocError;
 
 /// Adds what the type of an instance lacks.
 fn push_lack(
@@ -98,23 +97,23 @@ fn push_in_basic<'a>(
     basic: &BasicType,
     (part, required): (BasicPart, &Name),
 ) {
-    match part {
+    let kind = match part {
         BasicPart::Transition(_, TransitionPart::From | TransitionPart::To) => {
             text.named(": ", &basic.name);
             text.named(" has no state ", required);
-            contents.push_names(text, Source::States(block), basic.states.as_slice());
+            contents.push_names(text, Kind::State, block, basic.states.as_slice());
+            return;
         }
         BasicPart::Action(_, _) => {
             text.named(": ", &basic.name);
             text.named(" has no algorithm ", required);
-            let list = Source::Algorithms(block);
-            contents.push_names(text, list, basic.algorithms.as_slice());
+            contents.push_names(text, Kind::Algorithm, block, basic.algorithms.as_slice());
+            return;
         }
-        BasicPart::OutputAlone(_, _) | BasicPart::OutputAfter(_, _) => {
-            text.lacks(&basic.name, PortKind::EventOutput, required, &basic.ports);
-        }
-        _ => text.lacks(&basic.name, PortKind::EventInput, required, &basic.ports),
-    }
+        BasicPart::OutputAlone(_, _) | BasicPart::OutputAfter(_, _) => PortKind::EventOutput,
+        _ => PortKind::EventInput,
+    };
+    text.lacks(&basic.name, kind, required, &basic.ports);
 }
 
 /// Adds what is unknown in the block type, if it is there and has such a part.
@@ -169,9 +168,15 @@ fn push_at<'a>(
     }
 }
 
-/// Adds what a guard or an algorithm names.
-fn push_mention(text: &mut Text, basic: &BasicType, mention: Result<Option<Mention>, AllocError>) {
-    match mention {
+/// Adds what a guard or an algorithm of the basic type names at an index.
+fn push_mention<'a>(
+    text: &mut Text,
+    contents: &mut Contents<'a>,
+    basic: &'a BasicType,
+    source: Source,
+    at: usize,
+) {
+    match contents.mention(basic, source, at) {
         Ok(Some(Mention::Variable(name))) => {
             text.named(": ", &basic.name);
             text.named(" has no variable ", name);
@@ -185,23 +190,22 @@ fn push_mention(text: &mut Text, basic: &BasicType, mention: Result<Option<Menti
     }
 }
 
-/// Adds what is unknown in the deployment.
-fn push_in_plan(text: &mut Text, library: &Library, plan: &Plan, name: UnknownName) {
+/// Adds what is unknown in the deployment of the application with a name.
+fn push_in_plan(text: &mut Text, application: &Name, plan: &Plan, name: UnknownName) {
     match name {
         UnknownName::Mapped { resource, instance } => {
             if let Some(resource) = plan.resources.get(resource) {
                 text.named("resource ", &resource.name);
                 if let Some(instance) = resource.instances.get(instance) {
                     text.named(": instance ", instance);
-                    text.named(": application ", &library.application.name);
+                    text.named(": application ", application);
                     text.named(" has no instance ", instance);
                 }
             }
         }
         UnknownName::LinkEnd { link, side } => {
             if let Some(link) = plan.links.get(link) {
-                text.named("link from ", &link.from);
-                text.named(" to ", &link.to);
+                push_link(text, link);
                 let required = match side {
                     Side::From => &link.from,
                     Side::To => &link.to,
@@ -210,37 +214,6 @@ fn push_in_plan(text: &mut Text, library: &Library, plan: &Plan, name: UnknownNa
             }
         }
         _ => {}
-    }
-}
-
-/// Adds what the guard of a transition names at an index, if it has a guard.
-fn push_in_guard<'a>(
-    text: &mut Text,
-    contents: &mut Contents<'a>,
-    basic: &'a BasicType,
-    (block, transition, at): (usize, usize, usize),
-) {
-    let Some(found) = basic.transitions.get(transition) else {
-        return;
-    };
-    if let Some(guard) = &found.condition.guard {
-        let source = Source::Guard(block, transition);
-        let mention = contents.mention(source, SourceText::Guard(guard), at);
-        push_mention(text, basic, mention);
-    }
-}
-
-/// Adds what an algorithm names at an index.
-fn push_in_body<'a>(
-    text: &mut Text,
-    contents: &mut Contents<'a>,
-    basic: &'a BasicType,
-    (block, algorithm, at): (usize, usize, usize),
-) {
-    if let Some(found) = basic.algorithms.get(algorithm) {
-        let source = Source::Algorithm(block, algorithm);
-        let mention = contents.mention(source, SourceText::Body(&found.body), at);
-        push_mention(text, basic, mention);
     }
 }
 
@@ -254,18 +227,24 @@ pub(crate) fn push_unknown<'a>(
     position: Option<Position>,
 ) {
     let Some(position) = position else {
-        push_in_plan(text, types.library, plan, name);
+        push_in_plan(text, &types.library.application.name, plan, name);
         return;
     };
     match position {
         Position::InBasic(block, BasicPart::Transition(index, TransitionPart::Mention(at))) => {
             if let Some(basic) = basic_at(types.library, block) {
-                push_in_guard(text, contents, basic, (block, index, at));
+                push_mention(text, contents, basic, (Kind::Guard, block, index), at);
             }
         }
         Position::InBasic(block, BasicPart::Mention(algorithm, at)) => {
             if let Some(basic) = basic_at(types.library, block) {
-                push_in_body(text, contents, basic, (block, algorithm, at));
+                push_mention(
+                    text,
+                    contents,
+                    basic,
+                    (Kind::Algorithm, block, algorithm),
+                    at,
+                );
             }
         }
         _ => push_at(text, types, contents, position),
