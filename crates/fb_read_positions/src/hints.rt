@@ -2,7 +2,7 @@
 //! a semicolon or ELSIF, a time with a fraction, a comment inside another one.
 
 use crate::find::{discard, tokens_of};
-use crate::words::{Text, front};
+use crate::words::{ByteKind, Text, front, split_front};
 use fb_read::Expected;
 use fb_read::token::{Located, Mark, Token};
 use std::alloc::Global;
@@ -85,35 +85,6 @@ const UNITS: &[(&str, usize)] = &[
     ("s", 1_000),
     ("ms", 1),
 ];
-
-/// A kind of bytes.
-#[derive(Clone, Copy)]
-pub enum ByteKind {
-    /// ASCII letters.
-    Letters,
-    /// Decimal digits.
-    Digits,
-    /// Spaces.
-    Spaces,
-    /// All bytes but spaces.
-    Others,
-}
-
-/// The bytes of a kind in front, and the others.
-pub fn split_front(bytes: &[u8], kind: ByteKind) -> (&[u8], &[u8]) {
-    for (index, byte) in bytes.iter().enumerate() {
-        let is_of_kind = match kind {
-            ByteKind::Letters => byte.is_ascii_alphabetic(),
-            ByteKind::Digits => byte.is_ascii_digit(),
-            ByteKind::Spaces => *byte == b' ',
-            ByteKind::Others => *byte != b' ',
-        };
-        if !is_of_kind {
-            return (&bytes[..index], &bytes[index..]);
-        }
-    }
-    (bytes, &[])
-}
 
 /// The number that digits are, and the power of ten with as many zeros, if there are any digits, and not too many.
 fn number(digits: &[u8]) -> Option<(usize, usize)> {

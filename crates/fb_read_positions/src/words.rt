@@ -27,6 +27,35 @@ pub fn front(bytes: &[u8], most: usize) -> &[u8] {
     bytes.get(..most).unwrap_or(bytes)
 }
 
+/// A kind of bytes.
+#[derive(Clone, Copy)]
+pub enum ByteKind {
+    /// ASCII letters.
+    Letters,
+    /// Decimal digits.
+    Digits,
+    /// Spaces.
+    Spaces,
+    /// All bytes but spaces.
+    NotSpaces,
+}
+
+/// The bytes of a kind in front, and the others.
+pub fn split_front(bytes: &[u8], kind: ByteKind) -> (&[u8], &[u8]) {
+    for (index, byte) in bytes.iter().enumerate() {
+        let is_of_kind = match kind {
+            ByteKind::Letters => byte.is_ascii_alphabetic(),
+            ByteKind::Digits => byte.is_ascii_digit(),
+            ByteKind::Spaces => *byte == b' ',
+            ByteKind::NotSpaces => *byte != b' ',
+        };
+        if !is_of_kind {
+            return (&bytes[..index], &bytes[index..]);
+        }
+    }
+    (bytes, &[])
+}
+
 /// How a byte is shown: one that is not a printable ASCII character as a question mark.
 pub fn shown(byte: u8) -> u8 {
     match byte {

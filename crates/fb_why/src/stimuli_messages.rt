@@ -3,7 +3,7 @@
 use csv::ByteRecord;
 use fb_inputs::{RowFault, StimuliLocation, record_at};
 use fb_read_positions::Text;
-use fb_read_positions::hints::{ByteKind, split_front};
+use fb_read_positions::words::{ByteKind, split_front};
 use std::alloc::{AllocError, Global};
 
 /// The most fields of a record that are shown.
@@ -73,9 +73,9 @@ fn push_fault(text: &mut Text, row: &ByteRecord, fault: RowFault) {
 fn word_at(row: &ByteRecord, index: usize) -> Option<&[u8]> {
     let mut rest = row.get(2)?;
     for _ in 0..index {
-        rest = split_front(split_front(rest, ByteKind::Spaces).1, ByteKind::Others).1;
+        rest = split_front(split_front(rest, ByteKind::Spaces).1, ByteKind::NotSpaces).1;
     }
-    Some(split_front(split_front(rest, ByteKind::Spaces).1, ByteKind::Others).0)
+    Some(split_front(split_front(rest, ByteKind::Spaces).1, ByteKind::NotSpaces).0)
 }
 
 /// Adds a field, between words.
