@@ -67,28 +67,19 @@ fn end_of_earlier_line(alloc: Global, text: &[u8], offset: usize) -> Option<Text
     location_at(text, end, end)
 }
 
-/// Where a semicolon is missing before the token that is refused, if one is and the token before is on an earlier line.
-fn place_of_semicolon(alloc: Global, text: &[u8], refusal: Refusal) -> Option<TextLocation>
-    requires { IsFaultAt refusal.fault text.now refusal.start refusal.end }
-    ensures location { IfSome result (IsLocation text.now) }
-    ensures shown { IfSome result (IsShownFor text.now refusal.fault refusal.start refusal.end) }
-{
-    match refusal.fault {
-        TextFault::Syntax if misses_semicolon(alloc, refusal.expected) => {
-            end_of_earlier_line(alloc, text, refusal.start)
-        }
-        _ => None,
-    }
-}
-
-/// Where a refusal is shown.
+/// Where a refusal is shown: where a semicolon is missing before the token that is refused, if one is and the token before
+/// is on an earlier line, or else at this token.
 fn shown(alloc: Global, text: &[u8], refusal: Refusal) -> TextLocation
     requires { IsFaultAt refusal.fault text.now refusal.start refusal.end }
     ensures location { IsLocation text.now result }
     ensures shown { IsShownFor text.now refusal.fault refusal.start refusal.end result }
 {
-    if let Some(location) = place_of_semicolon(alloc, text, refusal) {
-        return location;
+    if let TextFault::Syntax = refusal.fault {
+        if misses_semicolon(alloc, refusal.expected) {
+            if let Some(location) = end_of_earlier_line(alloc, text, refusal.start) {
+                return location;
+            }
+        }
     }
     match location_at(text, refusal.start, refusal.end) {
         Some(location) => location,

@@ -7,11 +7,11 @@ ghost use Rattle.fb_read.specs.Whole.{IsLibraryText};
 ghost use Rattle.fb_read_positions.specs.Locations.{IsPlaceFor};
 ghost use Rattle.fb_why.specs.Listings.{locations_of, most_findings};
 ghost use Rattle.fb_why.specs.Places.{IsPlacedFinding};
-ghost use Rattle.fb_why.specs.Positions.{position_of};
+ghost use Rattle.fb_why.specs.Positions as spec;
 
 use crate::contents::Contents;
 use crate::flaw_messages::flaw_message;
-use crate::place::{PlacedFinding, positions_of};
+use crate::place::{PlacedFinding, position_of};
 use crate::spot::{Finding, Spot};
 use fb_check::Case;
 use fb_read_positions::{BlockTypes, TextLocation, places_of};
@@ -72,9 +72,12 @@ fn places_at(
     library: &Library,
     locations: &[Spot],
 ) -> Result<Vec<Option<TextLocation>>, AllocError>
-    ensures { IfOk result (λ places. AllZip (IsPlaceFor declaration.now library.now) (map (position_of library.now) locations.now) places.items) }
+    ensures { IfOk result (λ places. AllZip (IsPlaceFor declaration.now library.now) (map (spec.position_of library.now) locations.now) places.items) }
 {
-    let positions = positions_of(alloc, library, locations)?;
+    let mut positions = Vec::new(alloc);
+    for location in locations {
+        positions.push(position_of(library, *location))?;
+    }
     places_of(alloc, declaration, library, positions.as_slice())
 }
 

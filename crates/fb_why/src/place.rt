@@ -1,6 +1,6 @@
 //! Where a location is in the text of the declaration: its position, and the place of that.
 
-ghost use Rattle.std.specs.Prelude.{◌≡◌, IfOk, map};
+ghost use Rattle.std.specs.Prelude.{◌≡◌};
 ghost use Rattle.fb_why.specs.Positions as spec;
 
 use crate::spot::{Finding, Spot};
@@ -12,7 +12,6 @@ use fb_read_positions::finding_positions::{
 };
 use fb_read_positions::{Position, TextLocation};
 use fb_types::Library;
-use std::alloc::{AllocError, Global};
 
 /// Where a refusal applies, and where that is in the text of the declaration.
 #[derive(Drop)]
@@ -33,7 +32,13 @@ pub(crate) fn position_of(library: &Library, location: Spot) -> Option<Position>
         Spot::Unknown(name) => unknown_position(library, name),
         Spot::Misfit(misfit) => Some(misfit_position(misfit)),
         Spot::Misjoin(Misjoin { site, connection }) => Some(data_position(site, connection)),
-        Spot::Joined(joined) => Some(later_position(joined)),
+        // The later one of two data connections that lead to one port.
+        Spot::Joined(
+            Joined {
+                site,
+                connections: (_, later),
+            },
+        ) => Some(data_position(site, later)),
         Spot::TooHigh(descent) => Some(descent_position(descent)),
         Spot::Unmapped(unmapped) => unmapped_position(unmapped),
         Spot::Unlinked(unlinked) => Some(unlinked_position(unlinked)),
@@ -42,27 +47,4 @@ pub(crate) fn position_of(library: &Library, location: Spot) -> Option<Position>
         Spot::Limit(Limit::Stimuli) => None,
         Spot::Text(_) | Spot::Deployment(_) | Spot::Stimuli(_) | Spot::Stimulus(_) => None,
     }
-}
-
-/// The later one of two data connections that lead to one port.
-fn later_position(joined: Joined) -> Position
-    ensures { result ≡ spec.later_position joined }
-{
-    let (_, connection) = joined.connections;
-    data_position(joined.site, connection)
-}
-
-/// The positions at which these locations are shown, each at the index of its location.
-pub(crate) fn positions_of(
-    alloc: Global,
-    library: &Library,
-    locations: &[Spot],
-) -> Result<Vec<Option<Position>>, AllocError>
-    ensures { IfOk result (λ positions. positions.items ≡ map (spec.position_of library.now) locations.now) }
-{
-    let mut positions = Vec::new(alloc);
-    for location in locations {
-        positions.push(position_of(library, *location))?;
-    }
-    Ok(positions)
 }

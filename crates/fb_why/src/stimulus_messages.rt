@@ -4,7 +4,7 @@ use crate::kind_messages::ports_of_instance;
 use fb_check::types::variable_type;
 use fb_check::{StimulusFault, StimulusLocation};
 use fb_read_positions::{BlockTypes, Text};
-use fb_types::{Connection, Instance, Name, Setting, Stimulus, Ty, instance_named};
+use fb_types::{Connection, Name, Setting, Stimulus, Ty, instance_named};
 
 /// Adds what is wrong with the stimulus at this location. Rows are counted from 0 after the heading, as in the keys of
 /// events.
@@ -21,21 +21,17 @@ pub(crate) fn push_stimulus(
     match location.fault {
         StimulusFault::Event => {
             let instances = types.library.application.network.instances.as_slice();
-            push_event(text, instances, stimulus);
+            match instance_named(instances, &stimulus.instance) {
+                Some(instance) => {
+                    text.named("instance ", &instance.name);
+                    text.named(" : ", &instance.block_type);
+                    text.named(" has no event input ", &stimulus.event);
+                }
+                None => text.named("there is no instance ", &stimulus.instance),
+            }
         }
         StimulusFault::Setting(setting) => push_setting(text, types, stimulus, setting),
         StimulusFault::Twice => push_twice(text, stimulus.settings.as_slice()),
-    }
-}
-
-fn push_event(text: &mut Text, instances: &[Instance], stimulus: &Stimulus) {
-    match instance_named(instances, &stimulus.instance) {
-        Some(instance) => {
-            text.named("instance ", &instance.name);
-            text.named(" : ", &instance.block_type);
-            text.named(" has no event input ", &stimulus.event);
-        }
-        None => text.named("there is no instance ", &stimulus.instance),
     }
 }
 

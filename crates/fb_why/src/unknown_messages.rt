@@ -116,32 +116,6 @@ fn push_in_basic<'a>(
     text.lacks(&basic.name, kind, required, &basic.ports);
 }
 
-/// Adds what is unknown in the block type, if it is there and has such a part.
-fn push_in_block<'a>(
-    text: &mut Text,
-    types: &BlockTypes<'a>,
-    contents: &mut Contents<'a>,
-    (position, required): (Position, &Name),
-    block: Option<&BlockType>,
-) {
-    match (block, position) {
-        (Some(BlockType::Composite(composite)), Position::InComposite(_, part)) => {
-            let scope = (Some(composite), &composite.network);
-            push_in_network(text, types, scope, part, required);
-        }
-        (Some(block), Position::InPorts(_, PortPart::WithInput(_, _))) => {
-            text.lacks(block.type_name(), PortKind::Input, required, block.ports());
-        }
-        (Some(block), Position::InPorts(_, _)) => {
-            text.lacks(block.type_name(), PortKind::Output, required, block.ports());
-        }
-        (Some(BlockType::Basic(basic)), Position::InBasic(block, part)) => {
-            push_in_basic(text, contents, block, basic, (part, required));
-        }
-        _ => {}
-    }
-}
-
 /// Adds what is unknown at a position at which the library has a name.
 fn push_at<'a>(
     text: &mut Text,
@@ -159,11 +133,25 @@ fn push_at<'a>(
             let scope = (None, &library.application.network);
             push_in_network(text, types, scope, part, required);
         }
-        Position::InComposite(block, _)
-        | Position::InPorts(block, _)
-        | Position::InBasic(block, _) => {
-            let block = library.blocks.get(block);
-            push_in_block(text, types, contents, (position, required), block);
+        Position::InComposite(block, part) => {
+            if let Some(BlockType::Composite(composite)) = library.blocks.get(block) {
+                let scope = (Some(composite), &composite.network);
+                push_in_network(text, types, scope, part, required);
+            }
+        }
+        Position::InPorts(block, part) => {
+            if let Some(block) = library.blocks.get(block) {
+                let kind = match part {
+                    PortPart::WithInput(_, _) => PortKind::Input,
+                    _ => PortKind::Output,
+                };
+                text.lacks(block.type_name(), kind, required, block.ports());
+            }
+        }
+        Position::InBasic(block, part) => {
+            if let Some(basic) = basic_at(library, block) {
+                push_in_basic(text, contents, block, basic, (part, required));
+            }
         }
     }
 }

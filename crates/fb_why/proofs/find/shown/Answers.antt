@@ -1,4 +1,4 @@
-use Rattle.std.proofs.Common.{◌≡◌, Option, None, false, subst, true}
+use Rattle.std.proofs.Common.{◌≡◌, Option, None, false, subst, true, arith}
 use Rattle.std.specs.Prelude.{IsTrue}
 use Rattle.std.specs.Option.{is_some}
 use Rattle.fb_read.proofs.PlaceLaws.{inside}
@@ -8,6 +8,11 @@ use Rattle.fb_why.proofs.find.shown.Goals as goal
 
 none_there : (o : Option TextLocation) → IsTrue (is_some o) → o ≡ None → ⊥
 none_there o some none = let no : false ≡ true = subst (λ (x : Option TextLocation). IsTrue (is_some x)) none some in cc
+
+pub end_of_earlier_line-requires : goal.end_of_earlier_line-requires
+end_of_earlier_line-requires c =
+    let here = inside c.args.refusal.fault c.args.text.now c.args.refusal.start c.args.refusal.end c.requires in
+    omega (arith, here.ordered, here.within)
 
 pub unreachable-requires : goal.unreachable-requires
 unreachable-requires c =
