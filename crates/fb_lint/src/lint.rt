@@ -17,7 +17,7 @@ use crate::uses::{assigned, mentions_of, push_unassigned_events, push_unmentione
 use crate::warning::Warning;
 use fb_check_names::{PortKind, Site};
 use fb_read_positions::BlockTypes;
-use fb_types::{BasicType, BlockType, CompositeType, Library, Plan, Stimulus};
+use fb_types::{BasicType, BlockType, Library, Plan, Stimulus};
 use std::alloc::{AllocError, Global};
 
 /// Adds the data inputs that a basic type reads and that events do not sample.
@@ -113,38 +113,6 @@ fn push_of_basic(
     push_of_ports(alloc, all, block, basic)
 }
 
-/// Adds the warnings about a composite type.
-fn push_of_composite(
-    all: &mut Vec<Warning>,
-    types: &BlockTypes,
-    block: usize,
-    composite: &CompositeType,
-) -> Result<(), AllocError>
-    ensures { OnOk result (all.new.items ≡ all.old.items ++ spec.of_composite types.now.library.now block composite.now) }
-{
-    let network = &composite.network;
-    let connections = network.data_connections.as_slice();
-    let instances = network.instances.as_slice();
-    push_unfed(all, types, Site::Inside(block), connections, &[], instances)?;
-    push_unjoined_ports(all, block, composite)
-}
-
-/// Adds the warnings about what is inside a block type.
-fn push_of_type(
-    alloc: Global,
-    all: &mut Vec<Warning>,
-    types: &BlockTypes,
-    block: usize,
-    entry: &BlockType,
-) -> Result<(), AllocError>
-    ensures { OnOk result (all.new.items ≡ all.old.items ++ spec.of_type types.now.library.now block entry.now) }
-{
-    match entry {
-        BlockType::Basic(basic) => push_of_basic(alloc, all, block, basic),
-        BlockType::Composite(composite) => push_of_composite(all, types, block, composite),
-    }
-}
-
 /// Adds the warnings about a block type.
 fn push_of_block(
     alloc: Global,
@@ -163,7 +131,16 @@ fn push_of_block(
         ports.event_inputs.as_slice(),
         ports.inputs.as_slice(),
     )?;
-    push_of_type(alloc, all, types, block, entry)
+    match entry {
+        BlockType::Basic(basic) => push_of_basic(alloc, all, block, basic),
+        BlockType::Composite(composite) => {
+            let network = &composite.network;
+            let connections = network.data_connections.as_slice();
+            let instances = network.instances.as_slice();
+            push_unfed(all, types, Site::Inside(block), connections, &[], instances)?;
+            push_unjoined_ports(all, block, composite)
+        }
+    }
 }
 
 /// Adds the warnings about all block types.

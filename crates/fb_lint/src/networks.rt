@@ -178,15 +178,7 @@ fn is_inside(blocks: &[BlockType], name: &Name) -> bool
     false
 }
 
-/// Whether the application or a composite type has an instance of the type.
-fn is_used_type(library: &Library, name: &Name) -> bool
-    ensures { result ≡ spec.is_used_type library.now name.now }
-{
-    has_instance(library.application.network.instances.as_slice(), name)
-        || is_inside(library.blocks.as_slice(), name)
-}
-
-/// Adds a block type if it has no instance.
+/// Adds a block type if neither the application nor a composite type has an instance of it.
 pub(crate) fn push_unused_type(
     all: &mut Vec<Warning>,
     library: &Library,
@@ -195,6 +187,12 @@ pub(crate) fn push_unused_type(
 ) -> Result<(), AllocError>
     ensures { OnOk result (all.new.items ≡ all.old.items ++ spec.unused_type library.now block entry.now) }
 {
-    let is_used = is_used_type(library, entry.type_name());
-    push_if(all, !is_used, Warning::UnusedType { block })
+    let name = entry.type_name();
+    if has_instance(library.application.network.instances.as_slice(), name)
+        || is_inside(library.blocks.as_slice(), name)
+    {
+        return Ok(());
+    }
+    all.push(Warning::UnusedType { block })?;
+    Ok(())
 }

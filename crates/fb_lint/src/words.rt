@@ -65,7 +65,12 @@ fn push_rest(alloc: Global, text: &mut Text, library: &Library, plan: &Plan, war
         Warning::UnsampledInAlgorithm { block, input, .. } => {
             push_input(text, ": it reads ", library, block, input);
         }
-        Warning::UnusedLink { link } => push_link(text, plan, link),
+        Warning::UnusedLink { link } => {
+            if let Some(link) = plan.links.get(link) {
+                text.named("link ", &link.from);
+                text.named(" TO ", &link.to);
+            }
+        }
         _ => {}
     }
 }
@@ -77,30 +82,27 @@ fn push_input(text: &mut Text, words: &str, library: &Library, block: usize, inp
     }
 }
 
-/// Adds the type of an instance and one of its data inputs.
+/// Adds the type of an instance and one of its data inputs, if the instance is there.
 fn push_unfed(
     alloc: Global,
     text: &mut Text,
     library: &Library,
     (site, instance): (Site, usize),
     input: usize,
-) -> Option<()> {
-    let instance = network_at(library, site)?.instances.get(instance)?;
+) {
+    let Some(network) = network_at(library, site) else {
+        return;
+    };
+    let Some(instance) = network.instances.get(instance) else {
+        return;
+    };
     text.named(" : ", &instance.block_type);
     match BlockTypes::new(alloc, library) {
         Ok(types) => {
-            let ports = types.ports_named(&instance.block_type)?;
-            push_item(text, ", data input ", ports.inputs.as_slice(), input);
+            if let Some(ports) = types.ports_named(&instance.block_type) {
+                push_item(text, ", data input ", ports.inputs.as_slice(), input);
+            }
         }
         Err(_) => text.give_up(),
-    }
-    Some(())
-}
-
-/// Adds words for a link.
-fn push_link(text: &mut Text, plan: &Plan, link: usize) {
-    if let Some(link) = plan.links.get(link) {
-        text.named("link ", &link.from);
-        text.named(" TO ", &link.to);
     }
 }
