@@ -1,7 +1,7 @@
 -- What contracts say of the insides of a system: its value is the accepted inputs, and each of these is of the flat system.
 use Rattle.std.specs.Prelude.{ℕ, List, Bool, true, Option}
 use Rattle.fb_types.specs.Headline.{Inputs, system_of}
-use Rattle.fb_types.specs.Names.{Name, Path}
+use Rattle.fb_types.specs.Names.{Name}
 use Rattle.fb_types.specs.Simulation.{Ending}
 use Rattle.fb_types.specs.declared.run.Form.{Form}
 use Rattle.fb_types.specs.declared.run.Line.{Line}
@@ -12,7 +12,6 @@ use Rattle.fb_wave.specs.declared.ports.Port.{Port}
 use Rattle.fb_wave.specs.declared.truncation.Cut.{Cut}
 use Rattle.fb_inspect.specs.Dumping as dumping
 use Rattle.fb_inspect.specs.Heads as heads
-use Rattle.fb_inspect.specs.Inner as inner
 use Rattle.fb_inspect.specs.Inspections as inspections
 use Rattle.fb_inspect.specs.LineFaults as line_faults
 use Rattle.fb_inspect.specs.Lines as lines
@@ -105,12 +104,6 @@ abbrev pub ShowsFront : Inputs → (only : List Name) → (steps : ℕ) → (old
 ShowsFront i = inspections.ShowsFront (system_of i)
 
 -- ---- Dumps with the insides of blocks
-
-abbrev pub inner_declared : Inputs → Path → List ℕ
-inner_declared i = inner.inner_declared (system_of i)
-
-abbrev pub inner_begun : Inputs → Path → List ℕ
-inner_begun i = inner.inner_begun (system_of i)
 
 -- the scopes of the instances of a resource, and those of all resources
 abbrev pub instances_opened : Inputs → (resource : ℕ) → List ℕ

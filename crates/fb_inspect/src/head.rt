@@ -1,10 +1,8 @@
 //! The head of a dump with the inside of basic blocks.
 
-ghost use Rattle.std.specs.Prelude.{◌≡◌, ◌+◌, ◌-◌, ◌++◌, IfOk, OnOk, length};
-ghost use Rattle.fb_types.specs.OfSystem.{IsInstance, path_at, ports_at};
-ghost use Rattle.fb_wave.specs.Scopes as ports;
-ghost use Rattle.fb_wave.specs.OfSystem.{AreFirsts, first_signal};
-ghost use Rattle.fb_inspect.specs.OfSystem.{AreKept, inner_begun, inner_declared, insides_begun, instances_opened, opening_look, resources_opened, state_head};
+ghost use Rattle.std.specs.Prelude.{◌≡◌, ◌++◌, OnOk};
+ghost use Rattle.fb_wave.specs.OfSystem.{AreFirsts};
+ghost use Rattle.fb_inspect.specs.OfSystem.{AreKept, insides_begun, instances_opened, opening_look, resources_opened, state_head};
 
 use crate::before::{inside_of, put_inside};
 use crate::blocks::{Remembered, basic_type};
@@ -14,39 +12,7 @@ use fb_wave::head::{put_begun, put_instance};
 use fb_wave::scopes::{put_closed, put_opened};
 use std::alloc::{AllocError, Global};
 
-/// Declares the inside of an instance.
-fn put_inner(text: &mut Vec<u8>, system: &System, instance: u32) -> Result<(), AllocError>
-    requires { IsInstance system.now instance }
-    ensures { OnOk result (text.new.items ≡ text.old.items ++ inner_declared system.now (path_at system.now instance)) }
-{
-    system.facts();
-    match basic_type(system, instance) {
-        Some(block) => put_chart(text, instance, block),
-        None => Ok(()),
-    }
-}
-
-/// Puts the scope of an instance with its inside, where the given number of scopes of instances are open, and returns
-/// how many are open then.
-fn put_whole(
-    text: &mut Vec<u8>,
-    system: &System,
-    firsts: &[usize],
-    depth: usize,
-    instance: u32,
-) -> Result<usize, AllocError>
-    requires firsts { AreFirsts system.now firsts.now }
-    requires instance { IsInstance system.now instance }
-    ensures height { IfOk result (λ h. h ≡ length (path_at system.now instance)) }
-    ensures text { OnOk result (let p = path_at system.now instance in
-        text.new.items ≡ text.old.items ++ (ports.closed (depth + 1 - length p) ++ ports.opened (ports.own_name p) ++ ports.ports_declared (first_signal system.now instance) (ports_at system.now p) ++ inner_declared system.now p)) }
-{
-    let height = put_instance(text, system, firsts, depth, instance)?;
-    put_inner(text, system, instance)?;
-    Ok(height)
-}
-
-/// Puts the scopes of the instances of a resource.
+/// Puts the scopes of the instances of a resource, each with its inside.
 fn put_instances(
     text: &mut Vec<u8>,
     system: &System,
@@ -60,9 +26,12 @@ fn put_instances(
     system.facts();
     let mut depth = 0;
     for index in 0..system.count() {
-        if system.resource(index as u32) == resource {
-            let height = put_whole(text, system, firsts, depth, index as u32)?;
-            depth = height;
+        let instance = index as u32;
+        if system.resource(instance) == resource {
+            depth = put_instance(text, system, firsts, depth, instance)?;
+            if let Some(block) = basic_type(system, instance) {
+                put_chart(text, instance, block)?;
+            }
         }
     }
     put_closed(text, depth)
@@ -82,24 +51,6 @@ fn put_resources(text: &mut Vec<u8>, system: &System, firsts: &[usize]) -> Resul
     Ok(())
 }
 
-/// Puts what the inside of an instance begins with.
-fn put_inner_begun(
-    text: &mut Vec<u8>,
-    system: &System,
-    blocks: &[Remembered],
-    instance: u32,
-) -> Result<(), AllocError>
-    requires instance { IsInstance system.now instance }
-    requires blocks { AreKept system.now blocks.now (opening_look system.now) }
-    ensures { OnOk result (text.new.items ≡ text.old.items ++ inner_begun system.now (path_at system.now instance)) }
-{
-    system.facts();
-    match inside_of(system, blocks, instance) {
-        Some(inside) => put_inside(text, instance, &inside),
-        None => Ok(()),
-    }
-}
-
 /// Puts what the inside of all instances begins with.
 fn put_insides_begun(
     text: &mut Vec<u8>,
@@ -111,7 +62,10 @@ fn put_insides_begun(
 {
     system.facts();
     for index in 0..system.count() {
-        put_inner_begun(text, system, blocks, index as u32)?;
+        let instance = index as u32;
+        if let Some(inside) = inside_of(system, blocks, instance) {
+            put_inside(text, instance, &inside)?;
+        }
     }
     Ok(())
 }
