@@ -2,9 +2,8 @@
 
 ghost use Rattle.std.specs.Prelude.{◌≡◌, ◌<◌, List, ℕ, false, All, MatchOption, length, slice_index};
 ghost use Rattle.fb_types.specs.declared.value.Value.{Value};
-ghost use Rattle.fb_system.specs.IndexLists.{AreIndexes};
 ghost use Rattle.fb_wave.specs.Reading.{AreRead, IsUnbound, name_at, type_at};
-ghost use Rattle.fb_wave.specs.OfSystem.{AreValuesOf, IsPortOf, port_side, port_variables};
+ghost use Rattle.fb_wave.specs.OfSystem.{AreValuesOf, IsPortOf};
 ghost use Rattle.fb_inspect.specs.LineFaults.{HasFirst, IsNoVariable, IsValueFault, variables};
 ghost use Rattle.fb_inspect.specs.OfSystem.{IsPortValueFault};
 
@@ -91,18 +90,6 @@ pub(crate) fn variables_of(ports: &Ports, taken: bool) -> &[Variable]
     }
 }
 
-/// The indexes of the variables WITH an event.
-fn indexes_with(system: &System, port: Port) -> &[u32]
-    requires { IsPortOf system.now port }
-    ensures { AreIndexes (port_side system.now port) (port_variables system.now port) result.now }
-{
-    if port.taken {
-        system.inputs_with(port.instance, port.event)
-    } else {
-        system.outputs_with(port.instance, port.event)
-    }
-}
-
 /// What is wrong with the values of a port.
 pub(crate) fn port_values_fault<'a>(
     system: &System,
@@ -112,6 +99,12 @@ pub(crate) fn port_values_fault<'a>(
     requires { IsPortOf system.now port }
     ensures { MatchOption result ((values : List Value) × AreValuesOf system.now port text.now values) (IsPortValueFault system.now port text.now) }
 {
-    let variables = variables_of(system.ports(port.instance), port.taken);
-    value_fault(variables, indexes_with(system, port), text)
+    let ports = system.ports(port.instance);
+    if port.taken {
+        let indexes = system.inputs_with(port.instance, port.event);
+        value_fault(ports.inputs.as_slice(), indexes, text)
+    } else {
+        let indexes = system.outputs_with(port.instance, port.event);
+        value_fault(ports.outputs.as_slice(), indexes, text)
+    }
 }

@@ -1,18 +1,24 @@
-use Rattle.std.proofs.Common.{List, length, ap, subst, sym, ◌∙◌, ◌<◌}
-use Rattle.std.specs.Prelude.{All}
+use Rattle.std.proofs.Common.{ap, sym, ◌∙◌}
 use Rattle.fb_types.specs.Headline.{system_of}
+use Rattle.fb_types.specs.Numbers.{path_at, ports_at}
 use Rattle.fb_types.specs.declared.library.Ports.{Ports}
-use Rattle.fb_types.specs.declared.library.Variable.{Variable}
 use Rattle.fb_inspect.specs.LineFaults.{variables}
 use Rattle.fb_inspect.proofs.Bound.{port_fault}
+use Rattle.fb_inspect.proofs.Ported.{inputs_of, outputs_of}
 use Rattle.fb_inspect.proofs.fault_values.port_values_fault.Goals as goal
 
-pub value_fault-requires : goal.value_fault-requires
-value_fault-requires c =
-    subst (λ (us : List Variable). All (λ k. k < length us) c.indexes_with.result.now)
-    (sym (c.variables_of-variables.ensures ∙ ap (λ (its : Ports). variables its c.args.port.taken) c.ports.ensures)) c.indexes_with.ensures.within
+pub returns-then-port : goal.returns-then-port
+returns-then-port c =
+    let sys = system_of c.args.system.now in
+    let p = c.args.port in
+    port_fault sys p c.as_slice.result.now c.inputs_with-indexes.result.now c.args.text.now c.value_fault.result
+    (c.as_slice.ensures ∙ ap (λ (its : Ports). its.inputs) c.ports-ports.ensures ∙ ap (variables (ports_at sys (path_at sys p.instance))) (sym c.if-port.true))
+    (inputs_of sys p.instance p.event p.taken _ c.if-port.true c.inputs_with-indexes.ensures) c.value_fault.ensures
 
-pub returns : goal.returns
-returns c =
-    port_fault (system_of c.args.system.now) c.args.port c.variables_of-variables.result.now c.indexes_with.result.now c.args.text.now c.value_fault.result
-    (c.variables_of-variables.ensures ∙ ap (λ (its : Ports). variables its c.args.port.taken) c.ports.ensures) c.indexes_with.ensures c.value_fault.ensures
+pub returns-else-port : goal.returns-else-port
+returns-else-port c =
+    let sys = system_of c.args.system.now in
+    let p = c.args.port in
+    port_fault sys p c.as_slice-else-port.result.now c.outputs_with-indexes.result.now c.args.text.now c.value_fault-else-port.result
+    (c.as_slice-else-port.ensures ∙ ap (λ (its : Ports). its.outputs) c.ports-ports.ensures ∙ ap (variables (ports_at sys (path_at sys p.instance))) (sym c.if-port.false))
+    (outputs_of sys p.instance p.event p.taken _ c.if-port.false c.outputs_with-indexes.ensures) c.value_fault-else-port.ensures
