@@ -1,6 +1,6 @@
 //! What happens inside the blocks of a trace.
 
-ghost use Rattle.std.specs.Prelude.{◌≡◌, ◌≤◌, ℕ, List, Option, Some, IfErr, IfOk, IfSome, IsTrue, OnErr, OnOk, false, true};
+ghost use Rattle.std.specs.Prelude.{◌≡◌, ◌≤◌, ◌++◌, ◌∷◌, if◌then◌else◌, ℕ, List, Option, Some, IfErr, IfOk, IfSome, IsTrue, OnErr, OnOk, false, true};
 ghost use Rattle.std.specs.Io.KnownBytes.{Consumes};
 ghost use Rattle.std.specs.List.{list_any};
 ghost use Rattle.fb_types.specs.Names.{Name, Path};
@@ -8,11 +8,13 @@ ghost use Rattle.fb_types.specs.Text.{path_text};
 ghost use Rattle.fb_types.specs.OfSystem.{resource_count};
 ghost use Rattle.fb_wave.specs.Copying.{IsFirstLine};
 ghost use Rattle.fb_wave.specs.CutOff.{is_unended};
+ghost use Rattle.fb_wave.specs.Named.{is_digit};
+ghost use Rattle.fb_wave.specs.Words.{is_word};
 ghost use Rattle.fb_inspect.specs.Covering.{Covers};
 ghost use Rattle.fb_inspect.specs.Inspections as spec;
 ghost use Rattle.fb_wave.specs.OfSystem.{HasNames};
 ghost use Rattle.fb_inspect.specs.Looks.{most};
-ghost use Rattle.fb_inspect.specs.Refusals.{OfRefusal};
+ghost use Rattle.fb_inspect.specs.Refusals.{IsNoRefusal, OfRefusal};
 ghost use Rattle.fb_inspect.specs.Walking.{AreUnused};
 ghost use Rattle.fb_inspect.specs.OfSystem.{BeginsWalk, IsNext, IsShownBy, IsWrongAt, ShowsFront, ShowsOf};
 ghost use Rattle.fb_inspect.specs.OfWalk as of_walk;
@@ -124,27 +126,34 @@ pub(crate) fn steps_of(alloc: Global, system: &System) -> Result<Vec<TickSteps>,
     Ok(all)
 }
 
-/// The first line of a trace, as it was read.
-pub fn first_reading(
+/// Reads the first line of a trace, which says in which form the trace is.
+pub(crate) fn first_reading<R: BufRead>(
     alloc: Global,
     table: &PortTable<'_>,
-    form: Form,
-    line: Vec<u8>,
-) -> Result<Reading, AllocError>
-    ensures line { IfOk result (λ r. r.line.items ≡ line.items) }
-    ensures next { IfOk result (λ r. IsNext table.now.system.now form 0 r.line.items r.next) }
-    ensures number { IfOk result (λ r. r.number ≡ 1) }
+    input: &mut R,
+) -> Result<(Form, Reading), InspectError>
+    ensures read { IfOk result (λ r. Consumes (R.remaining input.old) (R.remaining input.new) r.1.line.items) }
+    ensures first { IfOk result (λ r. IsFirstLine r.1.line.items (R.remaining input.old)) }
+    ensures form { IfOk result (λ r. (word rest : List ℕ) (b : ℕ) → is_word word ≡ true → r.1.line.items ≡ word ++ 32 ∷ (b ∷ rest)
+        → r.0 ≡ (if is_digit b then Form.Two else Form.One)) }
+    ensures next { IfOk result (λ r. IsNext table.now.system.now r.0 0 r.1.line.items r.1.next) }
+    ensures number { IfOk result (λ r. r.1.number ≡ 1) }
+    ensures fault { IfErr result IsNoRefusal }
 {
+    let mut line = Vec::new(alloc);
+    next_line(input, &mut line)?;
+    let form = form_of(line.as_slice());
     let mut guess = Guess::new(alloc, table)?;
     let next = judged(alloc, table, &mut guess, form, 0, line.as_slice())?;
-    Ok(Reading {
+    let reading = Reading {
         guess,
         number: 1,
         line,
         next,
         tick: 0,
         after_end: false,
-    })
+    };
+    Ok((form, reading))
 }
 
 /// A walk at the first line of a trace.
@@ -251,10 +260,7 @@ fn inspect_with<R: BufRead, W: Write>(
         → IfErr result (OfRefusal (λ n. IfSome (R.remaining input.old) (IsWrongAt table.now.system.now inspection.entry.terms.steps n))) }
 {
     table.system.facts();
-    let mut line = Vec::new(alloc);
-    next_line(input, &mut line)?;
-    let form = form_of(line.as_slice());
-    let reading = first_reading(alloc, table, form, line)?;
+    let (form, reading) = first_reading(alloc, table, input)?;
     let mut walk = begun(alloc, table.system, inspection.only, marks, reading)?;
     let fixed = Fixed {
         alloc,

@@ -24,7 +24,7 @@ use crate::{RefusedLine, Terms};
 use fb_coverage::Marks;
 use fb_system::System;
 use fb_types::MOST_STEPS;
-use fb_wave::{PortTable, SystemPorts, form_of, next_line};
+use fb_wave::{PortTable, SystemPorts};
 use std::alloc::{AllocError, Global};
 use std::io::{BufRead, Write};
 
@@ -93,10 +93,7 @@ fn write_with<R: BufRead, W: Write>(
     ensures refused { HasNames table.now.system.now → terms.steps ≤ most
         → IfErr result (OfRefusal (λ n. IfSome (R.remaining input.old) (IsWrongAt table.now.system.now terms.steps n))) }
 {
-    let mut line = Vec::new(alloc);
-    next_line(input, &mut line)?;
-    let form = form_of(line.as_slice());
-    let reading = first_reading(alloc, table, form, line)?;
+    let (form, reading) = first_reading(alloc, table, input)?;
     let mut wave = begin(alloc, table.system, reading)?;
     let fixed = Fixed {
         alloc,

@@ -1,14 +1,21 @@
 use Rattle.std.proofs.Common.{ℕ, List, refl, subst}
 use Rattle.fb_types.specs.Headline.{system_of}
+use Rattle.fb_wave.proofs.Forming.{ShowsForm}
 use Rattle.fb_inspect.specs.Lines.{IsNext}
 use Rattle.fb_inspect.proofs.insides.first_reading.Goals as goal
 
-pub returns-clause-line : goal.returns-clause-line
-returns-clause-line c = refl
+pub returns-clause-read : goal.returns-clause-read
+returns-clause-read g c = c.in_ok-next_line.ensures.read
+
+pub returns-clause-first : goal.returns-clause-first
+returns-clause-first g c = c.in_ok-next_line.ensures.line
+
+pub returns-clause-form : goal.returns-clause-form
+returns-clause-form g c = subst (λ (u : List ℕ). ShowsForm c.form_of-form.result u) c.as_slice.ensures.value c.form_of-form.ensures
 
 pub returns-clause-next : goal.returns-clause-next
-returns-clause-next c =
-    subst (λ (t : List ℕ). IsNext (system_of c.args.table.now.system.now) c.args.form 0 t c.in_ok-next.next) c.as_slice.ensures.value c.in_ok-next.ensures
+returns-clause-next g c =
+    subst (λ (t : List ℕ). IsNext (system_of c.args.table.now.system.now) c.form_of-form.result 0 t c.in_ok-next.next) c.as_slice-2.ensures.value c.in_ok-next.ensures
 
 pub returns-clause-number : goal.returns-clause-number
-returns-clause-number c = refl
+returns-clause-number g c = refl

@@ -1,30 +1,25 @@
-use Rattle.std.proofs.Common.{◌≡◌, List, ℕ, false, refl, sym, ap, subst, ◌∙◌}
+use Rattle.std.proofs.Common.{◌≡◌, List, ℕ, false, refl, sym, ap, subst}
 use Rattle.std.specs.Prelude.{IfSome}
 use Rattle.std.specs.Io.KnownBytes.{Consumes}
 use Rattle.std.proofs.lemmas.Result.{err_from_is_err_and}
 use Rattle.fb_types.specs.Headline.{system_of}
 use Rattle.fb_coverage.specs.declared.marks.Marks.{Marks}
 use Rattle.fb_wave.specs.Copying.{IsFirstLine}
-use Rattle.fb_wave.proofs.Forming.{ShowsForm}
 use Rattle.fb_inspect.specs.Covering.{Covers}
 use Rattle.fb_inspect.specs.Refusals.{IsWrongAt}
 use Rattle.fb_inspect.specs.Standing.{BeginsText}
 use Rattle.fb_inspect.specs.declared.reading.Reading.{Reading}
 use Rattle.fb_inspect.proofs.Ended.{covers_of, front_none, starts_of}
-use Rattle.fb_inspect.proofs.Errors.{of_known, read_refuses}
+use Rattle.fb_inspect.proofs.Errors.{of_known}
 use Rattle.fb_inspect.proofs.Going.{text_begins}
 use Rattle.fb_inspect.proofs.Placed.{err_any}
-use Rattle.fb_inspect.proofs.Refused.{none_passed, none_refused}
+use Rattle.fb_inspect.proofs.Refused.{none_passed}
 use Rattle.fb_inspect.proofs.Joined.{ok_passed}
 use Rattle.fb_inspect.proofs.insides.inspect_with.Goals as goal
 
-pub returns-in_err-next_line-clause-fault : goal.returns-in_err-next_line-clause-fault
-returns-in_err-next_line-clause-fault g c =
+pub returns-in_err-form-clause-fault : goal.returns-in_err-form-clause-fault
+returns-in_err-form-clause-fault g c =
     err_any c.from_residual.result _ (front_none (system_of c.args.table.now.system.now) c.args.inspection.only.now c.args.inspection.terms.steps (g.W.Write.contents c.args.out.now))
-
-pub returns-in_err-reading-clause-fault : goal.returns-in_err-reading-clause-fault
-returns-in_err-reading-clause-fault g c =
-    err_any c.from_residual-in_err-reading.result _ (front_none (system_of c.args.table.now.system.now) c.args.inspection.only.now c.args.inspection.terms.steps (g.W.Write.contents c.args.out.now))
 
 pub returns-in_err-walk-clause-fault : goal.returns-in_err-walk-clause-fault
 returns-in_err-walk-clause-fault g c =
@@ -34,17 +29,17 @@ pub go_through-requires-clause-starts : goal.go_through-requires-clause-starts
 go_through-requires-clause-starts g c =
     let sys = system_of c.args.table.now.system.now in
     let only = c.args.inspection.only.now in
-    (only, starts_of sys _ only _ c.in_ok-reading.reading c.in_ok-walk.walk c.in_ok-walk.ensures c.in_ok-reading.ensures.next c.in_ok-reading.ensures.number)
+    (only, starts_of sys _ only _ c.in_ok-form.reading c.in_ok-walk.walk c.in_ok-walk.ensures c.in_ok-form.ensures.next c.in_ok-form.ensures.number)
 
 pub returns-clause-whole : goal.returns-clause-whole
 returns-clause-whole g c =
     let sys = system_of c.args.table.now.system.now in
     let only = c.args.inspection.only.now in
     let known = g.R.Read.remaining c.args.input.now in
-    let starts = starts_of sys _ only _ c.in_ok-reading.reading c.in_ok-walk.walk c.in_ok-walk.ensures c.in_ok-reading.ensures.next c.in_ok-reading.ensures.number in
-    let line_is : c.next_line.new.line.items ≡ c.in_ok-walk.walk.trail.reading.line.items = sym (ap (λ (r : Reading). r.line.items) c.in_ok-walk.ensures.reading_is ∙ c.in_ok-reading.ensures.line) in
-    c.in_ok-extent.ensures.whole only known starts (subst (Consumes known (g.R.Read.remaining c.next_line.new.input)) line_is c.in_ok-next_line.ensures.read)
-    (subst (λ (l : List ℕ). IsFirstLine l known) line_is c.in_ok-next_line.ensures.line)
+    let starts = starts_of sys _ only _ c.in_ok-form.reading c.in_ok-walk.walk c.in_ok-walk.ensures c.in_ok-form.ensures.next c.in_ok-form.ensures.number in
+    let line_is : c.in_ok-form.reading.line.items ≡ c.in_ok-walk.walk.trail.reading.line.items = sym (ap (λ (r : Reading). r.line.items) c.in_ok-walk.ensures.reading_is) in
+    c.in_ok-extent.ensures.whole only known starts (subst (Consumes known (g.R.Read.remaining c.first_reading.new.input)) line_is c.in_ok-form.ensures.read)
+    (subst (λ (l : List ℕ). IsFirstLine l known) line_is c.in_ok-form.ensures.first)
 
 pub returns-clause-covered : goal.returns-clause-covered
 returns-clause-covered g c =
@@ -53,10 +48,10 @@ returns-clause-covered g c =
     let cut = c.args.inspection.terms.cut in
     let steps = c.args.inspection.terms.steps in
     let known = g.R.Read.remaining c.args.input.now in
-    let starts = starts_of (system_of i) _ only _ c.in_ok-reading.reading c.in_ok-walk.walk c.in_ok-walk.ensures c.in_ok-reading.ensures.next c.in_ok-reading.ensures.number in
-    let line_is : c.next_line.new.line.items ≡ c.in_ok-walk.walk.trail.reading.line.items = sym (ap (λ (r : Reading). r.line.items) c.in_ok-walk.ensures.reading_is ∙ c.in_ok-reading.ensures.line) in
-    let covered = c.in_ok-extent.ensures.covered only known starts (subst (Consumes known (g.R.Read.remaining c.next_line.new.input)) line_is c.in_ok-next_line.ensures.read)
-    (subst (λ (l : List ℕ). IsFirstLine l known) line_is c.in_ok-next_line.ensures.line) in
+    let starts = starts_of (system_of i) _ only _ c.in_ok-form.reading c.in_ok-walk.walk c.in_ok-walk.ensures c.in_ok-form.ensures.next c.in_ok-form.ensures.number in
+    let line_is : c.in_ok-form.reading.line.items ≡ c.in_ok-walk.walk.trail.reading.line.items = sym (ap (λ (r : Reading). r.line.items) c.in_ok-walk.ensures.reading_is) in
+    let covered = c.in_ok-extent.ensures.covered only known starts (subst (Consumes known (g.R.Read.remaining c.first_reading.new.input)) line_is c.in_ok-form.ensures.read)
+    (subst (λ (l : List ℕ). IsFirstLine l known) line_is c.in_ok-form.ensures.first) in
     let Q : Marks → Type 0 = λ m. IfSome known (λ text. Covers cut i steps text c.args.marks m c.in_ok-extent.extent) in
     subst Q (sym c.replace-marks.ensures.value)
     (covers_of cut i c.facts.ensures.accepted only steps known c.in_ok-walk.walk.trail.marks c.args.marks c.go_through.new.walk.trail.marks c.in_ok-extent.extent c.in_ok-walk.ensures.marks_are covered)
@@ -66,47 +61,36 @@ returns-in_err-extent-clause-fault g c =
     let sys = system_of c.args.table.now.system.now in
     let only = c.args.inspection.only.now in
     let known = g.R.Read.remaining c.args.input.now in
-    let starts = starts_of sys _ only _ c.in_ok-reading.reading c.in_ok-walk.walk c.in_ok-walk.ensures c.in_ok-reading.ensures.next c.in_ok-reading.ensures.number in
-    let line_is : c.next_line.new.line.items ≡ c.in_ok-walk.walk.trail.reading.line.items = sym (ap (λ (r : Reading). r.line.items) c.in_ok-walk.ensures.reading_is ∙ c.in_ok-reading.ensures.line) in
+    let starts = starts_of sys _ only _ c.in_ok-form.reading c.in_ok-walk.walk c.in_ok-walk.ensures c.in_ok-form.ensures.next c.in_ok-form.ensures.number in
+    let line_is : c.in_ok-form.reading.line.items ≡ c.in_ok-walk.walk.trail.reading.line.items = sym (ap (λ (r : Reading). r.line.items) c.in_ok-walk.ensures.reading_is) in
     err_any c.from_residual-in_err-extent.result _
-    (c.in_err-extent.ensures.fault only known starts (subst (Consumes known (g.R.Read.remaining c.next_line.new.input)) line_is c.in_ok-next_line.ensures.read)
-    (subst (λ (l : List ℕ). IsFirstLine l known) line_is c.in_ok-next_line.ensures.line))
-
-pub returns-in_err-next_line-clause-refused : goal.returns-in_err-next_line-clause-refused
-returns-in_err-next_line-clause-refused g c = λ names few.
-    let q = err_from_is_err_and c.from_residual.result c.from_residual.ensures.1 in
-    rw q.1 (none_refused _ _ (read_refuses c.in_err-next_line.field-0.0 _ c.in_err-next_line.ensures.fault q.2))
+    (c.in_err-extent.ensures.fault only known starts (subst (Consumes known (g.R.Read.remaining c.first_reading.new.input)) line_is c.in_ok-form.ensures.read)
+    (subst (λ (l : List ℕ). IsFirstLine l known) line_is c.in_ok-form.ensures.first))
 
 pub returns-in_err-extent-clause-refused : goal.returns-in_err-extent-clause-refused
 returns-in_err-extent-clause-refused g c = λ names few.
     let sys = system_of c.args.table.now.system.now in
     let only = c.args.inspection.only.now in
     let steps = c.args.inspection.terms.steps in
-    let starts = starts_of sys _ only _ c.in_ok-reading.reading c.in_ok-walk.walk c.in_ok-walk.ensures c.in_ok-reading.ensures.next c.in_ok-reading.ensures.number in
-    let line_is : c.next_line.new.line.items ≡ c.in_ok-walk.walk.trail.reading.line.items = sym (ap (λ (r : Reading). r.line.items) c.in_ok-walk.ensures.reading_is ∙ c.in_ok-reading.ensures.line) in
+    let starts = starts_of sys _ only _ c.in_ok-form.reading c.in_ok-walk.walk c.in_ok-walk.ensures c.in_ok-form.ensures.next c.in_ok-form.ensures.number in
+    let line_is : c.in_ok-form.reading.line.items ≡ c.in_ok-walk.walk.trail.reading.line.items = sym (ap (λ (r : Reading). r.line.items) c.in_ok-walk.ensures.reading_is) in
     let q = err_from_is_err_and c.from_residual-in_err-extent.result c.from_residual-in_err-extent.ensures.1 in
     rw (q.1, q.2)
     (of_known (g.R.Read.remaining c.args.input.now) (λ n. IsWrongAt sys steps n) c.in_err-extent.field-0.0
     (λ text known.
-    let begins = text_begins sys c.form_of-form.result c.next_line.new.line.items false text (g.R.Read.remaining c.args.input.now) (g.R.Read.remaining c.next_line.new.input) names known
-    c.in_ok-next_line.ensures.read c.in_ok-next_line.ensures.line (subst (λ (u : List ℕ). ShowsForm c.form_of-form.result u) c.as_slice.ensures.value c.form_of-form.ensures) refl in
+    let begins = text_begins sys c.in_ok-form.form c.in_ok-form.reading.line.items false text (g.R.Read.remaining c.args.input.now) (g.R.Read.remaining c.first_reading.new.input) names known
+    c.in_ok-form.ensures.read c.in_ok-form.ensures.first c.in_ok-form.ensures.form refl in
     c.in_err-extent.ensures.refused only begins.0 text few names starts begins.1
-    (subst (λ (u : List ℕ). BeginsText sys c.form_of-form.result u false begins.0 text) line_is begins.2)))
+    (subst (λ (u : List ℕ). BeginsText sys c.in_ok-form.form u false begins.0 text) line_is begins.2)))
 
-pub returns-in_err-next_line-clause-whole : goal.returns-in_err-next_line-clause-whole
-returns-in_err-next_line-clause-whole g c = ok_passed c.from_residual.result _ _ c.from_residual.ensures.1
+pub returns-in_err-form-clause-whole : goal.returns-in_err-form-clause-whole
+returns-in_err-form-clause-whole g c = ok_passed c.from_residual.result _ _ c.from_residual.ensures.1
 
-pub returns-in_err-next_line-clause-covered : goal.returns-in_err-next_line-clause-covered
-returns-in_err-next_line-clause-covered g c = ok_passed c.from_residual.result _ _ c.from_residual.ensures.1
+pub returns-in_err-form-clause-covered : goal.returns-in_err-form-clause-covered
+returns-in_err-form-clause-covered g c = ok_passed c.from_residual.result _ _ c.from_residual.ensures.1
 
-pub returns-in_err-reading-clause-whole : goal.returns-in_err-reading-clause-whole
-returns-in_err-reading-clause-whole g c = ok_passed c.from_residual-in_err-reading.result _ _ c.from_residual-in_err-reading.ensures.1
-
-pub returns-in_err-reading-clause-covered : goal.returns-in_err-reading-clause-covered
-returns-in_err-reading-clause-covered g c = ok_passed c.from_residual-in_err-reading.result _ _ c.from_residual-in_err-reading.ensures.1
-
-pub returns-in_err-reading-clause-refused : goal.returns-in_err-reading-clause-refused
-returns-in_err-reading-clause-refused g c = λ _ _. none_passed _ _ _ c.from_residual-in_err-reading.ensures.1 tt
+pub returns-in_err-form-clause-refused : goal.returns-in_err-form-clause-refused
+returns-in_err-form-clause-refused g c = λ _ _. none_passed _ _ _ c.from_residual.ensures.1 c.in_err-form.ensures.fault
 
 pub returns-in_err-walk-clause-whole : goal.returns-in_err-walk-clause-whole
 returns-in_err-walk-clause-whole g c = ok_passed c.from_residual-in_err-walk.result _ _ c.from_residual-in_err-walk.ensures.1
