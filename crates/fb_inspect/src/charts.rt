@@ -1,9 +1,7 @@
 //! The reactions of basic blocks, step by step.
 
 ghost use Rattle.std.specs.Prelude.{◌≡◌, ◌<◌, ◌≤◌, ◌∷◌, [], All, IfErr, IfOk, IfSome, IsSome, List, OnOk, Some, length, map, option_map, slice_get};
-ghost use Rattle.std.specs.List.{position};
 ghost use Rattle.fb_types.specs.Charts.{Acts, actions_of};
-ghost use Rattle.fb_types.specs.Names.{same_name};
 ghost use Rattle.fb_types.specs.Numbers.{event_at};
 ghost use Rattle.fb_types.specs.Values.{Values};
 ghost use Rattle.fb_types.specs.declared.library.Action.{Action};
@@ -17,7 +15,7 @@ ghost use Rattle.fb_inspect.specs.Charting.{ChartGoes, HasLinked, IsChartOf, IsC
 ghost use Rattle.fb_inspect.specs.Lines.{IsPlain};
 ghost use Rattle.fb_inspect.specs.Markings as marking;
 ghost use Rattle.fb_inspect.specs.Moves.{HasNoted};
-ghost use Rattle.fb_inspect.specs.Notes.{cleared_note, lost_if, ran_by_action, ran_text, stop_note};
+ghost use Rattle.fb_inspect.specs.Notes.{cleared_note, lost_if, ran_by_action, stop_note};
 ghost use Rattle.fb_inspect.specs.Refusals.{ChartFails, IsNoRefusal, OfRefusal};
 ghost use Rattle.fb_inspect.specs.declared.charts.Linked.TheVariants.{Went};
 ghost use Rattle.fb_inspect.specs.OfWalk.{HasNames, IsNext};
@@ -28,8 +26,8 @@ use crate::notes::{put_cleared, put_lost, put_ran, put_stopped};
 use crate::trail::{Fixed, Trail};
 use fb_ecc::{BasicState, act, action_count, begin, clear};
 use fb_st::{Frame, Meter};
-use fb_types::{Algorithm, BasicType, Emits, Halt, Line, Name, Reason, Reference, Value};
-use std::alloc::{AllocError, Global};
+use fb_types::{BasicType, Emits, Halt, Line, Name, Reason, Reference, Value};
+use std::alloc::AllocError;
 use std::io::BufRead;
 
 /// Taking an event by a basic block of a type, in a line of a trace.
@@ -68,48 +66,17 @@ fn keep_before(
     }
 }
 
-/// The index of an algorithm, if there is one with this name.
-fn find_algorithm(algorithms: &[Algorithm], name: &Name) -> Option<usize>
-    ensures { result ≡ position (λ g. same_name g.name name.now) algorithms.now }
-{
-    algorithms.iter().position(|it| it.name.is(name))
-}
-
 /// The index of an algorithm of a type, or the number of them if it has none with this name.
 fn algorithm_number(block: &BasicType, algorithm: &Name) -> usize
     ensures { result ≡ marking.algorithm_number block.now algorithm.now }
 {
-    match find_algorithm(block.algorithms.as_slice(), algorithm) {
-        Some(index) => index,
-        None => block.algorithms.len(),
+    let algorithms = block.algorithms.as_slice();
+    for (index, it) in algorithms.iter().enumerate() {
+        if it.name.is(algorithm) {
+            return index;
+        }
     }
-}
-
-/// Notes what an algorithm changed.
-fn note_algorithm(
-    alloc: Global,
-    trail: &mut Trail,
-    chart: &Chart,
-    algorithm: &Name,
-) -> Result<(), AllocError>
-    requires { length chart.now.before.items ≡ length chart.now.own.items }
-    ensures noted { (values : Values) → chart.now.before.items ≡ map values chart.now.own.items
-        → OnOk result (HasNoted (ran_text algorithm.now values (values_of chart.now.state.frame) chart.now.own.items) trail.old.marks.charts trail.old trail.new) }
-    ensures reading { trail.new.reading ≡ trail.old.reading }
-{
-    if !trail.is_shown {
-        return Ok(());
-    }
-    let variables = chart.own.as_slice();
-    let before = chart.before.as_slice();
-    put_ran(
-        alloc,
-        &mut trail.page.text,
-        algorithm,
-        variables,
-        before,
-        &chart.state.frame,
-    )
+    algorithms.len()
 }
 
 /// Marks the algorithm of an action and notes what it changed, if the action has one and was begun.
@@ -131,7 +98,19 @@ fn note_ran(
         Some(algorithm) if left > 0 => {
             let number = algorithm_number(taking.block, algorithm);
             trail.marks.charts.mark_ran(taking.number, number);
-            note_algorithm(taking.fixed.alloc, trail, chart, algorithm)
+            if !trail.is_shown {
+                return Ok(());
+            }
+            let variables = chart.own.as_slice();
+            let before = chart.before.as_slice();
+            put_ran(
+                taking.fixed.alloc,
+                &mut trail.page.text,
+                algorithm,
+                variables,
+                before,
+                &chart.state.frame,
+            )
         }
         _ => Ok(()),
     }
