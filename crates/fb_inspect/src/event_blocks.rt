@@ -1,7 +1,7 @@
 //! The reactions of event blocks.
 
 ghost use Rattle.std.specs.Prelude.{◌≡◌, ◌≤◌, ◌^◌, ◌&&◌, [], All, IfErr, IfOk, IsTrue, None, OnOk, false, if◌then◌else◌, true};
-ghost use Rattle.fb_event.specs.Reactions.{FitInputs, IsWellFormed, expiry_of, reaction_to};
+ghost use Rattle.fb_event.specs.Reactions.{FitInputs, IsWellFormed, reaction_to};
 ghost use Rattle.fb_event.specs.Seen.{seen_memory};
 ghost use Rattle.fb_inspect.specs.Lines.{IsPlain};
 ghost use Rattle.fb_inspect.specs.Looks as spec;
@@ -193,24 +193,6 @@ fn is_only(line: &Line, emits: &mut Emits) -> bool
     is_emission(line, line, &emission)
 }
 
-/// The reaction of an event block to its timer.
-fn expire_at(block: &mut EventBlock, tick: u64, emits: &mut Emits) -> Result<(), InspectError>
-    requires early { tick ≤ 10 ^ 12 }
-    requires fresh { emits.old ≡ [] }
-    ensures reacted { OnOk result (HasReacted (expiry_of block.old.state tick) None block.old block.new emits.new) }
-    ensures fit { OnOk result (All (IsWellFormed block.old.state.kind) emits.new) }
-    ensures fault { IfErr result IsNoRefusal }
-{
-    let mut ask = TimerAsk::Keep;
-    match expire(&mut block.state, tick, emits, &mut ask) {
-        Ok(()) => {
-            block.due = due_after(None, ask);
-            Ok(())
-        }
-        Err(_) => Err(InspectError::Memory),
-    }
-}
-
 /// The reaction of an event block to its timer, which goes off at the tick of a line. Answers whether the line is that
 /// of its only emission.
 fn expire_to(alloc: Global, block: &mut EventBlock, line: &Line) -> Result<bool, InspectError>
@@ -223,8 +205,14 @@ fn expire_to(alloc: Global, block: &mut EventBlock, line: &Line) -> Result<bool,
         return Ok(false);
     }
     let mut emits = Emits::new(alloc);
-    expire_at(block, line.key.tick, &mut emits)?;
-    Ok(is_only(line, &mut emits))
+    let mut ask = TimerAsk::Keep;
+    match expire(&mut block.state, line.key.tick, &mut emits, &mut ask) {
+        Ok(()) => {
+            block.due = due_after(None, ask);
+            Ok(is_only(line, &mut emits))
+        }
+        Err(_) => Err(InspectError::Memory),
+    }
 }
 
 /// The reaction of an event block to its timer, whose emission is in the next line.
