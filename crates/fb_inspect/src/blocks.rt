@@ -12,7 +12,6 @@ ghost use Rattle.fb_net.specs.declared.block.Block.TheVariants as block;
 ghost use Rattle.fb_net.specs.OfSystem.{Represents};
 ghost use Rattle.fb_inspect.specs.Looks as spec;
 ghost use Rattle.fb_inspect.specs.Notes.{own_variables};
-ghost use Rattle.fb_inspect.specs.declared.blocks.Remembered.TheVariants as kept;
 ghost use Rattle.fb_inspect.specs.OfSystem.{OpenAll, OpensAs};
 
 use fb_check_names::TypeNumber;
@@ -165,20 +164,20 @@ fn opened_chart(
     system: &System,
     instance: u32,
     state: BasicState,
-) -> Result<Chart, AllocError>
+) -> Result<Remembered, AllocError>
     requires instance { IsInstance system.now instance }
     requires stands { let p = path_at system.now instance in Represents system.now p (net.own_of (block.Basic state)) (opening_block system.now p) }
-    ensures { IfOk result (λ chart. OpensAs system.now instance (kept.Basic chart)) }
+    ensures { IfOk result (OpensAs system.now instance) }
 {
     let Some(block) = basic_type(system, instance) else {
         unreachable!()
     };
     let own = own_of(alloc, block)?;
-    Ok(Chart {
+    Ok(Remembered::Basic(Chart {
         state,
         own,
         before: Vec::new(alloc),
-    })
+    }))
 }
 
 /// An event block before the first event.
@@ -187,16 +186,16 @@ fn opened_block(
     system: &System,
     instance: u32,
     state: EventState,
-) -> Result<EventBlock, AllocError>
+) -> Result<Remembered, AllocError>
     requires instance { IsInstance system.now instance }
     requires stands { let p = path_at system.now instance in Represents system.now p (net.own_of (block.Event state)) (opening_block system.now p) }
-    ensures { IfOk result (λ b. OpensAs system.now instance (kept.Event b)) }
+    ensures { IfOk result (OpensAs system.now instance) }
 {
     system.facts();
     accepted_are_typed();
     let inputs = system.initial_inputs(alloc, instance)?;
     let due = first_due(state.kind());
-    Ok(EventBlock { state, inputs, due })
+    Ok(Remembered::Event(EventBlock { state, inputs, due }))
 }
 
 /// What an instance remembers before the first event.
@@ -212,8 +211,8 @@ fn opened(
     ensures charts { OnOk result (AreCharts system.now charts.new) }
 {
     match block_of(alloc, system, instance, Items::new(alloc), charts)? {
-        Block::Basic(state) => Ok(Remembered::Basic(opened_chart(alloc, system, instance, state)?)),
-        Block::Event(state) => Ok(Remembered::Event(opened_block(alloc, system, instance, state)?)),
+        Block::Basic(state) => opened_chart(alloc, system, instance, state),
+        Block::Event(state) => opened_block(alloc, system, instance, state),
         Block::Composite(_) => Ok(Remembered::Composite),
     }
 }
