@@ -321,17 +321,6 @@ impl Walk {
         true
     }
 
-    /// Whether a resource used more than these steps in a tick so far, of the greatest limit.
-    fn exceeds(&self, steps: u64, resource: u32) -> bool
-        ensures over { (sys : System) (look : Look) → IsLookOf sys self.now.blocks.items self.now.steps.items look → IsTrue result → (resource < length sys.resource_names) × (most ≤ (look.steps resource).least + steps → ⊥) }
-        ensures kept { (sys : System) (look : Look) → IsLookOf sys self.now.blocks.items self.now.steps.items look → result ≡ false → resource < length sys.resource_names → most ≤ (look.steps resource).least + steps }
-    {
-        match self.steps.as_slice().get(resource as usize) {
-            Some(own) => !own.keeps(steps),
-            None => false,
-        }
-    }
-
     /// The refusal of a trace that stops where a resource has used up its steps: of the first event after which a
     /// resource had used too many, or else of the next line, for what was found.
     fn refusal_for_steps(&mut self, ahead: &mut Ahead, finding: Finding) -> InspectError
@@ -452,8 +441,8 @@ impl Walk {
     {
         ahead.watch(&self.trail.reading)?;
         let stop = self.take_ahead(fixed, line, ahead)?;
-        let is_excess = self.exceeds(steps, line.key.resource);
-        ahead.note(is_excess);
+        let own = &self.steps[line.key.resource as usize];
+        ahead.note(!own.keeps(steps));
         let Some(reason) = stop else {
             return Ok(Step::Taken);
         };

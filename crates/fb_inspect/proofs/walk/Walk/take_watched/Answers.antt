@@ -1,6 +1,6 @@
 use Rattle.std.proofs.Common.{◌≡◌, ◌≤◌, ◌<◌, ◌+◌, ◌∷◌, ◌++◌, [], List, ℕ, Some, ap, inl, inr, length, refl, subst, sym, ◌∙◌}
 use Rattle.std.specs.Global.{Vec}
-use Rattle.std.specs.Prelude.{◌||◌}
+use Rattle.std.specs.Prelude.{◌||◌, not}
 use Rattle.std.proofs.lemmas.List.{length-map}
 use Rattle.std.proofs.lemmas.Result.{err_from_is_err_and}
 use Rattle.fb_types.specs.Headline.{system_of}
@@ -8,15 +8,17 @@ use Rattle.fb_types.specs.Numbers.{line_of}
 use Rattle.fb_types.specs.States as model
 use Rattle.fb_types.specs.Text.{line_text}
 use Rattle.fb_inspect.specs.Inspections.{all_lines, last_look}
-use Rattle.fb_inspect.specs.Looks.{IsTaking, most, opening_look}
+use Rattle.fb_inspect.specs.Looks.{IsTaking, Left, most, opening_look}
 use Rattle.fb_inspect.specs.Refusals.{FailsBy, IsWrongLine}
 use Rattle.fb_inspect.specs.Standing.{Watches}
-use Rattle.fb_inspect.specs.Walking.{unread}
+use Rattle.fb_inspect.specs.Walking.{IsLookOf, unread}
 use Rattle.fb_inspect.specs.declared.ahead.EventLine.{EventLine}
 use Rattle.fb_inspect.specs.declared.walk.Step.TheVariants.{Ended, Taken}
 use Rattle.fb_inspect.proofs.Errors.{of_number}
 use Rattle.fb_inspect.proofs.Joined.{ok_passed}
+use Rattle.fb_inspect.proofs.Near.{not_kept, not_over}
 use Rattle.fb_inspect.proofs.OneStep.{free_ends, free_goes, line_watched}
+use Rattle.fb_inspect.proofs.Placed.{item_is}
 use Rattle.fb_inspect.proofs.Refused.{refused_then}
 use Rattle.fb_inspect.proofs.Stood.{ahead_ahead, at_ahead, freely_on, freely_stop, watched_step, wrong_freely}
 use Rattle.fb_inspect.proofs.Watched.{watched_line, watches_on}
@@ -114,19 +116,30 @@ returns-in_default-clause-stands c = λ takings rest text rows at watches ahead 
     fixed.table.now.system.now.library.blocks fixed.limit c.requires.limit c.take_ahead.new.self c.take_ahead.new.ahead c.in_ok-stop.stop
     (c.in_ok-stop.ensures.goes (last_look (opening_look sys) takings) (Some []) at2.stands.look) c.in_ok-stop.ensures.alone c.in_ok-stop.ensures.last c.in_ok-stop.ensures.next c.in_default.is)
     (λ x first taking look.
+    let there = λ (is : IsLookOf sys c.take_ahead.new.self.blocks.items c.take_ahead.new.self.steps.items x.after).
+    item_is c.take_ahead.new.self.steps.items line.key.resource c.index-own.result.now (subst (λ (n : ℕ). line.key.resource < n) (sym is.counts) c.requires.is.line.belongs.resource) c.index-own.ensures in
     let numbered = at.stands.numbered in
     let lines = at.stands.lines in
     let count : length lines ≡ length (all_lines takings) = sym (length-map lines (line_of sys)) ∙ ap length at.stands.lines_are in
-    let after : c.note.new.self.watched ≡ record own { is_excess = own.is_excess || c.exceeds-is_excess.result } =
-    c.note.ensures.watched ∙ ap (λ (e : EventLine). record e { is_excess = e.is_excess || c.exceeds-is_excess.result }) c.take_ahead.ensures.watched in
+    let after : c.note.new.self.watched ≡ record own { is_excess = own.is_excess || not c.keeps.result } =
+    c.note.ensures.watched ∙ ap (λ (e : EventLine). record e { is_excess = e.is_excess || not c.keeps.result }) c.take_ahead.ensures.watched in
     subst (λ (e : EventLine). Watches sys fixed.form steps (takings ++ x ∷ []) e.number e.text.items e.is_excess) (sym after)
-    (watches_on sys fixed.form steps takings x taking own.number own.text.items own.is_excess c.exceeds-is_excess.result w1.0
+    (watches_on sys fixed.form steps takings x taking own.number own.text.items own.is_excess (not c.keeps.result) w1.0
     (λ none. w1.1 none ∙ numbered ∙ ap (λ (n : ℕ). n + 1) count)
     (λ none. w1.2 none ∙ at.is.is ∙ ap (line_text fixed.form sys) (sym first))
-    (λ over. subst (λ (m : model.Line). (m.key.resource < length sys.resource_names) × (most ≤ (x.after.steps m.key.resource).least + steps → ⊥)) (sym first) (c.exceeds-is_excess.ensures.over sys x.after look over))
+    (λ over.
+    subst (λ (m : model.Line). (m.key.resource < length sys.resource_names) × (most ≤ (x.after.steps m.key.resource).least + steps → ⊥)) (sym first) (
+      c.requires.is.line.belongs.resource,
+      λ kept. c.keeps.ensures.more (not_kept c.keeps.result over) (subst (λ (l : Left). most ≤ l.least + steps) (look.lefts line.key.resource c.index-own.result.now (there look)) kept),
+    ))
     (λ under within.
     subst (λ (m : model.Line). most ≤ (x.after.steps m.key.resource).least + steps) (sym first)
-    (c.exceeds-is_excess.ensures.kept sys x.after look under (subst (λ (m : model.Line). m.key.resource < length sys.resource_names) first within)))))
+    (subst (λ (l : Left). most ≤ l.least + steps) (sym (look.lefts line.key.resource c.index-own.result.now (there look))) (c.keeps.ensures.kept (not_over c.keeps.result under))))))
+
+pub index-own-requires : goal.index-own-requires
+index-own-requires c =
+    let takes = c.in_ok-stop.ensures.goes c.requires.look.0 (Some []) c.requires.look.1 in
+    subst (λ (n : ℕ). c.args.line.now.key.resource < n) (sym (c.take_ahead.new.self.steps.ok.0 ∙ takes.look_after.counts)) c.requires.is.line.belongs.resource
 
 pub returns-clause-stands : goal.returns-clause-stands
 returns-clause-stands c = λ takings rest text rows at watches ahead far. tt
