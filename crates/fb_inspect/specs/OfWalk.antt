@@ -1,6 +1,6 @@
 -- What contracts say of a walk through a trace: its value is what stays the same during it (`Fixed`), and each of these is of its system, of the
 -- types of blocks that this declares, and of the form of the lines.
-use Rattle.std.specs.Prelude.{ℕ, List, [], ◌∷◌, length, Bool, Option, Result}
+use Rattle.std.specs.Prelude.{ℕ, List, [], ◌∷◌, Bool, Option, Result}
 use Rattle.fb_types.specs.EventBlocks as event_blocks
 use Rattle.fb_types.specs.Blocks.{Emission}
 use Rattle.fb_types.specs.Headline.{system_of}
@@ -55,9 +55,6 @@ HasNames f = named.HasNames (sys_of f)
 
 abbrev pub AreApart : Fixed → Type 0
 AreApart f = standing.AreApart (sys_of f)
-
-abbrev pub resource_count : Fixed → ℕ
-resource_count f = length (sys_of f).resource_names
 
 -- the interface of the instance of a line
 abbrev pub ports_in : Fixed → Line → Ports
@@ -157,9 +154,6 @@ LooksAs f walk look = walking.IsLookOf (sys_of f) walk.blocks.items walk.steps.i
 
 abbrev pub HasLook : Fixed → Walk → Type 0
 HasLook f walk = (look : Look) × LooksAs f walk look
-
-abbrev pub ReactGoes : Fixed → Look → Line → (stop : Option Reason) → (old new : Walk) → (remaining rest : Option (List ℕ)) → Type 0
-ReactGoes f = walking.ReactGoes (types_of f) (sys_of f) f.form
 
 abbrev pub WalkTakes : Fixed → Look → Line → (stop : Option Reason) → (old new : Walk) → (remaining rest : Option (List ℕ)) → Type 0
 WalkTakes f = walking.WalkTakes (types_of f) (sys_of f) f.form f.limit

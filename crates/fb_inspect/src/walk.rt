@@ -1,6 +1,6 @@
 //! Through a trace, line by line.
 
-ghost use Rattle.std.specs.Prelude.{◌≡◌, ◌<◌, ◌≤◌, ◌^◌, ◌⊎◌, ◌↔◌, ◌++◌, ℕ, ◌+◌, List, [], IfErr, IfOk, IfSome, IsTrue, OnErr, OnOk, All, Option, Some, None, length, slice_get, true, false};
+ghost use Rattle.std.specs.Prelude.{◌≡◌, ◌<◌, ◌≤◌, ◌⊎◌, ◌↔◌, ◌++◌, ℕ, ◌+◌, List, [], IfErr, IfOk, IfSome, IsTrue, OnErr, OnOk, All, Option, Some, None, length, slice_get, true, false};
 ghost use Rattle.std.specs.Bool.{OnFalse, OnTrue};
 ghost use Rattle.std.specs.Io.KnownBytes.{Consumes};
 ghost use Rattle.fb_types.specs.Blocks.{Basic};
@@ -22,11 +22,11 @@ ghost use Rattle.fb_inspect.specs.declared.error.InspectError.TheVariants.{Refus
 ghost use Rattle.fb_inspect.specs.Standing.{IsStepsStop};
 ghost use Rattle.fb_inspect.specs.Walking.{Finishes, FinishesCut, HasLimited, HasStepped, IsLookOf, MayEnd, SendsCutPart, SendsPart, unread};
 ghost use Rattle.fb_inspect.specs.declared.blocks.Remembered.TheVariants as kept;
-ghost use Rattle.fb_inspect.specs.OfWalk.{AreAhead, AreApart, AreKept, BeginsText, CanReact, FailsAt, GoesAfter, HasAdvanced, HasCovered, HasLook, HasNames, IsCoveredBy, IsKeptAt, IsLineOf, IsNear, IsNext, IsNextLine, IsNotNear, IsShownBy, IsTextOf, IsWrongAt, KeptGoes, LineGoes, LooksAs, ReactGoes, ShowsFront, StandsAt, StandsWell, Starts, StepGoes, TakingFails, WalkTakes, Watches, resource_count};
+ghost use Rattle.fb_inspect.specs.OfWalk.{AreAhead, AreApart, AreKept, BeginsText, CanReact, FailsAt, GoesAfter, HasAdvanced, HasCovered, HasLook, HasNames, IsCoveredBy, IsKeptAt, IsLineOf, IsNear, IsNext, IsNextLine, IsNotNear, IsShownBy, IsTextOf, IsWrongAt, KeptGoes, LineGoes, LooksAs, ShowsFront, StandsAt, StandsWell, Starts, StepGoes, TakingFails, WalkTakes, Watches};
 
 use crate::ahead::Ahead;
 use crate::before::chart_at;
-use crate::blocks::{Chart, EventBlock, Remembered, basic_type, type_number};
+use crate::blocks::{Chart, Remembered, basic_type, type_number};
 use crate::charts::{ChartTaking, react_chart};
 use crate::error::InspectError;
 use crate::event_blocks::{expire_block, react_block};
@@ -101,30 +101,6 @@ fn react_basic<R: BufRead>(
     react_chart(&taking, trail, chart, meter, input)
 }
 
-/// The reaction of an event block to the event of the next line, or to its timer.
-fn react_event<R: BufRead>(
-    fixed: &Fixed<'_, '_>,
-    trail: &mut Trail,
-    block: &mut EventBlock,
-    line: &Line,
-    input: &mut R,
-) -> Result<(), InspectError>
-    requires { CanReact fixed.now (kept.Event block.old) line.now trail.old.reading.line.items }
-    ensures goes { (look : Look) (left : ℕ)
-        → IsKeptAt fixed.now line.now (kept.Event block.old) look → OnOk result
-        (KeptGoes fixed.now look left line.now None (kept.Event block.new) left trail.old trail.new (R.remaining input.old) (R.remaining input.new)) }
-    ensures refused { (look : Look) (left : ℕ)
-        → HasNames fixed.now → IsPlain fixed.now.form line.now.key → IsKeptAt fixed.now line.now (kept.Event block.old) look
-        → IfErr result (OfRefusal (FailsAt fixed.now left look line.now trail.old.reading trail.new.reading (R.remaining input.old) (R.remaining input.new))) }
-    ensures next { OnOk result (IsNext fixed.now line.now.key.tick trail.new.reading) }
-{
-    if !line.taken {
-        return expire_block(fixed, trail, block, line, input);
-    }
-    trail.pass(fixed, line, input)?;
-    react_block(fixed, trail, block, line, input)
-}
-
 /// The reaction of an instance to the event of the next line. Answers the reason that stops the resource, if one does.
 fn react_kept<R: BufRead>(
     fixed: &Fixed<'_, '_>,
@@ -145,7 +121,14 @@ fn react_kept<R: BufRead>(
 {
     match block {
         Remembered::Basic(chart) => react_basic(fixed, trail, chart, meter, line, input),
-        Remembered::Event(block) => react_event(fixed, trail, block, line, input).and(Ok(None)),
+        // Its timer has gone off.
+        Remembered::Event(block) if !line.taken => {
+            expire_block(fixed, trail, block, line, input).and(Ok(None))
+        }
+        Remembered::Event(block) => {
+            trail.pass(fixed, line, input)?;
+            react_block(fixed, trail, block, line, input).and(Ok(None))
+        }
         Remembered::Composite => trail.pass(fixed, line, input).and(Ok(None)),
     }
 }
@@ -235,32 +218,6 @@ fn stop_of(key: &Key, reason: Reason) -> Outcome
 }
 
 impl Walk {
-    /// The reaction of the instance of the next line to it. Answers the reason that stops the resource, if one does.
-    fn react<R: BufRead>(
-        &mut self,
-        fixed: &Fixed<'_, '_>,
-        line: &Line,
-        input: &mut R,
-    ) -> Result<Option<Reason>, InspectError>
-        requires is { IsTextOf fixed.now line.now self.old.trail.reading.line.items }
-        requires early { line.now.key.tick ≤ 10 ^ 12 }
-        requires blocks { (look : Look) × AreKept fixed.now self.old.blocks.items look }
-        requires steps { length self.old.steps.items ≡ resource_count fixed.now }
-        ensures goes { (look : Look) → AreKept fixed.now self.old.blocks.items look
-            → IfOk result (λ stop. ReactGoes fixed.now look line.now stop self.old self.new (R.remaining input.old) (R.remaining input.new)) }
-        ensures refused { (look : Look) (own : TickSteps)
-            → HasNames fixed.now → IsPlain fixed.now.form line.now.key → AreKept fixed.now self.old.blocks.items look → slice_get self.old.steps.items line.now.key.resource ≡ Some own
-            → IfErr result (OfRefusal (FailsAt fixed.now own.meter.left look line.now self.old.trail.reading self.new.trail.reading (R.remaining input.old) (R.remaining input.new))) }
-        ensures next { OnOk result (IsNext fixed.now line.now.key.tick self.new.trail.reading) }
-    {
-        let steps = &mut self.steps[line.key.resource as usize];
-        let block = &mut self.blocks[line.instance as usize];
-        let trail = &mut self.trail;
-        let stop = react_kept(fixed, trail, block, &mut steps.meter, line, input);
-        steps.settle();
-        stop
-    }
-
     /// Takes the event of the next line. Answers the reason that stops the resource, if one does.
     ///
     /// # Errors
@@ -289,7 +246,12 @@ impl Walk {
         if !use_step(&mut self.steps, fixed.limit, &line.key) {
             return Err(self.trail.refusal(Finding::NoStep));
         }
-        self.react(fixed, line, input)
+        let steps = &mut self.steps[line.key.resource as usize];
+        let block = &mut self.blocks[line.instance as usize];
+        let trail = &mut self.trail;
+        let stop = react_kept(fixed, trail, block, &mut steps.meter, line, input);
+        steps.settle();
+        stop
     }
 
     /// Whether a trace may end so where no reaction was stopped: at a horizon, or where a resource has used up these
