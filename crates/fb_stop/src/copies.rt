@@ -4,9 +4,9 @@
 ghost use Rattle.std.specs.Prelude.{◌≡◌, ◌<◌, IfNone, IfOk, IfSome, OnOk, Some, length};
 ghost use Rattle.fb_types.specs.Blocks.{Basic};
 ghost use Rattle.fb_types.specs.declared.library.BasicType.{BasicType as Declared};
-ghost use Rattle.fb_types.specs.OfSystem.{IsInstance, kind_at, opening_block, opening_state, path_at};
+ghost use Rattle.fb_types.specs.OfSystem.{IsInstance, kind_at, opening_block, path_at};
 ghost use Rattle.fb_net.specs.Opening.{AreCharts};
-ghost use Rattle.fb_stop.specs.Copies.{AreAllCopies, HasFollowed, HasLocated, IsCopy, IsWhole};
+ghost use Rattle.fb_stop.specs.Copies.{HasFollowed, HasLocated, IsCopy, IsWhole};
 
 use crate::reaction::locate;
 use crate::site::ReactionStop;
@@ -17,7 +17,6 @@ use fb_st::Meter;
 use fb_system::System;
 use fb_types::{BasicType, BlockType, Emits, Halt, Items, Value};
 use std::alloc::{AllocError, Global};
-use std::collections::BTreeMap;
 
 /// The type of an instance, if it is a basic one.
 pub(crate) fn basic_type(system: &System, instance: u32) -> Option<&BasicType>
@@ -35,7 +34,7 @@ pub(crate) fn basic_type(system: &System, instance: u32) -> Option<&BasicType>
 }
 
 /// The copy of an instance before the first event, if it is a basic block.
-fn copy_of(
+pub(crate) fn copy_of(
     alloc: Global,
     system: &System,
     instance: u32,
@@ -50,23 +49,6 @@ fn copy_of(
         Block::Basic(state) => Ok(Some(state)),
         Block::Event(_) | Block::Composite(_) => Ok(None),
     }
-}
-
-/// The copies of all instances, before the first event.
-pub(crate) fn open_copies(
-    alloc: Global,
-    system: &System,
-) -> Result<Vec<Option<BasicState>>, AllocError>
-    ensures { IfOk result (λ v. AreAllCopies system.now (opening_state system.now) v.items) }
-{
-    system.facts();
-    let mut charts = BTreeMap::new(alloc);
-    let mut copies = Vec::new(alloc);
-    for instance in 0..system.count() {
-        let copy = copy_of(alloc, system, instance as u32, &mut charts)?;
-        copies.push(copy)?;
-    }
-    Ok(copies)
 }
 
 /// A copy reacts to the event input at an index, with these sampled values and that many steps left.

@@ -16,7 +16,7 @@ ghost use Rattle.fb_stop.specs.Copies.{AreAllCopies, IsFollowed, IsSiteBy, Steps
 ghost use Rattle.fb_stop.specs.Found.{Finds};
 ghost use Rattle.fb_stop.specs.OfSystem.{ArrivesAt};
 
-use crate::copies::{basic_type, follow, locate_in, open_copies};
+use crate::copies::{basic_type, copy_of, follow, locate_in};
 use crate::found::{EventSite, FoundStop, StopSite};
 use fb_agenda::Least;
 use fb_ecc::BasicState;
@@ -25,6 +25,7 @@ use fb_sim::Machine;
 use fb_system::System;
 use fb_types::{Emits, Event};
 use std::alloc::{AllocError, Global};
+use std::collections::BTreeMap;
 
 /// A run, and for each instance that is a basic block a copy of it.
 pub(crate) struct Replay {
@@ -82,8 +83,14 @@ impl Replay {
         ensures at { IfOk result (λ m. IsAt system.now (opening_state system.now) (opening_agenda system.now (stimuli_of system.now)) m.run) }
         ensures copies { IfOk result (λ m. AreAllCopies system.now (opening_state system.now) m.copies.items) }
     {
+        system.facts();
         let run = Machine::open(alloc, system)?;
-        let copies = open_copies(alloc, system)?;
+        let mut charts = BTreeMap::new(alloc);
+        let mut copies = Vec::new(alloc);
+        for instance in 0..system.count() {
+            let copy = copy_of(alloc, system, instance as u32, &mut charts)?;
+            copies.push(copy)?;
+        }
         let emits = Emits::new(alloc);
         Ok(Replay { run, copies, emits })
     }

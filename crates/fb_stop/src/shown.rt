@@ -6,7 +6,7 @@ ghost use Rattle.fb_read.specs.Refusals.{IsNext};
 ghost use Rattle.fb_read.specs.Tokens.{after_mark};
 ghost use Rattle.fb_read.specs.declared.token.Located.{Located as Token};
 ghost use Rattle.fb_stop.specs.Shown as spec;
-ghost use Rattle.fb_stop.specs.Shown.{IsShownAmong, IsShownIn, IsStopShown, IsTokenAt};
+ghost use Rattle.fb_stop.specs.Shown.{IsShownAmong, IsStopShown, IsTokenAt};
 
 use crate::Operation;
 use crate::found::{FoundStop, StopSite};
@@ -14,9 +14,8 @@ use crate::place::position_of;
 use crate::site::Site;
 use fb_read::read::span_before;
 use fb_read::token::{Located, Span};
-use fb_read_positions::{Position, discard, span_of, tokens_of};
+use fb_read_positions::{discard, span_of, tokens_of};
 use fb_system::System;
-use fb_types::Library;
 use std::alloc::{AllocError, Global};
 
 /// An operation in a text, in bytes.
@@ -90,32 +89,6 @@ fn shown_from(
     }))
 }
 
-/// The bytes of an operation in a declaration, whose tokens are counted from the one at a position. `None` if there is
-/// no such operation.
-///
-/// # Errors
-/// When memory runs out.
-fn shown_in(
-    alloc: Global,
-    text: &[u8],
-    library: &Library,
-    position: Position,
-    operation: Operation,
-) -> Result<Option<Shown>, AllocError>
-    ensures { IfOk result (λ o. IfSome o (IsShownIn text.now library.now position operation)) }
-{
-    let Some(span) = span_of(alloc, text, library, position)? else {
-        return Ok(None);
-    };
-    let tokens = tokens_of(alloc, text)?;
-    let found = match token_at(tokens.as_slice(), span.start) {
-        Some(begin) => shown_from(alloc, text, tokens.as_slice(), begin, operation),
-        None => Ok(None),
-    };
-    discard(tokens);
-    found
-}
-
 /// The operation of a stop. Its tokens are counted from the token at the position of the stop.
 fn operation_at(site: StopSite) -> Option<Operation>
     ensures { result ≡ spec.operation_at site }
@@ -147,5 +120,14 @@ pub fn shown_of(
     let Some(operation) = operation_at(stop.site) else {
         return Ok(None);
     };
-    shown_in(alloc, text, system.library(), position, operation)
+    let Some(span) = span_of(alloc, text, system.library(), position)? else {
+        return Ok(None);
+    };
+    let tokens = tokens_of(alloc, text)?;
+    let found = match token_at(tokens.as_slice(), span.start) {
+        Some(begin) => shown_from(alloc, text, tokens.as_slice(), begin, operation),
+        None => Ok(None),
+    };
+    discard(tokens);
+    found
 }

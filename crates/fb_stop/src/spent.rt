@@ -13,9 +13,8 @@ ghost use Rattle.fb_resource.specs.Counts.{meter_of};
 ghost use Rattle.fb_sim.specs.Machines.{IsAt, IsReady};
 ghost use Rattle.fb_sim.specs.Runs.{IsSpent};
 ghost use Rattle.fb_stop.specs.Spent.{AreSpent, Charges, HasSpent, IsMost, is_of};
-ghost use Rattle.fb_stop.specs.OfSystem.{ArrivesAt, ChargesEvent};
 
-use crate::found::{EventSite, instance_of};
+use crate::found::instance_of;
 use crate::replay::site_of;
 use fb_agenda::Least;
 use fb_resource::TickCounts;
@@ -57,16 +56,6 @@ fn is_there(key: &Key, moment: Moment) -> bool
     key.tick == moment.tick && key.resource == moment.resource
 }
 
-/// Adds the steps of an event to those of the instance at which it arrives.
-fn charge_event(spent: &mut Vec<u64>, system: &System, at: EventSite, used: u64)
-    requires arrives { (e : model.Event) × ArrivesAt system.now e at }
-    requires counted { length spent.old.items ≡ instance_count system.now }
-    ensures { (e : model.Event) → ArrivesAt system.now e at → ChargesEvent system.now e used spent.old.items spent.new.items }
-{
-    system.facts();
-    charge(spent, instance_of(at), used);
-}
-
 /// Takes the event in the slot, which has left the agenda, and adds its steps up if it is one of the tick and the
 /// resource. `Some` is the reason for which the resource stops.
 ///
@@ -94,6 +83,7 @@ fn step(
     ensures ready { OnOk result (IsReady system.now limit least.old.key.tick run.new) }
     ensures less { IfOk result (λ stop. stop ≡ None → IsSpent limit least.old.key run.old.meters.items run.new.meters.items) }
 {
+    system.facts();
     run.clear_lines();
     let key = least.key;
     let at = site_of(system, &least.event);
@@ -102,7 +92,7 @@ fn step(
     let stop = run.take_event(system, limit, least)?;
     let after = left_at(&run.meters[resource], limit, key.tick);
     if is_there(&key, moment) {
-        charge_event(spent, system, at, before.saturating_sub(after));
+        charge(spent, instance_of(at), before.saturating_sub(after));
     }
     Ok(stop)
 }

@@ -90,21 +90,6 @@ fn push_block(text: &mut Text, block: &BlockType, site: StopSite) {
     }
 }
 
-/// Appends an instance, with its type and where in it the stop is. Nothing is appended for a number that is no
-/// instance's.
-fn push_instance(text: &mut Text, system: &System, instance: u32, site: StopSite) {
-    if !has_instance(system, instance) {
-        return;
-    }
-    text.words(": ");
-    push_path(text, system.path(instance));
-    if let TypeNumber::Declared(index) = system.kind(instance) {
-        if let Some(block) = system.library().blocks.get(index) {
-            push_block(text, block, site);
-        }
-    }
-}
-
 /// The bytes of an operation in a text.
 fn written<'a>(text: &'a [u8], shown: Option<Shown>) -> &'a [u8] {
     match shown {
@@ -147,7 +132,16 @@ pub fn words_of(
 ) -> Result<String, AllocError> {
     let mut text = Text::new(alloc);
     text.words("stop");
-    push_instance(&mut text, system, instance_of(stop.at), stop.site);
+    let instance = instance_of(stop.at);
+    if has_instance(system, instance) {
+        text.words(": ");
+        push_path(&mut text, system.path(instance));
+        if let TypeNumber::Declared(index) = system.kind(instance) {
+            if let Some(block) = system.library().blocks.get(index) {
+                push_block(&mut text, block, stop.site);
+            }
+        }
+    }
     if let StopSite::BeforeEvent = stop.site {
         text.words(", before its event");
     }

@@ -2,7 +2,7 @@ use Rattle.fb_types.specs.Headline.{system_of}
 use Rattle.fb_types.specs.Simulation.{opening_state}
 use Rattle.fb_net.specs.Opening.{AreCharts}
 use Rattle.fb_stop.specs.Copies.{AreCopies}
-use Rattle.fb_stop.proofs.copies.open_copies.Given as goal
+use Rattle.fb_stop.proofs.replay.Replay.open.Given as goal
 
 abbrev pub invariant-loop-instance : goal.invariant-loop-instance
 invariant-loop-instance l = record {

@@ -2,7 +2,7 @@ use Rattle.fb_types.specs.Headline.{system_of}
 use Rattle.fb_types.specs.Simulation.{opening_state}
 use Rattle.fb_net.proofs.Charts.{no_charts}
 use Rattle.fb_stop.proofs.Copying.{copies_more, no_copies}
-use Rattle.fb_stop.proofs.copies.open_copies.Goals as goal
+use Rattle.fb_stop.proofs.replay.Replay.open.Goals as goal
 
 pub loop-instance-init : goal.loop-instance-init
 loop-instance-init c = record {
