@@ -10,12 +10,12 @@ ghost use Rattle.fb_sim.specs.Serial.{AreWithin, Declares, Writes};
 ghost use Rattle.fb_sim.specs.Rounds.{FailsRun, HasCome, IsShort};
 
 use crate::drive::outcome_of;
-use crate::one_agenda::run_one_agenda;
+use crate::one_agenda::{is_quicker, run_one_agenda};
 use crate::options::{Inputs, Options};
 use crate::outcome::RunError;
 use crate::pace::{NoClock, threads_for};
 use crate::reading::open;
-use crate::trial::{choose, reserve_text, run_first, run_rest};
+use crate::trial::{reserve_text, run_first, run_rest};
 use crate::work::{Hands, Windows, workers_on};
 use fb_phase::{Crew, Gate};
 use fb_resource::Resource;
@@ -86,10 +86,12 @@ fn run_rounds<R: Threads + Wait + Sync, W: Write, P: Gate, C: Clock + CpuClock>(
     let mut text = Vec::new(alloc);
     reserve_text(&mut text);
     let (leg, begun, pace) = run_first(rt, alloc, system, core, fewer, &mut text, hands, clock)?;
-    let chosen = choose(alloc, system, options, leg, pace, clock)?;
-    let Some(leg) = chosen else {
-        return run_one_agenda(alloc, system, options, out);
-    };
+    if let Some(pace) = pace {
+        // Where one agenda is quicker than the first rounds, it runs from the opening.
+        if is_quicker(alloc, system, options, pace, clock)? {
+            return run_one_agenda(alloc, system, options, out);
+        }
+    }
     let text = text.as_slice();
     let (finish, written) = run_rest(rt, alloc, system, leg, begun, text, fewer, out, hands)?;
     let end = outcome_of(finish, options.horizon);

@@ -1,6 +1,6 @@
 //! The first rounds of a run with workers, whose text waits in memory until it is known whether one agenda is quicker.
 
-ghost use Rattle.std.specs.Prelude.{◌≡◌, [], All, IfOk, IfErr, IfSome, Some};
+ghost use Rattle.std.specs.Prelude.{◌≡◌, [], All, IfOk, IfErr, Some};
 ghost use Rattle.fb_system.specs.OfSystem.{BelongsTo};
 ghost use Rattle.fb_sim.specs.Serial.{AreWithin};
 ghost use Rattle.fb_sim.specs.Rounds.{HandsOutAfter, HasCome, IsLeg, RunsOn};
@@ -8,7 +8,6 @@ ghost use Rattle.fb_sim.specs.declared.outcome.RunError.TheVariants.{Memory};
 
 use crate::drive::{Finish, later, run_on, write_held};
 use crate::held::{Held, Standing};
-use crate::one_agenda::is_quicker;
 use crate::options::Options;
 use crate::outcome::RunError;
 use crate::pace::{Pace, RoundTrial};
@@ -21,11 +20,11 @@ use fb_system::System;
 use fb_trace::write_front;
 use fb_types::Form;
 use fb_window::Core;
-use std::alloc::{AllocError, Global};
+use std::alloc::Global;
 use std::io::Write;
 use std::sync::Wait;
 use std::thread::Threads;
-use std::time::{Clock, CpuClock};
+use std::time::Clock;
 
 /// Where the first rounds of a run have led.
 #[derive(Drop)]
@@ -77,7 +76,7 @@ fn put_held(
 }
 
 /// Makes the first rounds of a run, one at least, as long as the trial takes. Their text goes into memory. The answer
-/// has what is written so, and what the rounds took, if the clock can be read.
+/// has what is written so, and what the rounds took, if the run goes on and the clock can be read.
 ///
 /// # Errors
 /// `Memory`.
@@ -152,37 +151,6 @@ pub(crate) fn run_first<R: Threads + Wait + Sync, P: Gate, C: Clock>(
         }
     }
     unreachable!()
-}
-
-/// What goes on after the first rounds, which took so long: they, or nothing where one agenda is quicker, which then has
-/// to run from the opening.
-///
-/// # Errors
-/// When memory runs out.
-pub(crate) fn choose<C: CpuClock>(
-    alloc: Global,
-    system: &System,
-    options: Options,
-    leg: Leg,
-    pace: Option<Pace>,
-    clock: &C,
-) -> Result<Option<Leg>, AllocError>
-    requires { AreWithin options }
-    ensures { IfOk result (λ found. IfSome found (λ same. same ≡ leg)) }
-{
-    let Some(pace) = pace else {
-        return Ok(Some(leg));
-    };
-    match leg {
-        Leg::Over(finish) => Ok(Some(Leg::Over(finish))),
-        Leg::Going(core) => {
-            if is_quicker(alloc, system, options, pace, clock)? {
-                Ok(None)
-            } else {
-                Ok(Some(Leg::Going(core)))
-            }
-        }
-    }
 }
 
 /// Writes the text of the first rounds, and makes the others.

@@ -49,11 +49,11 @@ returns-in_err-leg-clause-failed g c given is =
     err_is (FailsRun given o old old) c.from_residual-in_err-leg.result e c.from_residual-in_err-leg.ensures.1
     (subst (λ (f : RunError). FailsRun given o old old f) (sym c.in_err-leg.ensures.memory) (fails_wanting given o c.requires old))
 
-pub returns-in_err-chosen-clause-failed : goal.returns-in_err-chosen-clause-failed
-returns-in_err-chosen-clause-failed g c given is =
+pub returns-in_err-is_quicker-clause-failed : goal.returns-in_err-is_quicker-clause-failed
+returns-in_err-is_quicker-clause-failed g c given is =
     let o = c.args.options in
     let old = g.W.Write.contents c.args.out.now in
-    err_is (FailsRun given o old old) c.from_residual-in_err-chosen.result Memory c.from_residual-in_err-chosen.ensures.1 (fails_wanting given o c.requires old)
+    err_is (FailsRun given o old old) c.from_residual-in_err-is_quicker.result Memory c.from_residual-in_err-is_quicker.ensures.1 (fails_wanting given o c.requires old)
 
 pub returns-in_err-core-clause-failed : goal.returns-in_err-core-clause-failed
 returns-in_err-core-clause-failed g c given is =
