@@ -1,7 +1,7 @@
 -- From what the calls of a round say of each other's values to what the round hands out.
 use Rattle.std.proofs.Common.{◌≡◌, ℕ, List, ◌++◌, map, Option, Result, Ok, Err, refl, sym, ap, ap₂, ◌∙◌, subst, ⊎_elim}
 use Rattle.std.specs.Global.{Vec}
-use Rattle.std.specs.Prelude.{All, IfErr, IfOk}
+use Rattle.std.specs.Prelude.{All}
 use Rattle.std.specs.List.{AllZip}
 use Rattle.std.specs.Result.{IsErrAnd}
 use Rattle.std.specs.Io.KnownBytes.{Appends}
@@ -206,13 +206,6 @@ module _ (i : Inputs) (o : Options) (core : CoreState) (held : Held) (ls : List 
   pub held_passed : (r : Result (Round × Held × Tally) RunError) (e : RunError) → IsErrAnd r (λ f. f ≡ e) → FailsRound i o ls old new e → RoundsWithCounts i o core held ls holds old new r
   held_passed (Ok x) e bad h = absurd bad
   held_passed (Err f) e is h = subst (λ (x : RunError). FailsRound i o ls old new x) (sym is) h
-
-  -- the lines that were held are written after a window, or a part of them
-  pub held_handed : AreGood i → (r : Reach) (finals : Held) (did : Result (Round × Held × Tally) RunError) → IfOk did (λ t. HandsOut i o.form held.lists.items old new t.2.bytes t.2.final_lines)
-      → IfOk did (λ t. (all : Vec run.Line) → t.0 ≡ round_of (settled_of r all)) → IfOk did (λ t. t.1 ≡ finals) → IfErr did (λ e. FailsToHandOut i o.form held.lists.items old new e)
-      → Homes r finals → IsHeldOf i finals → RoundsWithCounts i o core held ls holds old new did
-  held_handed good r finals (Ok t) whole is same failed home of = held_whole r finals t.2.bytes t.2.final_lines t is same refl refl home of whole
-  held_handed good r finals (Err e) whole is same failed home of = held_failed good e failed
 
 -- What one round has written: the text of its lines, or a part of it.
 module _ (i : Inputs) (o : Options) (es : List (CoreStep (machine (system_of i) o.steps))) (ls : List Line) (old new : Option (List ℕ)) where

@@ -6,28 +6,22 @@
 //! board with one worker. Both write the same lines.
 
 ghost use Rattle.std.specs.Global.{Vec};
-ghost use Rattle.std.specs.Prelude.{◌≡◌, ◌≤◌, ℕ, List, None, map, length, vec_len, if◌then◌else◌, All, IfOk, IfErr, IfSome};
+ghost use Rattle.std.specs.Prelude.{◌≡◌, ◌≤◌, List, None, map, length, vec_len, if◌then◌else◌, All, IfOk, IfErr, IfSome};
 ghost use Rattle.std.specs.Io.KnownBytes.{Appends};
 ghost use Rattle.std.specs.List.{AllZip};
-ghost use Rattle.fb_types.specs.Cores.{CoreStep};
-ghost use Rattle.fb_types.specs.Headline.{stimuli_of};
-ghost use Rattle.fb_types.specs.Schedules.{IsSchedule};
 ghost use Rattle.fb_types.specs.States as model;
 ghost use Rattle.fb_types.specs.declared.run.Line.{Line};
-ghost use Rattle.fb_types.specs.OfSystem.{line_of, lines_text, machine, opening_core};
+ghost use Rattle.fb_types.specs.OfSystem.{line_of, lines_text};
 ghost use Rattle.fb_trace.specs.Progress.{bounded};
 ghost use Rattle.fb_laws.specs.Finality.{core_of};
 ghost use Rattle.fb_system.specs.OfSystem.{BelongsTo};
 ghost use Rattle.fb_window.specs.Jobs.{Does};
-ghost use Rattle.fb_window.specs.Leaving.{AreLegal, HasLeft};
 ghost use Rattle.fb_window.specs.Reached.{KeepHorizon};
-ghost use Rattle.fb_window.specs.Settling.{IsMerged, Settles, lists_of, settled_of};
-ghost use Rattle.fb_window.specs.Standing.{IsAt};
-ghost use Rattle.fb_resource.specs.declared.resource.Resource.{Resource};
+ghost use Rattle.fb_window.specs.Settling.{IsMerged, settled_of};
 ghost use Rattle.fb_sim.specs.Serial.{AreWithin};
 ghost use Rattle.fb_sim.specs.Rounds as spec;
-ghost use Rattle.fb_sim.specs.Rounds.{FailsToHandOut, HandsOut, RoundsWithCounts, HasCome, HasWalked, HoldsTo, IsHeldOf, IsHomeAgain, IsHomeOnce, IsOnItsWay, Rounds, WritesPartOf, lines_out};
-ghost use Rattle.fb_sim.specs.Texts.{AreDone, HasText};
+ghost use Rattle.fb_sim.specs.Rounds.{RoundsWithCounts, HasCome, HoldsTo, IsHeldOf, IsHomeAgain, IsOnItsWay, Rounds, WritesPartOf, lines_out};
+ghost use Rattle.fb_sim.specs.Texts.{AreDone};
 ghost use Rattle.fb_sim.specs.Weaving.{IsWovenText, all_bytes};
 ghost use Rattle.fb_sim.specs.declared.outcome.RunError.TheVariants.{Memory};
 
@@ -44,7 +38,7 @@ use fb_resource::WindowDone;
 use fb_system::System;
 use fb_trace::write_lines_with_count;
 use fb_types::{Form, Line};
-use fb_window::{Away, Core, Job, Reach, Settled};
+use fb_window::{Core, Job, Reach, Settled};
 use std::alloc::{AllocError, Global};
 use std::io::Write;
 use std::sync::Wait;
@@ -137,27 +131,32 @@ fn text_threads(workers: usize, held: &Held) -> usize
     (workers / 2).max(1)
 }
 
-/// Runs all jobs, of which this many are busy, and makes the text of lines that are held. Where there is a crew, this
+/// Runs all jobs, of which this many are busy, and makes the text of lines if some are held. Where there is a crew, this
 /// thread makes the text while the others run jobs, and then takes its share of those that are left. Threads that help
 /// it with the text take the place of as many of the crew, which come late. Without a crew as many threads as workers
 /// make it afterwards.
-fn run_jobs_and_text<R: Threads + Wait + Sync, P: Gate>(
+fn run_round<R: Threads + Wait + Sync, P: Gate>(
     rt: &R,
     alloc: Global,
     system: &System,
     options: Options,
     jobs: Vec<Job>,
     busy: usize,
-    held: Held,
+    held: Option<Held>,
     hands: &Hands<'_, P>,
 ) -> Result<(Vec<Vec<u8>>, Dones), RunError>
     requires options { AreWithin options }
     requires few_jobs { vec_len jobs ≤ 256 }
-    requires held { IsHeldOf system.now held }
-    ensures text { IfOk result (λ r. IsWovenText system.now options.form (map (λ p. p.items) held.lists.items) (all_bytes r.0.items)) }
+    requires held { IfSome held (IsHeldOf system.now) }
+    ensures text { IfOk result (λ r. IfSome held (λ h. IsWovenText system.now options.form (map (λ p. p.items) h.lists.items) (all_bytes r.0.items))) }
     ensures done { IfOk result (λ r. AreDone jobs.items r.1) }
     ensures memory { IfErr result (λ e. e ≡ Memory) }
 {
+    let Some(held) = held else {
+        let seats = workers_for(busy, options.workers);
+        let dones = run_jobs(rt, alloc, jobs, seats, hands)?;
+        return Ok((Vec::new(alloc), dones));
+    };
     let form = options.form;
     let workers = options.workers as usize;
     let Some(crew) = hands.crew else {
@@ -177,47 +176,6 @@ fn run_jobs_and_text<R: Threads + Wait + Sync, P: Gate>(
     // Also where there is no memory for the text, the phase is finished.
     let all = crew.finish(rt, alloc, hands.work, phase, hands.gate)?;
     Ok((texts?, apart(alloc, all)?))
-}
-
-/// Runs all jobs, of which this many are busy, and makes the text of lines if some are held.
-fn run_round<R: Threads + Wait + Sync, P: Gate>(
-    rt: &R,
-    alloc: Global,
-    system: &System,
-    options: Options,
-    jobs: Vec<Job>,
-    busy: usize,
-    held: Option<Held>,
-    hands: &Hands<'_, P>,
-) -> Result<(Vec<Vec<u8>>, Dones), RunError>
-    requires options { AreWithin options }
-    requires few_jobs { vec_len jobs ≤ 256 }
-    requires held { IfSome held (IsHeldOf system.now) }
-    ensures text { IfOk result (λ r. IfSome held (λ h. IsWovenText system.now options.form (map (λ p. p.items) h.lists.items) (all_bytes r.0.items))) }
-    ensures done { IfOk result (λ r. AreDone jobs.items r.1) }
-    ensures memory { IfErr result (λ e. e ≡ Memory) }
-{
-    match held {
-        Some(held) => run_jobs_and_text(rt, alloc, system, options, jobs, busy, held, hands),
-        None => {
-            let seats = workers_for(busy, options.workers);
-            let dones = run_jobs(rt, alloc, jobs, seats, hands)?;
-            Ok((Vec::new(alloc), dones))
-        }
-    }
-}
-
-/// The core after the turns of single resources that are planned. What has become final meanwhile is handed out after
-/// the next window.
-fn walked(alloc: Global, system: &System, core: Core, plan: RoundPlan) -> Result<Core, RunError>
-    requires options { AreWithin plan.options }
-    requires come { (ls : List model.Line) × HasCome system.now plan.options.steps plan.options.horizon core ls }
-    ensures on { (ls : List model.Line) (come : HasCome system.now plan.options.steps plan.options.horizon core ls)
-        → IfOk result (λ d. HasWalked system.now plan.options.steps plan.options.horizon (core_of system.now plan.options.steps come.steps) ls d) }
-    ensures memory { IfErr result (λ e. e ≡ Memory) }
-{
-    system.facts();
-    Ok(core.walk(alloc, system, plan.options.horizon, plan.turns)?)
 }
 
 /// What became of a window.
@@ -253,7 +211,11 @@ impl WindowResult {
             lines,
             final_lines,
         };
-        (round_at(reach), finals, tally)
+        match reach {
+            Reach::Going(core) => (Round::Going(core), finals, tally),
+            Reach::Ended(core) => (Round::Ended(core), finals, tally),
+            Reach::Stopped(mark) => (Round::Stopped(mark), finals, tally),
+        }
     }
 }
 
@@ -262,36 +224,6 @@ fn only_if<T: Drop>(is_used: bool, value: Option<T>) -> Option<T>
     ensures { result ≡ (if is_used then value else None) }
 {
     if is_used { value } else { None }
-}
-
-/// Puts all resources back with what became of their jobs. The lines that have become final are held, with the text that
-/// workers made of them if it is of use.
-fn settled_apart(
-    alloc: Global,
-    system: &System,
-    form: Form,
-    away: Away,
-    done: Dones,
-) -> Result<(Reach, Held), RunError>
-    requires system { system.now ≡ away.system }
-    requires done { AllZip Does away.jobs.value.items done.dones.items }
-    requires texts { IfSome done.texts (λ ts. AllZip (HasText system.now) done.dones.items ts.items) }
-    ensures settles { IfOk result (λ r. (all : Vec Line) → IsMerged r.1.lists.items all.items
-        → (xs : List Resource) (bounds : List ℕ) (es : List (CoreStep (machine away.system away.steps))) (workers : ℕ → ℕ)
-        → HasLeft xs bounds away
-        → IsSchedule (machine away.system away.steps) away.horizon (opening_core away.system (stimuli_of away.system) away.steps) es
-        → IsAt away.system away.steps (core_of away.system away.steps es) xs
-        → AreLegal away.system away.steps away.horizon (core_of away.system away.steps es) bounds
-        → Settles away.system away.steps away.horizon es bounds (lists_of away.pending.items) workers (settled_of r.0 all)) }
-    ensures held { IfOk result (λ r. IsHeldOf system.now r.1) }
-    ensures memory { IfErr result (λ e. e ≡ Memory) }
-{
-    let Dones { dones, texts } = done;
-    let texts = only_if(away.keeps_nothing(), texts);
-    let (reach, finals) = away.settle_apart(alloc, system, dones)?;
-    let texts = final_texts(alloc, system, form, &finals, texts)?;
-    let held = Held::of(finals, texts)?;
-    Ok((reach, held))
 }
 
 /// Runs each resource to its bound, with the workers, and puts all back together. A bound is at most this many ticks
@@ -324,8 +256,12 @@ fn window<R: Threads + Wait + Sync, P: Gate>(
     // The text of lines that come after others which were kept would be of no use.
     hands.work.set_text(away.keeps_nothing());
     let (texts, done) = run_round(rt, alloc, system, options, jobs, busy, held, hands)?;
-    let lines = lines_in(done.dones.as_slice());
-    let (reach, finals) = settled_apart(alloc, system, options.form, away, done)?;
+    let Dones { dones, texts: made } = done;
+    let lines = lines_in(dones.as_slice());
+    let made = only_if(away.keeps_nothing(), made);
+    let (reach, finals) = away.settle_apart(alloc, system, dones)?;
+    let made = final_texts(alloc, system, options.form, &finals, made)?;
+    let finals = Held::of(finals, made)?;
     let result = WindowResult {
         reach,
         finals,
@@ -335,36 +271,15 @@ fn window<R: Threads + Wait + Sync, P: Gate>(
     Ok((texts, result))
 }
 
-/// The lines that must be written.
-fn lines_of(settled: &Settled) -> &[Line]
-    ensures { result.now ≡ lines_out settled.now }
+/// The progress of the run, once the lines are written, and these lines.
+fn parted(settled: Settled) -> (Round, Vec<Line>)
+    ensures round { result.0 ≡ spec.round_of settled }
+    ensures lines { result.1.items ≡ lines_out settled }
 {
     match settled {
-        Settled::Going(_, lines) => lines.as_slice(),
-        Settled::Ended(_, lines) => lines.as_slice(),
-        Settled::Stopped(lines, _) => lines.as_slice(),
-    }
-}
-
-/// The progress of the run, once the lines are written.
-fn round_of(settled: Settled) -> Round
-    ensures { result ≡ spec.round_of settled }
-{
-    match settled {
-        Settled::Going(core, _) => Round::Going(core),
-        Settled::Ended(core, _) => Round::Ended(core),
-        Settled::Stopped(_, mark) => Round::Stopped(mark),
-    }
-}
-
-/// The progress of the run, where its lines are not merged.
-fn round_at(reach: Reach) -> Round
-    ensures { (all : Vec Line) → result ≡ spec.round_of (settled_of reach all) }
-{
-    match reach {
-        Reach::Going(core) => Round::Going(core),
-        Reach::Ended(core) => Round::Ended(core),
-        Reach::Stopped(mark) => Round::Stopped(mark),
+        Settled::Going(core, lines) => (Round::Going(core), lines),
+        Settled::Ended(core, lines) => (Round::Ended(core), lines),
+        Settled::Stopped(lines, mark) => (Round::Stopped(mark), lines),
     }
 }
 
@@ -384,26 +299,6 @@ pub(crate) fn hand_out<W: Write>(
         Ok(count) => Ok(count),
         Err(fault) => Err(RunError::Write(fault.written)),
     }
-}
-
-/// Writes the lines that the round before held, after a window, and gives what the round has done.
-fn hand_out_after<W: Write>(
-    alloc: Global,
-    system: &System,
-    form: Form,
-    held: Held,
-    gone: WindowResult,
-    out: &mut W,
-) -> Result<(Round, Held, Tally), RunError>
-    requires held { All (λ p. All (BelongsTo system.now) p.items) held.lists.items }
-    requires finals { All (λ p. All (BelongsTo system.now) p.items) gone.finals.lists.items }
-    ensures whole { IfOk result (λ r. HandsOut system.now form held.lists.items (W.contents out.old) (W.contents out.new) r.2.bytes r.2.final_lines) }
-    ensures round { IfOk result (λ r. (all : Vec Line) → r.0 ≡ spec.round_of (settled_of gone.reach all)) }
-    ensures next { IfOk result (λ r. r.1 ≡ gone.finals) }
-    ensures failed { IfErr result (FailsToHandOut system.now form held.lists.items (W.contents out.old) (W.contents out.new)) }
-{
-    let (bytes, lines) = held.hand_out(alloc, system, form, out)?;
-    Ok(gone.after(bytes, lines))
 }
 
 /// A round of a run, as planned, with what it has done. It writes the lines that the round before held, and holds those
@@ -426,8 +321,9 @@ pub(crate) fn round_with_counts<R: Threads + Wait + Sync, W: Write, P: Gate>(
 {
     system.facts();
     let Standing { core, held } = standing;
-    let core = walked(alloc, system, core, plan)?;
     let options = plan.options;
+    // What becomes final in the turns of single resources is handed out after the next window.
+    let core = core.walk(alloc, system, options.horizon, plan.turns)?;
     if held.is_shared(options.workers) {
         let lines = held.count();
         let (texts, result) = window(rt, alloc, system, core, Some(held), plan, hands)?;
@@ -435,35 +331,8 @@ pub(crate) fn round_with_counts<R: Threads + Wait + Sync, W: Write, P: Gate>(
         return Ok(result.after(bytes, lines as u128));
     }
     let (_, result) = window(rt, alloc, system, core, None, plan, hands)?;
-    hand_out_after(alloc, system, options.form, held, result, out)
-}
-
-/// One phase and one exchange: each resource that has not stopped runs to its greatest legal bound, at most 1,024 ticks
-/// past the least event, and all are put back together.
-fn one_phase<R: Threads + Wait + Sync, P: Gate>(
-    rt: &R,
-    alloc: Global,
-    system: &System,
-    core: Core,
-    options: Options,
-    gate: &P,
-) -> Result<Settled, RunError>
-    requires options { AreWithin options }
-    requires system { core.system ≡ system.now }
-    requires steps { core.steps ≡ options.steps }
-    requires clocks { KeepHorizon options.horizon core.resources.items }
-    ensures home { (ls : List model.Line) (way : IsOnItsWay system.now options.steps options.horizon core ls)
-        → IfOk result (IsHomeOnce system.now options.steps options.horizon 1024 way.steps ls) }
-    ensures belong { IfOk result (λ s. All (BelongsTo system.now) (lines_out s)) }
-    ensures memory { IfErr result (λ e. e ≡ Memory) }
-{
-    system.facts();
-    core.facts();
-    let bounds = core.bounds(options.horizon, LONGEST_WINDOW);
-    let (away, jobs) = core.jobs(alloc, system, bounds)?;
-    let workers = options.workers as usize;
-    let dones = run_all(rt, alloc, &BareWindows, jobs, workers, gate)?;
-    Ok(away.settle(alloc, system, dones)?)
+    let (bytes, lines) = held.hand_out(alloc, system, options.form, out)?;
+    Ok(result.after(bytes, lines))
 }
 
 /// Runs each resource to its bound, exchanges their messages, and writes the lines that have become final, but no last
@@ -492,7 +361,14 @@ pub fn round<R: Threads + Wait + Sync, W: Write, P: Gate>(
     ensures { (ls : List model.Line) (come : HasCome system.now options.steps options.horizon core ls)
         → Rounds system.now options come.steps ls (W.contents out.old) (W.contents out.new) result }
 {
-    let settled = one_phase(rt, alloc, system, core, options, gate)?;
-    hand_out(out, system, options.form, lines_of(&settled))?;
-    Ok(round_of(settled))
+    system.facts();
+    core.facts();
+    let bounds = core.bounds(options.horizon, LONGEST_WINDOW);
+    let (away, jobs) = core.jobs(alloc, system, bounds)?;
+    let workers = options.workers as usize;
+    let dones = run_all(rt, alloc, &BareWindows, jobs, workers, gate)?;
+    let settled = away.settle(alloc, system, dones)?;
+    let (round, lines) = parted(settled);
+    hand_out(out, system, options.form, &lines)?;
+    Ok(round)
 }

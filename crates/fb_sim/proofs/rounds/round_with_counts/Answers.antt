@@ -7,29 +7,41 @@ use Rattle.fb_laws.specs.Sound.{AreGood}
 use Rattle.fb_trace.specs.Progress.{bounded}
 use Rattle.fb_sim.specs.Rounds.{WritesPartOf}
 use Rattle.fb_sim.specs.Weaving.{all_bytes}
+use Rattle.fb_sim.specs.declared.outcome.RunError.TheVariants.{Memory}
 use Rattle.fb_sim.proofs.HandedOut.{part_by_text, whole_by_text}
 use Rattle.fb_sim.proofs.Texts.{merged_list}
-use Rattle.fb_sim.proofs.WindowIs.{held_failed, held_handed, held_out_of_memory, held_passed, held_whole, home_since}
+use Rattle.fb_sim.proofs.WindowIs.{held_failed, held_out_of_memory, held_passed, held_whole, home_since, walk_keeps, walked_on}
 use Rattle.fb_sim.proofs.rounds.round_with_counts.Goals as goal
 
-pub walked-requires-clause-come : goal.walked-requires-clause-come
-walked-requires-clause-come g c =
+pub walk-requires-clause-system : goal.walk-requires-clause-system
+walk-requires-clause-system g c =
     let h = c.requires.holds.1 in
     let all = merged_list c.args.alloc c.args.standing.held.lists.items c.args.standing.held.count h.of.few h.of.counted in
-    (_, h.come all.0 all.1)
+    sym (h.come all.0 all.1).of.inputs
+
+pub walk-requires-clause-clocks : goal.walk-requires-clause-clocks
+walk-requires-clause-clocks g c =
+    let o = c.args.plan.options in
+    let h = c.requires.holds.1 in
+    let all = merged_list c.args.alloc c.args.standing.held.lists.items c.args.standing.held.count h.of.few h.of.counted in
+    walk_keeps c.args.system.now o.steps o.horizon c.args.standing.core _ (h.come all.0 all.1) (record { accepted = c.facts.ensures.accepted; limits = c.facts.ensures.limits })
 
 pub window-requires-clause-come : goal.window-requires-clause-come
 window-requires-clause-come g c κs w =
     let h = c.requires.holds.1 in
     let all = merged_list c.args.alloc c.args.standing.held.lists.items c.args.standing.held.count h.of.few h.of.counted in
-    let walked = c.in_ok-core.ensures.on _ (h.come all.0 all.1) in
+    let o = c.args.plan.options in
+    let on = c.in_ok-core.ensures in
+    let walked = walked_on c.args.system.now o.steps o.horizon c.args.standing.core _ (h.come all.0 all.1) c.args.plan.turns _ on.system on.steps on.pending on.walks in
     (_, walked.way)
 
 pub window-requires-2-clause-come : goal.window-requires-2-clause-come
 window-requires-2-clause-come g c κs w =
     let h = c.requires.holds.1 in
     let all = merged_list c.args.alloc c.args.standing.held.lists.items c.args.standing.held.count h.of.few h.of.counted in
-    let walked = c.in_ok-core.ensures.on _ (h.come all.0 all.1) in
+    let o = c.args.plan.options in
+    let on = c.in_ok-core.ensures in
+    let walked = walked_on c.args.system.now o.steps o.horizon c.args.standing.core _ (h.come all.0 all.1) c.args.plan.turns _ on.system on.steps on.pending on.walks in
     (_, walked.way)
 
 pub returns-in_err-core : goal.returns-in_err-core
@@ -37,8 +49,7 @@ returns-in_err-core g c ls h =
     let o = c.args.plan.options in
     let s = c.args.standing in
     let old = g.W.Write.contents c.args.out.now in
-    let e = c.in_err-core.field-0.0 in
-    held_passed c.args.system.now o s.core s.held ls h old old _ e c.from_residual.ensures.1 (held_out_of_memory c.args.system.now o s.core s.held ls h old old e c.in_err-core.ensures.memory refl)
+    held_passed c.args.system.now o s.core s.held ls h old old _ Memory c.from_residual.ensures.1 (held_out_of_memory c.args.system.now o s.core s.held ls h old old Memory refl refl)
 
 pub returns-in_err-texts : goal.returns-in_err-texts
 returns-in_err-texts g c ls h =
@@ -83,7 +94,8 @@ returns-then-is_shared g c ls h =
     held_whole i o s.core s.held ls h old new c.in_ok-texts.result.reach c.in_ok-texts.result.finals bytes s.held.count c.after.result c.after.ensures.round c.after.ensures.held c.after.ensures.bytes
     (c.after.ensures.lines ∙ c.count-lines.ensures)
     (λ ks come all merged.
-    let walked = c.in_ok-core.ensures.on ks come in
+    let on = c.in_ok-core.ensures in
+    let walked = walked_on i o.steps o.horizon s.core ks come c.args.plan.turns _ on.system on.steps on.pending on.walks in
     home_since i o.steps o.horizon (core_of i o.steps come.steps) ks _ walked _ (c.in_ok-texts.ensures.home ks walked.way all merged)) c.in_ok-texts.ensures.held hands
 
 pub returns-in_err-result : goal.returns-in_err-result
@@ -94,8 +106,16 @@ returns-in_err-result g c ls h =
     let e = c.in_err-result.field-0.0 in
     held_passed c.args.system.now o s.core s.held ls h old old _ e c.from_residual-in_err-result.ensures.1 (held_out_of_memory c.args.system.now o s.core s.held ls h old old e c.in_err-result.ensures.memory refl)
 
-pub hand_out_after-requires-clause-finals : goal.hand_out_after-requires-clause-finals
-hand_out_after-requires-clause-finals g c = c.in_ok-result.ensures.held.belong
+pub returns-in_err-bytes-2 : goal.returns-in_err-bytes-2
+returns-in_err-bytes-2 g c ls h =
+    let i = c.args.system.now in
+    let o = c.args.plan.options in
+    let s = c.args.standing in
+    let old = g.W.Write.contents c.args.out.now in
+    let new = g.W.Write.contents c.hand_out.new.out in
+    let e = c.in_err-bytes-2.field-0.0 in
+    let good : AreGood i = record { accepted = c.facts.ensures.accepted; limits = c.facts.ensures.limits } in
+    held_passed i o s.core s.held ls h old new _ e c.from_residual-in_err-bytes-2.ensures.1 (held_failed i o s.core s.held ls h old new good e c.in_err-bytes-2.ensures.failed)
 
 pub returns : goal.returns
 returns g c ls h =
@@ -103,10 +123,10 @@ returns g c ls h =
     let o = c.args.plan.options in
     let s = c.args.standing in
     let old = g.W.Write.contents c.args.out.now in
-    let new = g.W.Write.contents c.hand_out_after.new.out in
-    let good : AreGood i = record { accepted = c.facts.ensures.accepted; limits = c.facts.ensures.limits } in
-    let did = c.hand_out_after.ensures in
-    held_handed i o s.core s.held ls h old new good c.in_ok-result.result.reach c.in_ok-result.result.finals c.hand_out_after.result did.whole did.round did.next did.failed
+    let new = g.W.Write.contents c.hand_out.new.out in
+    held_whole i o s.core s.held ls h old new c.in_ok-result.result.reach c.in_ok-result.result.finals c.in_ok-bytes-2.bytes c.in_ok-bytes-2.lines c.after-2.result c.after-2.ensures.round c.after-2.ensures.held c.after-2.ensures.bytes
+    c.after-2.ensures.lines
     (λ ks come all merged.
-    let walked = c.in_ok-core.ensures.on ks come in
-    home_since i o.steps o.horizon (core_of i o.steps come.steps) ks _ walked _ (c.in_ok-result.ensures.home ks walked.way all merged)) c.in_ok-result.ensures.held
+    let on = c.in_ok-core.ensures in
+    let walked = walked_on i o.steps o.horizon s.core ks come c.args.plan.turns _ on.system on.steps on.pending on.walks in
+    home_since i o.steps o.horizon (core_of i o.steps come.steps) ks _ walked _ (c.in_ok-result.ensures.home ks walked.way all merged)) c.in_ok-result.ensures.held c.in_ok-bytes-2.ensures.whole

@@ -1,7 +1,7 @@
 use denote.Param.Send.{sendable}
 use Rattle.fb_window.proofs.Sends.{job_send}
 use Rattle.fb_sim.proofs.TextedSends.{texted_send}
-use Rattle.fb_sim.proofs.rounds.run_jobs_and_text.Goals as goal
+use Rattle.fb_sim.proofs.rounds.run_round.Goals as goal
 
 pub begin-requires-send-W-Job : goal.begin-requires-send-W-Job
 begin-requires-send-W-Job g c κs within = search (sendable, job_send) depth 40
