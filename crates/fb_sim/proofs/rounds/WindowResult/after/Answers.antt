@@ -1,2 +1,0 @@
-use Rattle.std.proofs.Common.{refl}
-use Rattle.fb_sim.proofs.rounds.WindowResult.after.Goals as goal
