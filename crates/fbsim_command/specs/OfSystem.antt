@@ -25,17 +25,11 @@ is_of i = known.is_of (system_of i)
 abbrev pub any_event : Inputs → Pattern → (instance : ℕ) → (taken : Bool) → Bool
 any_event i = known.any_event (system_of i)
 
-abbrev pub any_port : Inputs → Pattern → (instance : ℕ) → Bool
-any_port i = known.any_port (system_of i)
-
 abbrev pub has_port : Inputs → Pattern → Bool
 has_port i = known.has_port (system_of i)
 
 abbrev pub may_have_port : Inputs → Option Pattern → Bool
 may_have_port i = known.may_have_port (system_of i)
-
-abbrev pub has_rule : Inputs → Rule → Bool
-has_rule i = known.has_rule (system_of i)
 
 abbrev pub has_names : Inputs → List Rule → Bool
 has_names i = known.has_names (system_of i)

@@ -5,10 +5,9 @@ ghost use Rattle.std.specs.List.{list_any};
 ghost use Rattle.fb_system.specs.IndexLists.{AreIndexes, variable_at};
 ghost use Rattle.fb_types.specs.Names.{same_name};
 ghost use Rattle.fb_types.specs.Numbers.{event_at};
-ghost use Rattle.fb_types.specs.OfSystem.{IsInstance, path_at, resource_at, resource_name};
-ghost use Rattle.fb_expect.specs.Patterns as patterns;
+ghost use Rattle.fb_types.specs.OfSystem.{IsInstance};
 ghost use Rattle.fbsim_command.specs.Known as spec;
-ghost use Rattle.fbsim_command.specs.OfSystem.{IsUnknownAt, IsUnknownKey, any_event, any_port, event_there, has_names, has_port, has_rule, is_of, may_have_port, ports_of};
+ghost use Rattle.fbsim_command.specs.OfSystem.{IsUnknownAt, IsUnknownKey, any_event, has_names, has_port, is_of, may_have_port, ports_of};
 
 use fb_expect::{Condition, Entry, Pattern, Rule, RuleKey, is_at, pattern_keys};
 use fb_system::System;
@@ -98,37 +97,6 @@ fn port_text(alloc: Global, path: &[u8], event: &[u8]) -> Result<Vec<u8>, AllocE
     Ok(text)
 }
 
-/// The name of the resource that holds an instance.
-fn resource_name(system: &System, instance: u32) -> &[u8]
-    requires { IsInstance system.now instance }
-    ensures { result.now ≡ resource_name system.now (resource_at system.now (path_at system.now instance)) }
-{
-    system.facts();
-    system.resource_name(system.resource(instance))
-}
-
-/// Whether a port is of the resource, the side and the name of a pattern.
-fn is_there(
-    alloc: Global,
-    system: &System,
-    pattern: &Pattern,
-    instance: u32,
-    taken: bool,
-    event: u32,
-) -> Result<bool, AllocError>
-    requires instance { IsInstance system.now instance }
-    requires event { event < length (spec.events_of (ports_of system.now instance) taken) }
-    ensures { IfOk result (λ b. b ≡ patterns.is_at pattern.now (event_there system.now instance taken event)) }
-{
-    let name = event_name(system.ports(instance), taken, event);
-    let port = port_text(alloc, system.path(instance), name)?;
-    let resource = resource_name(system, instance);
-    Ok(is_at(
-        pattern,
-        &Entry::of(0, resource, taken, port.as_slice(), b""),
-    ))
-}
-
 /// Whether a port is of a pattern, and has all variables of its conditions.
 #[tactic(auto, unfolding(crate::specs::Known::is_of))]
 fn is_of(
@@ -143,8 +111,19 @@ fn is_of(
     requires event { event < length (spec.events_of (ports_of system.now instance) taken) }
     ensures { IfOk result (λ b. b ≡ is_of system.now pattern.now instance taken event) }
 {
-    let is_there = is_there(alloc, system, pattern, instance, taken, event)?;
-    let variables = variables_of(system.ports(instance), taken);
+    system.facts();
+    let ports = system.ports(instance);
+    let resource = system.resource_name(system.resource(instance));
+    let port = port_text(
+        alloc,
+        system.path(instance),
+        event_name(ports, taken, event),
+    )?;
+    let entry = Entry::of(0, resource, taken, port.as_slice(), b"");
+    let is_there = is_at(pattern, &entry);
+    // Dropped by one call: the end of its scope would join the ways.
+    drop(port);
+    let variables = variables_of(ports, taken);
     let indexes = indexes_with(system, instance, taken, event);
     Ok(is_there && are_named(pattern.conditions.as_slice(), variables, indexes))
 }
@@ -169,21 +148,6 @@ fn any_event(
     Ok(false)
 }
 
-/// Whether one of the ports of an instance is of a pattern.
-fn any_port(
-    alloc: Global,
-    system: &System,
-    pattern: &Pattern,
-    instance: u32,
-) -> Result<bool, AllocError>
-    requires { IsInstance system.now instance }
-    ensures { IfOk result (λ b. b ≡ any_port system.now pattern.now instance) }
-{
-    let is_taken = any_event(alloc, system, pattern, instance, true)?;
-    let is_emitted = any_event(alloc, system, pattern, instance, false)?;
-    Ok(is_taken || is_emitted)
-}
-
 /// Whether a system has a port for a pattern.
 #[tactic(auto, unfolding(crate::specs::Known::has_port))]
 fn has_port(alloc: Global, system: &System, pattern: &Pattern) -> Result<bool, AllocError>
@@ -191,7 +155,13 @@ fn has_port(alloc: Global, system: &System, pattern: &Pattern) -> Result<bool, A
 {
     system.facts();
     for instance in 0..system.count() {
-        if any_port(alloc, system, pattern, instance as u32)? {
+        let instance = instance as u32;
+        let is_taken = any_event(alloc, system, pattern, instance, true)?;
+        if is_taken {
+            return Ok(true);
+        }
+        let is_emitted = any_event(alloc, system, pattern, instance, false)?;
+        if is_emitted {
             return Ok(true);
         }
     }
@@ -212,22 +182,15 @@ fn may_have_port(
     }
 }
 
-/// Whether a system has a port for each pattern of a rule.
-fn has_rule(alloc: Global, system: &System, rule: &Rule) -> Result<bool, AllocError>
-    ensures { IfOk result (λ b. b ≡ has_rule system.now rule.now) }
-{
-    let first = has_port(alloc, system, &rule.first)?;
-    let second = may_have_port(alloc, system, &rule.second)?;
-    let third = may_have_port(alloc, system, &rule.third)?;
-    Ok(first && second && third)
-}
-
 /// Whether a system has a port with all variables for each pattern of the rules.
 pub(crate) fn has_names(alloc: Global, system: &System, rules: &[Rule]) -> Result<bool, AllocError>
     ensures { IfOk result (λ b. b ≡ has_names system.now rules.now) }
 {
     for rule in rules {
-        if !has_rule(alloc, system, rule)? {
+        let first = has_port(alloc, system, &rule.first)?;
+        let second = may_have_port(alloc, system, &rule.second)?;
+        let third = may_have_port(alloc, system, &rule.third)?;
+        if !(first && second && third) {
             return Ok(false);
         }
     }
