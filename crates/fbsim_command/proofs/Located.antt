@@ -1,5 +1,5 @@
 -- What is reported of a run that stopped.
-use Rattle.std.proofs.Common.{◌≡◌, ◌++◌, ◌∙◌, ◌∷◌, ℕ, Bool, true, List, [], Option, String, refl, sym, ap, subst, append_assoc, append-nil, Ok, Err, inr}
+use Rattle.std.proofs.Common.{◌≡◌, ◌++◌, ◌∙◌, ◌∷◌, ℕ, Bool, true, List, [], Option, String, refl, sym, ap, subst, append_assoc, append-nil, Ok, Err, inl, inr}
 use Rattle.std.specs.Prelude.{IfOk, IfSome, None, Result, Some, string_bytes}
 use Rattle.std.proofs.KnownBytes.{Appends-trans}
 use Rattle.fb_types.specs.Headline.{Inputs}
@@ -17,7 +17,7 @@ use Rattle.fb_read_positions.specs.Locations.{IsPlaceAt}
 use Rattle.fb_read_positions.specs.Locations.{IsLocation, IsStretch}
 use Rattle.fb_read_positions.specs.declared.text_locations.TextLocation.{TextLocation}
 use Rattle.fbsim_command.specs.Outcomes.{Held}
-use Rattle.fbsim_command.specs.Stops.{IsNoteAtStop, IsNoteOfRun, IsNoteOfStop, IsOperatorPlace, IsStopPlace}
+use Rattle.fbsim_command.specs.Stops.{IsNoteAtStop, IsNoteOfRun, IsNoteOfStop, IsStopPlace}
 
 -- one report after another, of which all was taken
 pub hears_after : (old mid new : Held) (first report : List ℕ) (heard : Bool) → Hears true old mid first → Hears heard mid new report → Hears heard old new (first ++ report)
@@ -53,9 +53,9 @@ placed text i stop p library (Err e) is same h = tt
 
 -- the place of an operator
 pub operated : (text : Text) (i : Inputs) (stop : FoundStop) (x : Shown) (o : Option TextLocation) → IsStopShown text i stop x → IfSome o (IsLocation text)
-    → IfSome o (λ at. IsStretch x.operator.start x.operator.end at) → IfSome o (IsOperatorPlace text i stop)
+    → IfSome o (λ at. IsStretch x.operator.start x.operator.end at) → IsStopPlace text i stop o
 operated text i stop x None is located there = tt
-operated text i stop x (Some at) is located there = record { shown = x; is = is; there = there; located = located }
+operated text i stop x (Some at) is located there = inl (record { shown = x; is = is; there = there; located = located })
 
 -- the note with a place, if there is one, as that of a stop
 pub noted_at :
@@ -65,9 +65,8 @@ noted_at types own lines given i stop at words None noted place = tt
 noted_at types own lines given i stop at words (Some note) noted place = (at, words, place, noted)
 
 -- the note of a stop, as that of the run that stops there
-pub noted_run : {A : Type 0} (types : List (List ℕ)) (own lines : List ℕ) (given : Given) (i : Inputs) (horizon steps : ℕ) (stop : FoundStop) {E : Type 0} (r : Result (Option (String A)) E) → IsStop i horizon steps stop
-    → IfOk r (λ o. IfSome o (λ note. IsNoteOfStop types own lines given i stop (string_bytes note)))
-    → IfOk r (λ o. IfSome o (λ note. IsNoteOfRun types own lines given i horizon steps (string_bytes note)))
-noted_run types own lines given i horizon steps stop (Ok None) is h = tt
-noted_run types own lines given i horizon steps stop (Ok (Some note)) is h = (stop, is, h)
-noted_run types own lines given i horizon steps stop (Err e) is h = tt
+pub noted_run :
+    {A : Type 0} (types : List (List ℕ)) (own lines : List ℕ) (given : Given) (i : Inputs) (horizon steps : ℕ) (stop : FoundStop) (o : Option (String A)) → IsStop i horizon steps stop
+    → IfSome o (λ note. IsNoteOfStop types own lines given i stop (string_bytes note)) → IfSome o (λ note. IsNoteOfRun types own lines given i horizon steps (string_bytes note))
+noted_run types own lines given i horizon steps stop None is h = tt
+noted_run types own lines given i horizon steps stop (Some note) is h = (stop, is, h)

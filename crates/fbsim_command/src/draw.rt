@@ -1,8 +1,8 @@
 //! Pictures of what is declared.
 
-ghost use Rattle.std.specs.Prelude.{◌≡◌, IfErr, IfNone, IfOk, IfSome, codes, false, map, option_map};
+ghost use Rattle.std.specs.Prelude.{◌≡◌, IfOk, false, map, option_map};
 ghost use Rattle.fb_types.specs.Headline.{inputs};
-ghost use Rattle.fbsim_command.specs.Drawing.{Draws, IsGraph, IsUndrawn, WritesGraph, graph_of};
+ghost use Rattle.fbsim_command.specs.Drawing.{Draws, WritesGraph, graph_of};
 
 use crate::Draw;
 use crate::failure::{Failure, RefusalLine};
@@ -37,25 +37,6 @@ fn graph(
     }
 }
 
-/// The graph of what the inputs declare.
-fn declared_graph(
-    alloc: Global,
-    inputs: &Inputs<'_>,
-    block_type: Option<&str>,
-) -> Result<Vec<u8>, Failure>
-    ensures graph { IfOk result (λ v. IsGraph inputs.now (option_map (λ t. t.now) block_type.entry) v.items) }
-    ensures none { IfErr result (IsUndrawn inputs.now (option_map (λ t. t.now) block_type.entry)) }
-{
-    let system = open(alloc, inputs)?;
-    let drawn = graph(alloc, &system, block_type);
-    // Dropped by one call: the end of its scope would prove the drop part by part.
-    discard(system);
-    match drawn? {
-        Some(text) => Ok(text),
-        None => Err(Failure::Refused(RefusalLine::Numbered(UNKNOWN))),
-    }
-}
-
 /// Writes the graph of what the inputs declare.
 fn write_graph<W: Write>(
     alloc: Global,
@@ -65,7 +46,13 @@ fn write_graph<W: Write>(
 ) -> Result<Done, Failure>
     ensures { WritesGraph inputs.now (option_map (λ t. t.now) block_type.entry) (W.contents out.old) (W.contents out.new) result }
 {
-    let text = declared_graph(alloc, inputs, block_type)?;
+    let system = open(alloc, inputs)?;
+    let drawn = graph(alloc, &system, block_type);
+    // Dropped by one call: the end of its scope would prove the drop part by part.
+    discard(system);
+    let Some(text) = drawn? else {
+        return Err(Failure::Refused(RefusalLine::Numbered(UNKNOWN)));
+    };
     write_text(out, text.as_slice())?;
     Ok(Done::Shown)
 }

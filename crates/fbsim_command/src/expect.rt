@@ -1,8 +1,8 @@
 //! Traces against rules, and against one another.
 
-ghost use Rattle.std.specs.Prelude.{◌≡◌, ◌&&◌, IfErr, IfOk, OnOk, length, nat_lt, option_map, string_bytes, true};
+ghost use Rattle.std.specs.Prelude.{◌≡◌, ◌&&◌, IfErr, IfOk, length, nat_lt, option_map, string_bytes, true};
 ghost use Rattle.fbsim_command.specs.Comparing.{Compares, Differs};
-ghost use Rattle.fbsim_command.specs.Expecting.{AreRules, AreUnheld, Expects, Holds, IsHeld, IsRefusedAt, IsUndeclared, IsUnheld, IsUnnamed, MayDeclare, Names, PutsAll, PutsOne, RefusesFor, Reports, cut_of, own_of, types_of};
+ghost use Rattle.fbsim_command.specs.Expecting.{AreRules, AreUnheld, Expects, Holds, IsHeld, IsRefusedAt, IsUndeclared, IsUnheld, MayDeclare, PutsAll, PutsOne, RefusesFor, Reports, cut_of, own_of, types_of};
 ghost use Rattle.fbsim_command.specs.OwnLines.{EndsIn};
 ghost use Rattle.fbsim_command.specs.Texts.{given_of, may_lines_of};
 
@@ -19,7 +19,7 @@ use fb_expect::{
     Cut, Judged, Of, Rule, TraceError, UNKNOWN_NAME, are_well, difference_text, judge, part, plan,
     put_points, read_rules,
 };
-use fb_sim::{Inputs, discard, open};
+use fb_sim::{discard, open};
 use fb_types::Items;
 use std::alloc::Global;
 use std::io::{BufRead, Write};
@@ -171,21 +171,6 @@ fn read_declared<S: Source>(
     }
 }
 
-/// Refuses rules that name what a declaration does not have.
-fn check_names(alloc: Global, inputs: &Inputs<'_>, rules: &[Rule]) -> Result<(), Failure>
-    ensures named { OnOk result (Names inputs.now rules.now true) }
-    ensures unnamed { IfErr result (IsUnnamed inputs.now rules.now) }
-{
-    let system = open(alloc, inputs)?;
-    let known = has_names(alloc, &system, rules);
-    // Dropped by one call: the end of its scope would prove the drop part by part.
-    discard(system);
-    if !known? {
-        return Err(Failure::Refused(RefusalLine::Numbered(UNKNOWN_NAME)));
-    }
-    Ok(())
-}
-
 /// The rules of bytes, whose names what is declared has, if something is.
 fn checked_rules(
     alloc: Global,
@@ -196,13 +181,17 @@ fn checked_rules(
     ensures refused { IfErr result (RefusesFor bytes.now (option_map given_of declared.now)) }
 {
     let rules = read_rules(alloc, bytes)?;
-    match declared {
-        Some(texts) => {
-            check_names(alloc, &texts.inputs(), rules.as_slice())?;
-            Ok(rules)
-        }
-        None => Ok(rules),
+    let Some(texts) = declared else {
+        return Ok(rules);
+    };
+    let system = open(alloc, &texts.inputs())?;
+    let known = has_names(alloc, &system, rules.as_slice());
+    // Dropped by one call: the end of its scope would prove the drop part by part.
+    discard(system);
+    if !known? {
+        return Err(Failure::Refused(RefusalLine::Numbered(UNKNOWN_NAME)));
     }
+    Ok(rules)
 }
 
 /// Holds the rules of bytes against the traces of a call, and writes the report.

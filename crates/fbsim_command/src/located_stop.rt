@@ -1,11 +1,9 @@
 //! Where a run stops, which is reported after the run if that is asked for.
 
 ghost use Rattle.std.specs.Prelude.{◌≡◌, ◌^◌, ◌≤◌, ◌++◌, ℕ, codes, List, Option, map, IfOk, IfSome, string_bytes};
-ghost use Rattle.fb_types.specs.Headline.{Inputs};
 ghost use Rattle.fb_sim.specs.Reports.{Hears};
-ghost use Rattle.fb_sim.specs.Serial.{Declares};
 ghost use Rattle.fb_stop.specs.Shown.{IsStopShown};
-ghost use Rattle.fbsim_command.specs.Stops.{AsksWhere, IsNoteAtStop, IsNoteOfRun, IsNoteOfStop, IsOperatorPlace, IsStopNote, IsStopPlace, ReportsStop};
+ghost use Rattle.fbsim_command.specs.Stops.{AsksWhere, IsNoteAtStop, IsNoteOfRun, IsStopNote, IsStopPlace, ReportsStop};
 ghost use Rattle.fbsim_command.specs.Texts.{given_of, lines_of};
 
 use crate::failure::Failure;
@@ -22,22 +20,6 @@ use fb_types::{LATEST_TICK, MOST_STEPS};
 use std::alloc::{AllocError, Global};
 use std::io::Write;
 
-/// The place of the operator of an operation.
-fn operator_place(
-    declaration: &[u8],
-    system: &System,
-    stop: &FoundStop,
-    shown: Option<Shown>,
-) -> Option<TextLocation>
-    requires { IfSome shown (IsStopShown declaration.now system.now stop.now) }
-    ensures { IfSome result (IsOperatorPlace declaration.now system.now stop.now) }
-{
-    match shown {
-        Some(shown) => location_at(declaration, shown.operator.start, shown.operator.end),
-        None => None,
-    }
-}
-
 /// Where a stop is shown in the text that declares the system, if it has a place there.
 fn place_of(
     alloc: Global,
@@ -49,8 +31,12 @@ fn place_of(
     requires { IfSome shown (IsStopShown declaration.now system.now stop.now) }
     ensures { IfOk result (IsStopPlace declaration.now system.now stop.now) }
 {
-    if let Some(at) = operator_place(declaration, system, stop, shown) {
-        return Ok(Some(at));
+    if let Some(shown) = shown {
+        // The place of the operator of an operation.
+        let at = location_at(declaration, shown.operator.start, shown.operator.end);
+        if at.is_some() {
+            return Ok(at);
+        }
     }
     match position_of(system, stop) {
         Some(position) => place_at(alloc, declaration, system.library(), position),
@@ -94,30 +80,8 @@ fn note_with(
     }
 }
 
-/// The note of a stop: its place, its words, the source line with a mark, and where the steps ran out, how they were
-/// used.
-fn note_of_found(
-    alloc: Global,
-    types: &[&str],
-    own: &str,
-    texts: &Texts,
-    system: &System,
-    horizon: u64,
-    steps: u64,
-    stop: &FoundStop,
-) -> Result<Option<String>, AllocError>
-    ensures { IfOk result (λ o. IfSome o (λ note. IsNoteOfStop (map (λ t. t.now) types.now) own.now (lines_of texts.now) (given_of texts.now) system.now stop.now (string_bytes note))) }
-{
-    let declaration = texts.declaration.as_slice();
-    let shown = shown_of(alloc, declaration, system, stop)?;
-    let at = place_of(alloc, declaration, system, stop, shown)?;
-    let words = words_of(alloc, system, stop, declaration, shown)?;
-    let spent = spent_words(alloc, system, horizon, steps, stop)?;
-    let matter = matter_of(alloc, declaration, at, words.as_str(), spent.as_str())?;
-    Ok(note_with(alloc, types, own, texts, at, matter))
-}
-
-/// The note of the stop of a system, if it stops below the horizon.
+/// The note of the stop of a system, if it stops below the horizon: its place, its words, the source line with a mark,
+/// and where the steps ran out, how they were used.
 fn note_in(
     alloc: Global,
     types: &[&str],
@@ -131,30 +95,16 @@ fn note_in(
     requires few { steps ≤ 10 ^ 7 }
     ensures { IfOk result (λ o. IfSome o (λ note. IsNoteOfRun (map (λ t. t.now) types.now) own.now (lines_of texts.now) (given_of texts.now) system.now horizon steps (string_bytes note))) }
 {
-    match find_stop(alloc, system, horizon, steps)? {
-        Some(stop) => note_of_found(alloc, types, own, texts, system, horizon, steps, &stop),
-        None => Ok(None),
-    }
-}
-
-/// The note of the stop of what is given.
-fn note_of_run(
-    alloc: Global,
-    types: &[&str],
-    own: &str,
-    texts: &Texts,
-    horizon: u64,
-    steps: u64,
-) -> Result<Option<String>, Failure>
-    requires early { horizon ≤ 10 ^ 12 }
-    requires few { steps ≤ 10 ^ 7 }
-    ensures { IfOk result (λ o. IfSome o (λ note. (i : Inputs) × Declares (given_of texts.now) i × IsNoteOfRun (map (λ t. t.now) types.now) own.now (lines_of texts.now) (given_of texts.now) i horizon steps (string_bytes note))) }
-{
-    let system = open(alloc, &texts.inputs())?;
-    let note = note_in(alloc, types, own, texts, &system, horizon, steps);
-    // Dropped by one call: the end of its scope would prove the drop part by part.
-    discard(system);
-    Ok(note?)
+    let Some(stop) = find_stop(alloc, system, horizon, steps)? else {
+        return Ok(None);
+    };
+    let declaration = texts.declaration.as_slice();
+    let shown = shown_of(alloc, declaration, system, &stop)?;
+    let at = place_of(alloc, declaration, system, &stop, shown)?;
+    let words = words_of(alloc, system, &stop, declaration, shown)?;
+    let spent = spent_words(alloc, system, horizon, steps, &stop)?;
+    let matter = matter_of(alloc, declaration, at, words.as_str(), spent.as_str())?;
+    Ok(note_with(alloc, types, own, texts, at, matter))
 }
 
 /// The note of the stop of a run. Without memory for it there is none.
@@ -171,7 +121,13 @@ fn note_of_stop(
     if horizon > LATEST_TICK || steps > MOST_STEPS {
         return None;
     }
-    match note_of_run(alloc, types, own, texts, horizon, steps) {
+    let Ok(system) = open(alloc, &texts.inputs()) else {
+        return None;
+    };
+    let note = note_in(alloc, types, own, texts, &system, horizon, steps);
+    // Dropped by one call: the end of its scope would prove the drop part by part.
+    discard(system);
+    match note {
         Ok(note) => note,
         Err(_) => None,
     }
@@ -202,30 +158,8 @@ fn line_of(alloc: Global, note: &String) -> Result<String, AllocError>
     Ok(format!(in alloc; "{note}\n")?)
 }
 
-/// Reports where a run stopped, if that is asked for. It says whether standard error took it all.
-fn report_stop<E: Write>(
-    alloc: Global,
-    types: &[&str],
-    task: &Task<'_>,
-    end: &Result<Done, Failure>,
-    texts: &Texts,
-    err: &mut E,
-) -> bool
-    ensures { (report : List ℕ) × Hears result (E.contents err.old) (E.contents err.new) report × ReportsStop (map (λ t. t.now) types.now) task.now (lines_of texts.now) (given_of texts.now) end.now report }
-{
-    let Some((horizon, steps)) = asked(task, end) else {
-        return true;
-    };
-    let Some(note) = note_of_stop(alloc, types, task.declaration, texts, horizon, steps) else {
-        return true;
-    };
-    match line_of(alloc, &note) {
-        Ok(line) => report_lines(err, line.as_bytes()),
-        Err(_) => true,
-    }
-}
-
-/// The same as `report_stop`, after other reports, of which standard error took all or not.
+/// Reports where a run stopped, if that is asked for, after other reports, of which standard error took all or not. It
+/// says whether it took all of them and this one.
 pub(crate) fn report_stop_after<E: Write>(
     alloc: Global,
     types: &[&str],
@@ -241,5 +175,14 @@ pub(crate) fn report_stop_after<E: Write>(
     if !is_heard {
         return false;
     }
-    report_stop(alloc, types, task, end, texts, err)
+    let Some((horizon, steps)) = asked(task, end) else {
+        return true;
+    };
+    let Some(note) = note_of_stop(alloc, types, task.declaration, texts, horizon, steps) else {
+        return true;
+    };
+    match line_of(alloc, &note) {
+        Ok(line) => report_lines(err, line.as_bytes()),
+        Err(_) => true,
+    }
 }

@@ -1,7 +1,6 @@
 //! The lines of warnings, with their places.
 
-ghost use Rattle.std.specs.Prelude.{◌≡◌, ◌⊎◌, [], IfOk, map, option_map, string_bytes};
-ghost use Rattle.std.specs.List.{AllZip};
+ghost use Rattle.std.specs.Prelude.{◌≡◌, ◌⊎◌, [], IfOk, option_map, string_bytes};
 ghost use Rattle.fb_lint.specs.Positions.{position_of};
 ghost use Rattle.fb_types.specs.declared.library.Library.{Library};
 ghost use Rattle.fb_read_positions.specs.Locations.{IsPlaceFor};
@@ -100,19 +99,20 @@ fn push_line(
     Ok(())
 }
 
-/// The lines of warnings, each with its location in the declaration at the same index.
-fn lines_at(
+/// The lines of warnings, with their places in the text of the declaration, which is read again for all of them.
+pub(crate) fn all_lines(
     alloc: Global,
     naming: &Naming<'_, '_, '_>,
     inputs: &Inputs<'_>,
     library: &Library,
     plan: &Plan,
     warnings: &[Warning],
-    places: &[Option<TextLocation>],
 ) -> Result<Vec<u8>, AllocError>
-    requires { AllZip (IsPlaceFor inputs.now.declaration library.now) (map position_of warnings.now) places.now }
     ensures { IfOk result (λ text. AreLines (naming_of naming.now) inputs.now library.now warnings.now text.items) }
 {
+    let positions = positions_of(alloc, warnings)?;
+    let places = places_of(alloc, inputs.declaration, library, positions.as_slice())?;
+    let places = places.as_slice();
     let mut text = Vec::new(alloc);
     for index in 0..warnings.len() {
         push_line(
@@ -127,28 +127,4 @@ fn lines_at(
         )?;
     }
     Ok(text)
-}
-
-/// The lines of warnings, with their places in the text of the declaration, which is read again for all of them.
-pub(crate) fn all_lines(
-    alloc: Global,
-    naming: &Naming<'_, '_, '_>,
-    inputs: &Inputs<'_>,
-    library: &Library,
-    plan: &Plan,
-    warnings: &[Warning],
-) -> Result<Vec<u8>, AllocError>
-    ensures { IfOk result (λ text. AreLines (naming_of naming.now) inputs.now library.now warnings.now text.items) }
-{
-    let positions = positions_of(alloc, warnings)?;
-    let places = places_of(alloc, inputs.declaration, library, positions.as_slice())?;
-    lines_at(
-        alloc,
-        naming,
-        inputs,
-        library,
-        plan,
-        warnings,
-        places.as_slice(),
-    )
 }

@@ -1,10 +1,15 @@
-use Rattle.std.proofs.Common.{List, true, option_map, ap, subst}
+use Rattle.std.proofs.Common.{◌∙◌, inr, option_map, ap, refl, subst, sym}
+use Rattle.fb_types.specs.Headline.{system_of}
 use Rattle.fb_sim.specs.Given.{Given}
-use Rattle.fb_expect.specs.declared.rule.Rule.{Rule}
-use Rattle.fbsim_command.specs.Expecting.{IsUnnamed, Names, RefusesFor}
+use Rattle.fb_sim.specs.Serial.{Declares}
+use Rattle.fbsim_command.specs.Expecting.{IsUnnamed, RefusesFor}
+use Rattle.fbsim_command.specs.Failures.{failure_of}
+use Rattle.fbsim_command.specs.Known.{has_names}
 use Rattle.fbsim_command.specs.Texts.{given_of}
+use Rattle.fbsim_command.specs.declared.failure.Failure.TheVariants.{Refused}
+use Rattle.fbsim_command.specs.declared.failure.RefusalLine.TheVariants.{Numbered}
 use Rattle.fbsim_command.proofs.Holding.{passed-on}
-use Rattle.fbsim_command.proofs.Naming.{alone, named, refused-rules, unnamed}
+use Rattle.fbsim_command.proofs.Naming.{alone, named, refused-inputs, refused-rules, unnamed}
 use Rattle.fbsim_command.proofs.expect.checked_rules.Goals as goal
 
 pub returns-in_err-rules-clause-refused : goal.returns-in_err-rules-clause-refused
@@ -13,21 +18,38 @@ returns-in_err-rules-clause-refused c =
     passed-on c.from_residual.result _ (RefusesFor c.args.bytes.now declared) c.from_residual.ensures.1
     (refused-rules c.args.bytes.now declared c.in_err-rules.field-0.0 c.in_err-rules.ensures)
 
-pub returns-in_err-check_names-in-Some-clause-refused : goal.returns-in_err-check_names-in-Some-clause-refused
-returns-in_err-check_names-in-Some-clause-refused c =
+pub returns-in_err-system-clause-refused : goal.returns-in_err-system-clause-refused
+returns-in_err-system-clause-refused c =
     let declared = option_map given_of c.args.declared.now in
-    let f = c.in_err-check_names-in-Some.field-0.0 in
     let rs = c.in_ok-rules.rules in
-    passed-on c.from_residual-in_err-check_names-in-Some.result _ (RefusesFor c.args.bytes.now declared) c.from_residual-in_err-check_names-in-Some.ensures.1
+    let f = failure_of c.in_err-system.field-0.0 in
+    passed-on c.from_residual-in_err-system.result f (RefusesFor c.args.bytes.now declared) c.from_residual-in_err-system.ensures.1
     (unnamed c.args.bytes.now declared (given_of c.in-Some.texts) rs f (ap (option_map given_of) c.in-Some.is) c.in_ok-rules.ensures
-    (subst (λ (g : Given). IsUnnamed g rs f) c.inputs.ensures (subst (λ (xs : List Rule). IsUnnamed c.inputs.result xs f) c.as_slice.ensures c.in_err-check_names-in-Some.ensures.unnamed)))
+    (subst (λ (g : Given). IsUnnamed g rs f) c.inputs.ensures (refused-inputs c.inputs.result rs c.in_err-system.field-0.0 c.in_err-system.ensures.refused)))
 
-pub returns-in_ok-check_names-in-Some-clause-rules : goal.returns-in_ok-check_names-in-Some-clause-rules
-returns-in_ok-check_names-in-Some-clause-rules c =
-    let rs = c.in_ok-rules.rules in
-    named c.args.bytes.now (option_map given_of c.args.declared.now) (given_of c.in-Some.texts) rs (ap (option_map given_of) c.in-Some.is) c.in_ok-rules.ensures
-    (subst (λ (g : Given). Names g rs true) c.inputs.ensures (subst (λ (xs : List Rule). Names c.inputs.result xs true) c.as_slice.ensures c.in_ok-check_names-in-Some.ensures.named))
+pub returns-then-not-branch-clause-refused : goal.returns-then-not-branch-clause-refused
+returns-then-not-branch-clause-refused c =
+    let i = c.in_ok-system.system in
+    unnamed c.args.bytes.now (option_map given_of c.args.declared.now) (given_of c.in-Some.texts) c.in_ok-rules.rules (Refused (Numbered 45)) (ap (option_map given_of) c.in-Some.is)
+    c.in_ok-rules.ensures
+    (inr (
+      (
+        i,
+        subst (λ (g : Given). Declares g i) c.inputs.ensures c.in_ok-system.ensures.system,
+        ap (has_names (system_of i)) (sym c.as_slice.ensures) ∙ sym c.in_ok-known.ensures ∙ c.if-not-branch.true,
+      ),
+      refl,
+    ))
 
-pub returns-in-None-clause-rules : goal.returns-in-None-clause-rules
-returns-in-None-clause-rules c =
-    alone c.args.bytes.now (option_map given_of c.args.declared.now) c.in_ok-rules.rules (ap (option_map given_of) c.in-None.is) c.in_ok-rules.ensures
+pub returns-clause-rules : goal.returns-clause-rules
+returns-clause-rules c =
+    let i = c.in_ok-system.system in
+    named c.args.bytes.now (option_map given_of c.args.declared.now) (given_of c.in-Some.texts) c.in_ok-rules.rules (ap (option_map given_of) c.in-Some.is) c.in_ok-rules.ensures (
+      i,
+      subst (λ (g : Given). Declares g i) c.inputs.ensures c.in_ok-system.ensures.system,
+      ap (has_names (system_of i)) (sym c.as_slice.ensures) ∙ sym c.in_ok-known.ensures ∙ c.if-not-branch.false,
+    )
+
+pub returns-in_default-clause-rules : goal.returns-in_default-clause-rules
+returns-in_default-clause-rules c =
+    alone c.args.bytes.now (option_map given_of c.args.declared.now) c.in_ok-rules.rules (ap (option_map given_of) c.in_default.is) c.in_ok-rules.ensures

@@ -1,9 +1,14 @@
-use Rattle.std.proofs.Common.{inl}
-use Rattle.fbsim_command.proofs.Located.{placed}
+use Rattle.std.proofs.Common.{Option, IfSome, subst}
+use Rattle.fb_stop.specs.Shown.{IsStopShown}
+use Rattle.fb_stop.specs.declared.shown.Shown.{Shown}
+use Rattle.fbsim_command.proofs.Located.{operated, placed}
 use Rattle.fbsim_command.proofs.located_stop.place_of.Goals as goal
 
-pub returns-in-Some : goal.returns-in-Some
-returns-in-Some c = inl c.in-Some.ensures
+pub returns-then-is_some : goal.returns-then-is_some
+returns-then-is_some c =
+    operated c.args.declaration.now c.args.system.now c.args.stop.now c.in-Some.shown c.location_at-at.result
+    (subst (λ (o : Option Shown). IfSome o (IsStopShown c.args.declaration.now c.args.system.now c.args.stop.now)) c.in-Some.is c.requires)
+    c.location_at-at.ensures.location c.location_at-at.ensures.there
 
 pub returns-in-Some-position_of : goal.returns-in-Some-position_of
 returns-in-Some-position_of c =

@@ -1,21 +1,37 @@
-use Rattle.std.proofs.Common.{[], Bool, List, ℕ, inl, refl, subst}
+use Rattle.std.proofs.Common.{◌≡◌, ◌++◌, ◌∙◌, [], Bool, List, ℕ, false, true, inl, inr, refl, string_bytes, subst}
 use Rattle.fb_sim.specs.Reports.{Hears}
 use Rattle.fbsim_command.specs.Outcomes.{Held}
 use Rattle.fbsim_command.proofs.Located.{hears_after, hears_no_more}
 use Rattle.fbsim_command.proofs.located_stop.report_stop_after.Goals as goal
 
+-- nothing more is reported
+nothing_more : (is_heard now : Bool) (err : Held) → is_heard ≡ now → (old : Held) (first : List ℕ) → Hears is_heard old err first → Hears now old err (first ++ [])
+nothing_more is_heard now err is old first h = hears_no_more old err first now (subst (λ (b : Bool). Hears b old err first) is h)
+
 pub returns-then-not-is_heard : goal.returns-then-not-is_heard
-returns-then-not-is_heard g c = (
-  [],
-  inl refl,
-  λ (old : Held) (first : List ℕ) h. hears_no_more old (g.E.Write.contents c.args.err.now) first _ (subst (λ (b : Bool). Hears b old (g.E.Write.contents c.args.err.now) first) c.if-not-is_heard.true h),
+returns-then-not-is_heard g c = ([], inl refl, nothing_more c.args.is_heard false (g.E.Write.contents c.args.err.now) c.if-not-is_heard.true)
+
+pub returns-in_default : goal.returns-in_default
+returns-in_default g c = ([], inl refl, nothing_more c.args.is_heard true (g.E.Write.contents c.args.err.now) c.if-not-is_heard.false)
+
+pub returns-in_default-note_of_stop : goal.returns-in_default-note_of_stop
+returns-in_default-note_of_stop g c = ([], inl refl, nothing_more c.args.is_heard true (g.E.Write.contents c.args.err.now) c.if-not-is_heard.false)
+
+pub returns-in-Ok : goal.returns-in-Ok
+returns-in-Ok g c = (
+  c.as_bytes.result.now,
+  inr (record {
+    horizon = c.in-Some.horizon;
+    steps = c.in-Some.steps;
+    asks = c.in-Some.ensures;
+    note = string_bytes c.in-Some-note_of_stop.note;
+    is = c.in-Some-note_of_stop.ensures;
+    line = c.as_bytes.ensures.value ∙ c.in-Ok.ensures;
+  }),
+  λ (old : Held) (first : List ℕ) h.
+      hears_after old (g.E.Write.contents c.args.err.now) (g.E.Write.contents c.report_lines.new.err) first c.as_bytes.result.now c.report_lines.result
+      (subst (λ (b : Bool). Hears b old (g.E.Write.contents c.args.err.now) first) c.if-not-is_heard.false h) c.report_lines.ensures,
 )
 
 pub returns : goal.returns
-returns g c = (
-  c.report_stop.ensures.0,
-  c.report_stop.ensures.2,
-  λ (old : Held) (first : List ℕ) h.
-      hears_after old (g.E.Write.contents c.args.err.now) (g.E.Write.contents c.report_stop.new.err) first c.report_stop.ensures.0 c.report_stop.result
-      (subst (λ (b : Bool). Hears b old (g.E.Write.contents c.args.err.now) first) c.if-not-is_heard.false h) c.report_stop.ensures.1,
-)
+returns g c = ([], inl refl, nothing_more c.args.is_heard true (g.E.Write.contents c.args.err.now) c.if-not-is_heard.false)
