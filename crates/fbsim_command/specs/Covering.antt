@@ -9,7 +9,6 @@ use Rattle.fb_inspect.specs.Covering.{Covers}
 use Rattle.fb_inspect.specs.declared.walk.Extent.{Extent}
 use Rattle.fb_inspect.specs.declared.walk.Extent.TheVariants.{Whole, CutOff}
 use Rattle.fb_wave.specs.declared.truncation.Cut.{Cut}
-use Rattle.fb_wave.specs.declared.truncation.Cut.TheVariants as cut
 use Rattle.fb_sim.specs.Given.{Given}
 use Rattle.fb_sim.specs.Serial.{Declares}
 use Rattle.fbsim_command.specs.Expecting.{IsNoTrace}
@@ -18,15 +17,15 @@ use Rattle.fbsim_command.specs.InsideNotes.{SaysLine}
 use Rattle.fbsim_command.specs.Notes.{IsFileNote, Notes, NotesOf}
 use Rattle.fbsim_command.specs.Outcomes.{End, Held, IsRefused}
 use Rattle.fbsim_command.specs.OwnLines.{EndsIn}
-use Rattle.fbsim_command.specs.Reading.{Reading, AreRead, IsUnread}
+use Rattle.fbsim_command.specs.Reading.{Reading, AreRead, IsUnread, checked}
 use Rattle.fbsim_command.specs.Showing.{Opening}
+use Rattle.fbsim_command.specs.Texts.{may_be_cut}
 use Rattle.fbsim_command.specs.declared.coverage_line.Coverage.{Coverage}
 use Rattle.fbsim_command.specs.declared.coverage.Gleaned.{Gleaned}
 use Rattle.fbsim_command.specs.declared.failure.Failure.{Failure}
 use Rattle.fbsim_command.specs.declared.failure.Failure.TheVariants.{Refused, RefusedTrace, File, Write, Memory, Line, BadOption}
 use Rattle.fbsim_command.specs.declared.failure.RefusalLine.{RefusalLine}
 use Rattle.fbsim_command.specs.declared.failure.RefusalLine.TheVariants.{Trace}
-use Rattle.fbsim_command.specs.declared.line.Action.TheVariants.{Check}
 use Rattle.fbsim_command.specs.declared.line.Task.{Task}
 use Rattle.fbsim_command.specs.declared.sources.SourceFault.{SourceFault}
 use Rattle.fbsim_command.specs.declared.statuses.Done.TheVariants.{Helped, Explained, Accepted, Shown, Ended, Stopped, Met, Unmet, Same, Different}
@@ -34,7 +33,7 @@ use Rattle.fbsim_command.specs.declared.texts.Part.{Part}
 
 -- the call that checks what traces are of
 abbrev pub files_of : Coverage → Task
-files_of x = record { action = Check false; declaration = x.declaration; deploy = x.deploy; stimuli = None; why = x.why }
+files_of x = checked x.declaration x.deploy x.why
 
 abbrev pub names_of : Coverage → List Text
 names_of x = map (λ t. t.now) x.traces.items
@@ -47,7 +46,7 @@ are_several x = nat_lt 1 (length x.traces.items)
 
 -- whether traces may be cut off
 abbrev pub cut_of : Coverage → Cut
-cut_of x = if x.is_cut then cut.Allowed else cut.Refused
+cut_of x = may_be_cut x.is_cut
 
 -- one more that is cut off, or not
 abbrev pub cut_count : Extent → ℕ → ℕ

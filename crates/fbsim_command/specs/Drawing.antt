@@ -10,12 +10,11 @@ use Rattle.fb_sim.specs.Serial.{Declares}
 use Rattle.fbsim_command.specs.Failures.{IsPartWritten, failure_of_source}
 use Rattle.fbsim_command.specs.Outcomes.{End, Held, IsRefused}
 use Rattle.fbsim_command.specs.OwnLines.{EndsIn}
-use Rattle.fbsim_command.specs.Reading.{Reading, AreRead, IsUnread}
+use Rattle.fbsim_command.specs.Reading.{Reading, AreRead, IsUnread, checked}
 use Rattle.fbsim_command.specs.declared.draw_line.Draw.{Draw}
 use Rattle.fbsim_command.specs.declared.failure.Failure.{Failure}
 use Rattle.fbsim_command.specs.declared.failure.Failure.TheVariants.{Refused, RefusedTrace, File, Write, Memory, Line, BadOption}
 use Rattle.fbsim_command.specs.declared.failure.RefusalLine.TheVariants.{Numbered}
-use Rattle.fbsim_command.specs.declared.line.Action.TheVariants.{Check}
 use Rattle.fbsim_command.specs.declared.line.Task.{Task}
 use Rattle.fbsim_command.specs.declared.sources.SourceFault.{SourceFault}
 use Rattle.fbsim_command.specs.declared.statuses.Done.TheVariants.{Helped, Explained, Accepted, Shown, Ended, Stopped, Met, Unmet, Same, Different}
@@ -23,7 +22,7 @@ use Rattle.fbsim_command.specs.declared.texts.Part.{Part}
 
 -- the call that checks what is drawn
 abbrev pub files_of : Draw → Task
-files_of d = record { action = Check false; declaration = d.declaration; deploy = d.deploy; stimuli = None; why = false }
+files_of d = checked d.declaration d.deploy false
 
 -- the text that names a type, if one does
 abbrev pub type_asked : Draw → Option Text

@@ -23,14 +23,13 @@ use Rattle.fbsim_command.specs.InputNotes.{FileNames}
 use Rattle.fbsim_command.specs.Notes.{IsFileNote, IsNoteOfName, IsNoteOfNumber, Notes, number_of}
 use Rattle.fbsim_command.specs.Outcomes.{End, Held, IsRefused}
 use Rattle.fbsim_command.specs.OwnLines.{EndsIn}
-use Rattle.fbsim_command.specs.Reading.{Reading, AreRead, IsUnread}
+use Rattle.fbsim_command.specs.Reading.{Reading, AreRead, IsUnread, checked}
 use Rattle.fbsim_command.specs.Showing.{Opening}
 use Rattle.fbsim_command.specs.declared.bench_line.Expect.{Expect}
 use Rattle.fbsim_command.specs.declared.failure.Failure.{Failure}
 use Rattle.fbsim_command.specs.declared.failure.Failure.TheVariants.{Refused, RefusedTrace, File, Write, Memory, Line, BadOption}
 use Rattle.fbsim_command.specs.declared.failure.RefusalLine.{RefusalLine}
 use Rattle.fbsim_command.specs.declared.failure.RefusalLine.TheVariants.{Numbered}
-use Rattle.fbsim_command.specs.declared.line.Action.TheVariants.{Check}
 use Rattle.fbsim_command.specs.declared.line.Task.{Task}
 use Rattle.fbsim_command.specs.declared.sources.SourceFault.{SourceFault}
 use Rattle.fbsim_command.specs.declared.statuses.Done.TheVariants.{Helped, Explained, Accepted, Shown, Ended, Stopped, Met, Unmet, Same, Different}
@@ -40,7 +39,7 @@ use Rattle.fbsim_command.specs.declared.texts.Part.{Part}
 
 -- the call that checks the declaration in which the names of the rules must be
 abbrev pub files_of : Expect → Bor Text → Task
-files_of x declaration = record { action = Check false; declaration = declaration; deploy = x.deploy; stimuli = None; why = x.why }
+files_of x declaration = checked declaration x.deploy x.why
 
 -- one byte more than rules may have
 abbrev pub asked_rules : ℕ

@@ -1,11 +1,10 @@
 -- What a call that inspects a trace does (docs/FORMATS.md, "Inside a trace"; this project's own).
-use Rattle.std.specs.Prelude.{◌≡◌, ◌⊎◌, ℕ, List, false, if◌then◌else◌, map, Option, None, IfSome, Ok, Err}
+use Rattle.std.specs.Prelude.{◌≡◌, ◌⊎◌, ℕ, List, map, Option, IfSome, Ok, Err}
 use Rattle.std.specs.Char.{to_ascii_uppercase}
 use Rattle.clap.specs.Words.{Text}
 use Rattle.fb_types.specs.Headline.{Inputs, system_of}
 use Rattle.fb_inspect.specs.Inspections.{IsShownBy, ShowsFront}
 use Rattle.fb_wave.specs.declared.truncation.Cut.{Cut}
-use Rattle.fb_wave.specs.declared.truncation.Cut.TheVariants as cut
 use Rattle.fb_sim.specs.Given.{Given}
 use Rattle.fb_sim.specs.Serial.{Declares}
 use Rattle.fbsim_command.specs.Failures.{failure_of_source}
@@ -13,11 +12,11 @@ use Rattle.fbsim_command.specs.InsideNotes.{IsOpenNote, NotesInside}
 use Rattle.fbsim_command.specs.Notes.{IsFileNote, Notes, NotesOf}
 use Rattle.fbsim_command.specs.Outcomes.{End, Held, IsRefused}
 use Rattle.fbsim_command.specs.OwnLines.{EndsIn}
-use Rattle.fbsim_command.specs.Reading.{Reading, AreRead, IsUnread}
+use Rattle.fbsim_command.specs.Reading.{Reading, AreRead, IsUnread, checked}
 use Rattle.fbsim_command.specs.Showing.{Opening}
+use Rattle.fbsim_command.specs.Texts.{may_be_cut}
 use Rattle.fbsim_command.specs.declared.failure.Failure.TheVariants.{Refused, RefusedTrace, File, Write, Memory, Line, BadOption}
 use Rattle.fbsim_command.specs.declared.inspect_line.Inspect.{Inspect}
-use Rattle.fbsim_command.specs.declared.line.Action.TheVariants.{Check}
 use Rattle.fbsim_command.specs.declared.line.Task.{Task}
 use Rattle.fbsim_command.specs.declared.sources.SourceFault.{SourceFault}
 use Rattle.fbsim_command.specs.declared.statuses.Done.TheVariants.{Helped, Explained, Accepted, Shown, Ended, Stopped, Met, Unmet, Same, Different}
@@ -25,11 +24,11 @@ use Rattle.fbsim_command.specs.declared.texts.Part.{Part}
 
 -- the call that checks what a trace is of
 abbrev pub files_of : Inspect → Task
-files_of x = record { action = Check false; declaration = x.declaration; deploy = x.deploy; stimuli = None; why = x.why }
+files_of x = checked x.declaration x.deploy x.why
 
 -- whether the trace may be cut off
 abbrev pub cut_of : Inspect → Cut
-cut_of x = if x.is_cut then cut.Allowed else cut.Refused
+cut_of x = may_be_cut x.is_cut
 
 -- the paths of the instances that are shown, in upper case
 abbrev pub upper : Text → Text

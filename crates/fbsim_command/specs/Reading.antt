@@ -1,10 +1,12 @@
 -- The files of a call, in the order in which they are read (this project's own).
-use Rattle.std.specs.Prelude.{◌≡◌, ◌⊎◌, ◌+◌, ℕ, List, [], ◌∷◌, ◌++◌, length, map, Option, Some, None, option_map, Result, Ok, Err}
+use Rattle.std.specs.Prelude.{◌≡◌, ◌⊎◌, ◌+◌, ℕ, Bool, false, List, [], ◌∷◌, ◌++◌, length, map, Option, Some, None, option_map, Result, Ok, Err}
+use Rattle.std.specs.Borrow.{Bor}
 use Rattle.clap.specs.Words.{Text}
 use Rattle.fb_read.specs.Whole.{most_bytes}
 use Rattle.fb_inputs.specs.Stimuli as stimuli
 use Rattle.fb_sim.specs.Given.{Given}
 use Rattle.fbsim_command.specs.Joining.{line_count, text_of}
+use Rattle.fbsim_command.specs.declared.line.Action.TheVariants.{Check}
 use Rattle.fbsim_command.specs.declared.line.Task.{Task}
 use Rattle.fbsim_command.specs.declared.sources.SourceFault.{SourceFault}
 use Rattle.fbsim_command.specs.declared.sources.SourceFault.TheVariants as source
@@ -36,6 +38,10 @@ deploy_named c = option_map (λ n. n.now) c.deploy
 
 abbrev pub stimuli_named : Task → Option Text
 stimuli_named c = option_map (λ n. n.now) c.stimuli
+
+-- the check of a declaration with its deployment, whose files other calls read
+abbrev pub checked : Bor Text → Option (Bor Text) → (why : Bool) → Task
+checked declaration deploy why = record { action = Check false; declaration = declaration; deploy = deploy; stimuli = None; why = why }
 
 -- ---- The declaration
 

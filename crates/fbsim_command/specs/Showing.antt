@@ -1,5 +1,5 @@
 -- What a call for the waveforms of a trace does (this project's own).
-use Rattle.std.specs.Prelude.{◌≡◌, ◌⊎◌, ℕ, Bool, true, false, List, None, Option, Result, Ok, Err, IfSome, if◌then◌else◌, codes}
+use Rattle.std.specs.Prelude.{◌≡◌, ◌⊎◌, ℕ, Bool, true, false, List, Option, Result, Ok, Err, IfSome, codes}
 use Rattle.clap.specs.Words.{Text}
 use Rattle.fb_types.specs.Headline.{Inputs, system_of}
 use Rattle.fb_sim.specs.Given.{Given}
@@ -8,9 +8,7 @@ use Rattle.fb_wave.specs.CutOff.{BlamesShown, FailsShown, IsShown}
 use Rattle.fb_wave.specs.Waves.{WritesFront}
 use Rattle.fb_wave.specs.declared.error.WaveError.TheVariants as wave
 use Rattle.fb_wave.specs.declared.truncation.Cut.{Cut}
-use Rattle.fb_wave.specs.declared.truncation.Cut.TheVariants as cut
 use Rattle.fbsim_command.specs.declared.line.Task.{Task}
-use Rattle.fbsim_command.specs.declared.line.Action.TheVariants.{Check}
 use Rattle.fbsim_command.specs.declared.line.Wave.{Wave}
 use Rattle.fbsim_command.specs.Failures.{failure_of_source}
 use Rattle.fbsim_command.specs.InsideNotes.{NotesInside}
@@ -18,8 +16,9 @@ use Rattle.fbsim_command.specs.LineNotes.{NotesLine}
 use Rattle.fbsim_command.specs.Notes.{IsFileNote, IsNoteOfName, Notes, NotesOf}
 use Rattle.fbsim_command.specs.Outcomes.{End, Held, IsRefused}
 use Rattle.fbsim_command.specs.OwnLines.{EndsIn}
-use Rattle.fbsim_command.specs.Reading.{Reading, AreRead, IsUnread}
+use Rattle.fbsim_command.specs.Reading.{Reading, AreRead, IsUnread, checked}
 use Rattle.fbsim_command.specs.StateDumping.{DumpsStates}
+use Rattle.fbsim_command.specs.Texts.{may_be_cut}
 use Rattle.fbsim_command.specs.declared.failure.Failure.TheVariants.{Refused, RefusedTrace, File, Write, Memory, Line, BadOption}
 use Rattle.fbsim_command.specs.declared.failure.RefusalLine.{RefusalLine}
 use Rattle.fbsim_command.specs.declared.failure.RefusalLine.TheVariants.{Trace}
@@ -33,12 +32,9 @@ Opening S = S → Text → Result (Option Text) SourceFault → S → Type 0
 
 -- the call that checks what a trace is of
 abbrev pub files_of : Wave → Task
-files_of w = record { action = Check false; declaration = w.declaration; deploy = w.deploy; stimuli = None; why = w.why }
+files_of w = checked w.declaration w.deploy w.why
 
 -- whether the trace may be cut off
-abbrev pub may_be_cut : Bool → Cut
-may_be_cut is_cut = if is_cut then cut.Allowed else cut.Refused
-
 abbrev pub cut_of : Wave → Cut
 cut_of w = may_be_cut w.is_cut
 

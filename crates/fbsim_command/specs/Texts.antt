@@ -1,7 +1,9 @@
 -- The files of a call, as they were read (this project's own).
-use Rattle.std.specs.Prelude.{ℕ, List, map, [], Option, Some, None, option_map, Result, Ok, Err}
+use Rattle.std.specs.Prelude.{ℕ, Bool, if◌then◌else◌, List, map, [], Option, Some, None, option_map, Result, Ok, Err}
 use Rattle.std.specs.Global.{Vec}
 use Rattle.fb_sim.specs.Given.{Given}
+use Rattle.fb_wave.specs.declared.truncation.Cut.{Cut}
+use Rattle.fb_wave.specs.declared.truncation.Cut.TheVariants as cut
 use Rattle.fbsim_command.specs.declared.texts.Texts.{Texts}
 use Rattle.fbsim_command.specs.declared.sources.SourceFault.{SourceFault}
 
@@ -30,3 +32,7 @@ may_lines_of (Some t) = lines_of t
 abbrev pub contents_of : Result (Option (Vec ℕ)) SourceFault → Result (Option (List ℕ)) SourceFault
 contents_of (Ok o) = Ok (option_map (λ v. v.items) o)
 contents_of (Err fault) = Err fault
+
+-- whether traces may be cut off
+abbrev pub may_be_cut : Bool → Cut
+may_be_cut is_cut = if is_cut then cut.Allowed else cut.Refused

@@ -3,7 +3,7 @@
 ghost use Rattle.std.specs.Prelude.{◌≡◌, ◌++◌, IfErr, IfOk, IfSome, OnOk, codes, decimal, map, option_map, string_bytes};
 ghost use Rattle.fbsim_command.specs.declared.coverage.Gleaned.{Gleaned};
 ghost use Rattle.fbsim_command.specs.Covering as spec;
-ghost use Rattle.fbsim_command.specs.Covering.{AreGoneThrough, AreStopped, GoesThrough, IsFirst, IsReport, IsStopped, IsUnreported, NotesTrace, RefusesAt, ReportsCoverage, WritesReport, are_several, coverage_text, cut_line, note_front};
+ghost use Rattle.fbsim_command.specs.Covering.{AreGoneThrough, AreStopped, GoesThrough, IsStopped, NotesTrace, RefusesAt, ReportsCoverage, WritesReport, are_several, coverage_text, cut_line, note_front};
 
 use crate::Coverage;
 use crate::expect::refused_trace;
@@ -15,8 +15,7 @@ use crate::output::write_text;
 use crate::own_lines::end_with;
 use crate::sources::{Source, Streams};
 use crate::statuses::Done;
-use crate::texts::{files_of, read_files};
-use crate::wave::cut_of;
+use crate::texts::{cut_of, files_of, read_files};
 use fb_coverage::{Marks, report_of};
 use fb_inspect::{Covered, Extent, InspectError, RefusedLine, Terms, cover};
 use fb_sim::{Inputs, discard, open};
@@ -54,16 +53,6 @@ impl Gleaned {
         let Gleaned { marks, cut } = self;
         (marks, cut)
     }
-}
-
-/// Before the first trace.
-fn nothing_gleaned(alloc: Global, system: &System) -> Result<Gleaned, AllocError>
-    ensures { IfOk result (IsFirst system.now) }
-{
-    Ok(Gleaned {
-        marks: Marks::of(alloc, system)?,
-        cut: 0,
-    })
 }
 
 /// The failure for a trace that is refused at this line.
@@ -179,7 +168,10 @@ fn cover_all<S: Streams>(
     ensures stopped { IfErr result (AreStopped S.opens system.now coverage.now source.old source.new) }
     ensures noted { NotesTrace coverage.now (option_map string_bytes note.old) → NotesTrace coverage.now (option_map string_bytes note.new) }
 {
-    let mut gleaned = nothing_gleaned(alloc, system)?;
+    let mut gleaned = Gleaned {
+        marks: Marks::of(alloc, system)?,
+        cut: 0,
+    };
     for name in &coverage.traces {
         gleaned = cover_one(alloc, system, coverage, name, gleaned, note, source)?;
     }
@@ -204,20 +196,6 @@ fn put_cut(alloc: Global, text: &mut Vec<u8>, cut: u64, traces: usize) -> Result
     text.extend_from_slice(line.as_bytes())
 }
 
-/// The report of what was gleaned from the traces of a system.
-fn text_of(
-    alloc: Global,
-    system: &System,
-    coverage: &Coverage<'_>,
-    gleaned: &Gleaned,
-) -> Result<Vec<u8>, AllocError>
-    ensures { IfOk result (λ text. text.items ≡ coverage_text system.now coverage.now gleaned.now) }
-{
-    let mut text = report_of(alloc, system, &gleaned.marks)?;
-    put_cut(alloc, &mut text, gleaned.cut, coverage.traces.len())?;
-    Ok(text)
-}
-
 /// The report of what the traces of a system cover.
 fn report<S: Streams>(
     alloc: Global,
@@ -232,26 +210,9 @@ fn report<S: Streams>(
     ensures noted { NotesTrace coverage.now (option_map string_bytes note.old) → NotesTrace coverage.now (option_map string_bytes note.new) }
 {
     let gleaned = cover_all(alloc, system, coverage, note, source)?;
-    Ok(text_of(alloc, system, coverage, &gleaned)?)
-}
-
-/// The report of what traces of what the inputs declare cover.
-fn declared_report<S: Streams>(
-    alloc: Global,
-    inputs: &Inputs<'_>,
-    coverage: &Coverage<'_>,
-    note: &mut Option<String>,
-    source: &mut S,
-) -> Result<Vec<u8>, Failure>
-    ensures report { IfOk result (λ text. IsReport S.opens inputs.now coverage.now source.old source.new text.items) }
-    ensures none { IfErr result (IsUnreported S.opens inputs.now coverage.now source.old source.new) }
-    ensures noted { NotesTrace coverage.now (option_map string_bytes note.old) → NotesTrace coverage.now (option_map string_bytes note.new) }
-{
-    let system = open(alloc, inputs)?;
-    let text = report(alloc, &system, coverage, note, source);
-    // Dropped by one call: the end of its scope would prove the drop part by part.
-    discard(system);
-    text
+    let mut text = report_of(alloc, system, &gleaned.marks)?;
+    put_cut(alloc, &mut text, gleaned.cut, coverage.traces.len())?;
+    Ok(text)
 }
 
 /// Writes the report of what traces of what the inputs declare cover.
@@ -266,7 +227,11 @@ fn write_report<S: Streams, W: Write>(
     ensures written { WritesReport S.opens inputs.now coverage.now source.old source.new (W.contents out.old) (W.contents out.new) result }
     ensures noted { NotesTrace coverage.now (option_map string_bytes note.old) → NotesTrace coverage.now (option_map string_bytes note.new) }
 {
-    let text = declared_report(alloc, inputs, coverage, note, source)?;
+    let system = open(alloc, inputs)?;
+    let text = report(alloc, &system, coverage, note, source);
+    // Dropped by one call: the end of its scope would prove the drop part by part.
+    discard(system);
+    let text = text?;
     write_text(out, text.as_slice())?;
     Ok(Done::Shown)
 }

@@ -4,13 +4,14 @@ ghost use Rattle.std.specs.Prelude.{◌≡◌, ◌<◌, ◌++◌, ◌∷◌, [],
 ghost use Rattle.clap.specs.Words.{Text};
 ghost use Rattle.fbsim_command.specs.Joining.{line_count, text_of};
 ghost use Rattle.fbsim_command.specs.Reading.{AreRead, AreTextsRead, IsDeclarationRead, IsDeclarationUnread, IsTypeUnread, IsUnread, LacksText, MayRead, asked};
-ghost use Rattle.fbsim_command.specs.Texts.{contents_of, given_of, lines_of, may_lines_of, texts_of};
+ghost use Rattle.fbsim_command.specs.Texts.{contents_of, given_of, lines_of, may_be_cut, may_lines_of, texts_of};
 ghost use Rattle.fbsim_command.specs.declared.texts.Part.TheVariants.{BlockTypes, Declaration};
 
 use crate::join::{line_counts, text_of};
 use crate::sources::{Source, SourceFault};
 use crate::{Action, Task};
 use fb_sim::Inputs;
+use fb_wave::Cut;
 use std::alloc::{AllocError, Global};
 
 /// One byte more than a declaration or a deployment may have, so that one that is too long shows.
@@ -94,6 +95,13 @@ pub(crate) fn files_of<'a>(declaration: &'a str, deployment: Option<&'a str>, wh
         stimuli: None,
         why,
     }
+}
+
+/// Whether traces may be cut off.
+pub(crate) fn cut_of(is_cut: bool) -> Cut
+    ensures { result ≡ may_be_cut is_cut }
+{
+    if is_cut { Cut::Allowed } else { Cut::Refused }
 }
 
 /// A file of a call.

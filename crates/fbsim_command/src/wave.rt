@@ -1,9 +1,8 @@
 //! The waveforms of a trace.
 
-ghost use Rattle.std.specs.Prelude.{◌≡◌, map, option_map, string_bytes};
-ghost use Rattle.fbsim_command.specs.LineNotes.{NotesLine};
+ghost use Rattle.std.specs.Prelude.{map, option_map, string_bytes};
 ghost use Rattle.fbsim_command.specs.Notes.{Notes};
-ghost use Rattle.fbsim_command.specs.Showing.{Dumps, DumpsAs, IsTraceFileNote, NotesAs, Shows, cut_of, may_be_cut};
+ghost use Rattle.fbsim_command.specs.Showing.{DumpsAs, IsTraceFileNote, NotesAs, Shows, cut_of};
 
 use crate::Wave;
 use crate::failure::Failure;
@@ -13,55 +12,15 @@ use crate::own_lines::end_with;
 use crate::sources::{Source, SourceFault, Streams};
 use crate::state_dump::dump_states;
 use crate::statuses::Done;
-use crate::texts::{files_of, read_files};
+use crate::texts::{cut_of, files_of, read_files};
 use fb_inspect::Terms;
 use fb_sim::{Inputs, discard, open};
-use fb_wave::{CurrentLine, Cut, write_wave_with};
+use fb_wave::{CurrentLine, write_wave_with};
 use std::alloc::Global;
 use std::io::{BufRead, Write};
 
-/// Whether traces may be cut off.
-pub(crate) fn cut_of(is_cut: bool) -> Cut
-    ensures { result ≡ may_be_cut is_cut }
-{
-    if is_cut { Cut::Allowed } else { Cut::Refused }
-}
-
-/// Reads a trace of what is declared, and writes its waveforms. It says how that ends, and what is reported of the line
-/// at which the trace is refused.
-fn dump_ports<R: BufRead, W: Write>(
-    alloc: Global,
-    wave: &Wave<'_>,
-    inputs: &Inputs<'_>,
-    trace: &mut R,
-    out: &mut W,
-) -> (Result<Done, Failure>, Option<String>)
-    ensures dumped { Dumps (cut_of wave.now) inputs.now (R.remaining trace.old) (W.contents out.old) (W.contents out.new) result.0 }
-    ensures noted { NotesLine wave.now.why inputs.now (R.remaining trace.old) result.0 (option_map string_bytes result.1) }
-{
-    let system = match open(alloc, inputs) {
-        Ok(system) => system,
-        Err(error) => return (Err(Failure::from(error)), None),
-    };
-    let mut current = CurrentLine::new(alloc);
-    let written = write_wave_with(
-        alloc,
-        &system,
-        cut_of(wave.is_cut),
-        &mut current,
-        trace,
-        out,
-    );
-    let note = note_of_trace_line(alloc, wave.why, &system, &written, &current);
-    // Dropped by one call: the end of its scope would prove the drop part by part.
-    discard(system);
-    match written {
-        Ok(()) => (Ok(Done::Shown), note),
-        Err(error) => (Err(Failure::from(error)), note),
-    }
-}
-
-/// The same, with the inside of basic blocks where that is asked for.
+/// Reads a trace of what is declared, and writes its waveforms, with the inside of basic blocks where that is asked for.
+/// It says how that ends, and what is reported of the line at which the trace is refused.
 fn dump<R: BufRead, W: Write>(
     alloc: Global,
     wave: &Wave<'_>,
@@ -72,14 +31,27 @@ fn dump<R: BufRead, W: Write>(
     ensures dumped { DumpsAs wave.now.has_states wave.now.steps (cut_of wave.now) inputs.now (R.remaining trace.old) (W.contents out.old) (W.contents out.new) result.0 }
     ensures noted { NotesAs wave.now.has_states wave.now.why inputs.now (R.remaining trace.old) result.0 (option_map string_bytes result.1) }
 {
+    let cut = cut_of(wave.is_cut);
     if wave.has_states {
         let terms = Terms {
-            cut: cut_of(wave.is_cut),
+            cut,
             steps: wave.steps,
         };
         return dump_states(alloc, wave.why, terms, inputs, trace, out);
     }
-    dump_ports(alloc, wave, inputs, trace, out)
+    let system = match open(alloc, inputs) {
+        Ok(system) => system,
+        Err(error) => return (Err(Failure::from(error)), None),
+    };
+    let mut current = CurrentLine::new(alloc);
+    let written = write_wave_with(alloc, &system, cut, &mut current, trace, out);
+    let note = note_of_trace_line(alloc, wave.why, &system, &written, &current);
+    // Dropped by one call: the end of its scope would prove the drop part by part.
+    discard(system);
+    match written {
+        Ok(()) => (Ok(Done::Shown), note),
+        Err(error) => (Err(Failure::from(error)), note),
+    }
 }
 
 /// The note to the file of the trace, which is not opened, where one is asked for.

@@ -6,8 +6,8 @@ use Rattle.fbsim_command.proofs.Gleaning.{gone-all, gone-more-of, stops-at-of}
 use Rattle.fbsim_command.proofs.Holding.{passed-on}
 use Rattle.fbsim_command.proofs.coverage.cover_all.Goals as goal
 
-pub returns-in_err-gleaned-clause-stopped : goal.returns-in_err-gleaned-clause-stopped
-returns-in_err-gleaned-clause-stopped g c =
+pub returns-in_err-of-clause-stopped : goal.returns-in_err-of-clause-stopped
+returns-in_err-of-clause-stopped g c =
     passed-on c.from_residual.result Memory (AreStopped g.S.Streams.opens c.args.system.now c.args.coverage.now c.args.source.now c.args.source.now) c.from_residual.ensures.1 tt
 
 pub loop-name-init : goal.loop-name-init
@@ -15,26 +15,26 @@ loop-name-init g c = ((refl, refl), λ noted. noted)
 
 pub loop-name-preserved : goal.loop-name-preserved
 loop-name-preserved g c = (
-  gone-more-of g.S.Streams.opens c.args.system.now c.args.coverage.now c.in_ok-gleaned.gleaned c.in_ok-gleaned.ensures c.deref-name-items.result.now c.loop-name.name-index _ c.args.source.now
-      c.loop-name.source c.cover_one.new.source c.loop-name.gleaned _ c.deref-name-items.ensures.value c.loop-name-test.true c.loop-name.invariant.0 c.in_ok-gleaned-2.ensures.covered,
+  gone-more-of g.S.Streams.opens c.args.system.now c.args.coverage.now (record { marks = c.in_ok-of.field-0; cut = 0 }) (c.in_ok-of.ensures, refl) c.deref-name-items.result.now c.loop-name.name-index _ c.args.source.now
+      c.loop-name.source c.cover_one.new.source c.loop-name.gleaned _ c.deref-name-items.ensures.value c.loop-name-test.true c.loop-name.invariant.0 c.in_ok-gleaned.ensures.covered,
   λ noted. c.cover_one.ensures.noted (c.loop-name.invariant.1 noted),
 )
 
-pub returns-in_err-gleaned-2-clause-stopped : goal.returns-in_err-gleaned-2-clause-stopped
-returns-in_err-gleaned-2-clause-stopped g c =
+pub returns-in_err-gleaned-clause-stopped : goal.returns-in_err-gleaned-clause-stopped
+returns-in_err-gleaned-clause-stopped g c =
     let none : Bor Text = record { ref_ptr = (0, 0); now = [] } in
-    passed-on c.from_residual-in_err-gleaned-2.result _ (AreStopped g.S.Streams.opens c.args.system.now c.args.coverage.now c.args.source.now c.cover_one.new.source)
-    c.from_residual-in_err-gleaned-2.ensures.1
-    (stops-at-of g.S.Streams.opens c.args.system.now c.args.coverage.now c.in_ok-gleaned.gleaned c.in_ok-gleaned.ensures c.deref-name-items.result.now c.loop-name.name-index none c.args.source.now
-    c.loop-name.source c.cover_one.new.source c.loop-name.gleaned _ c.deref-name-items.ensures.value c.loop-name-test.true c.loop-name.invariant.0 c.in_err-gleaned-2.ensures.stopped)
+    passed-on c.from_residual-in_err-gleaned.result _ (AreStopped g.S.Streams.opens c.args.system.now c.args.coverage.now c.args.source.now c.cover_one.new.source)
+    c.from_residual-in_err-gleaned.ensures.1
+    (stops-at-of g.S.Streams.opens c.args.system.now c.args.coverage.now (record { marks = c.in_ok-of.field-0; cut = 0 }) (c.in_ok-of.ensures, refl) c.deref-name-items.result.now c.loop-name.name-index none c.args.source.now
+    c.loop-name.source c.cover_one.new.source c.loop-name.gleaned _ c.deref-name-items.ensures.value c.loop-name-test.true c.loop-name.invariant.0 c.in_err-gleaned.ensures.stopped)
 
 pub returns-clause-covered : goal.returns-clause-covered
 returns-clause-covered g c =
-    gone-all g.S.Streams.opens c.args.system.now c.args.coverage.now c.in_ok-gleaned.gleaned c.in_ok-gleaned.ensures c.deref-name-items.result.now c.loop-name.name-index c.args.source.now
+    gone-all g.S.Streams.opens c.args.system.now c.args.coverage.now (record { marks = c.in_ok-of.field-0; cut = 0 }) (c.in_ok-of.ensures, refl) c.deref-name-items.result.now c.loop-name.name-index c.args.source.now
     c.loop-name.source c.loop-name.gleaned c.deref-name-items.ensures.value c.loop-name-test.false c.loop-name.invariant.0
 
-pub returns-in_err-gleaned-2-clause-noted : goal.returns-in_err-gleaned-2-clause-noted
-returns-in_err-gleaned-2-clause-noted g c = λ noted. c.cover_one.ensures.noted (c.loop-name.invariant.1 noted)
+pub returns-in_err-gleaned-clause-noted : goal.returns-in_err-gleaned-clause-noted
+returns-in_err-gleaned-clause-noted g c = λ noted. c.cover_one.ensures.noted (c.loop-name.invariant.1 noted)
 
 pub returns-clause-noted : goal.returns-clause-noted
 returns-clause-noted g c = c.loop-name.invariant.1

@@ -1,5 +1,7 @@
+use Rattle.std.proofs.Common.{◌∙◌}
 use Rattle.fbsim_command.specs.Covering.{AreStopped}
 use Rattle.fbsim_command.specs.declared.failure.Failure.TheVariants.{Memory}
+use Rattle.fbsim_command.proofs.Gleaning.{report_is}
 use Rattle.fbsim_command.proofs.Holding.{passed-on}
 use Rattle.fbsim_command.proofs.coverage.report.Goals as goal
 
@@ -8,10 +10,20 @@ returns-in_err-gleaned-clause-stopped g c =
     passed-on c.from_residual.result _ (AreStopped g.S.Streams.opens c.args.system.now c.args.coverage.now c.args.source.now c.cover_all.new.source) c.from_residual.ensures.1
     c.in_err-gleaned.ensures.stopped
 
-pub returns-in_err-text_of-clause-stopped : goal.returns-in_err-text_of-clause-stopped
-returns-in_err-text_of-clause-stopped g c =
-    passed-on c.from_residual-in_err-text_of.result Memory (AreStopped g.S.Streams.opens c.args.system.now c.args.coverage.now c.args.source.now c.cover_all.new.source)
-    c.from_residual-in_err-text_of.ensures.1 tt
+pub returns-in_err-text-clause-stopped : goal.returns-in_err-text-clause-stopped
+returns-in_err-text-clause-stopped g c =
+    passed-on c.from_residual-in_err-text.result Memory (AreStopped g.S.Streams.opens c.args.system.now c.args.coverage.now c.args.source.now c.cover_all.new.source)
+    c.from_residual-in_err-text.ensures.1 tt
+
+pub returns-in_err-put_cut-clause-stopped : goal.returns-in_err-put_cut-clause-stopped
+returns-in_err-put_cut-clause-stopped g c =
+    passed-on c.from_residual-in_err-put_cut.result Memory (AreStopped g.S.Streams.opens c.args.system.now c.args.coverage.now c.args.source.now c.cover_all.new.source)
+    c.from_residual-in_err-put_cut.ensures.1 tt
 
 pub returns-clause-report : goal.returns-clause-report
-returns-clause-report g c = (c.in_ok-gleaned.gleaned, c.in_ok-gleaned.ensures.covered, c.in_ok-text_of.ensures)
+returns-clause-report g c = (
+  c.in_ok-gleaned.gleaned,
+  c.in_ok-gleaned.ensures.covered,
+  report_is c.args.system.now c.args.coverage.now c.in_ok-gleaned.gleaned c.in_ok-text.text.items c.put_cut.new.text.items c.len.result c.in_ok-text.ensures c.in_ok-put_cut.ensures
+      (c.len.ensures ∙ c.args.coverage.now.traces.ok.0),
+)

@@ -1,7 +1,14 @@
-use Rattle.std.proofs.Common.{Bool, option_map, string_bytes, sym, subst}
+use Rattle.std.proofs.Common.{Bool, Ok, Err, option_map, string_bytes, sym, subst}
+use Rattle.std.specs.Prelude.{IfErr, IfSome, OnOk}
+use Rattle.fb_types.specs.Headline.{system_of}
+use Rattle.fb_wave.specs.CutOff.{BlamesShown, FailsShown, IsShown}
 use Rattle.fb_wave.specs.declared.truncation.Cut.{Cut}
-use Rattle.fbsim_command.specs.Showing.{DumpsAs, NotesAs, cut_of}
+use Rattle.fbsim_command.specs.Showing.{Dumps, DumpsAs, NotesAs, cut_of}
 use Rattle.fbsim_command.specs.StateDumping.{DumpsStates}
+use Rattle.fbsim_command.specs.declared.failure.Failure.{Failure}
+use Rattle.fbsim_command.specs.declared.statuses.Done.TheVariants.{Shown}
+use Rattle.fbsim_command.proofs.NotedLines.{line_noted, none_noted}
+use Rattle.fbsim_command.proofs.Showing.{dumps_front, dumps_none}
 use Rattle.fbsim_command.proofs.wave.dump.Goals as goal
 
 pub returns-then-wave-clause-dumped : goal.returns-then-wave-clause-dumped
@@ -11,7 +18,7 @@ returns-then-wave-clause-dumped g c =
     let old = g.W.Write.contents c.args.out.now in
     let new = g.W.Write.contents c.dump_states.new.out in
     subst (λ (b : Bool). DumpsAs b w.steps (cut_of w) c.args.inputs.now trace old new c.dump_states.result.0) (sym c.if-wave.true)
-    (subst (λ (m : Cut). DumpsStates m w.steps c.args.inputs.now trace old new c.dump_states.result.0) c.cut_of.ensures c.dump_states.ensures.dumped)
+    (subst (λ (m : Cut). DumpsStates m w.steps c.args.inputs.now trace old new c.dump_states.result.0) c.cut_of-cut.ensures c.dump_states.ensures.dumped)
 
 pub returns-then-wave-clause-noted : goal.returns-then-wave-clause-noted
 returns-then-wave-clause-noted g c =
@@ -19,14 +26,56 @@ returns-then-wave-clause-noted g c =
     subst (λ (b : Bool). NotesAs b w.why c.args.inputs.now (g.R.Read.remaining c.args.trace.now) c.dump_states.result.0 (option_map string_bytes c.dump_states.result.1)) (sym c.if-wave.true)
     c.dump_states.ensures.noted
 
+pub returns-in-Err-clause-dumped : goal.returns-in-Err-clause-dumped
+returns-in-Err-clause-dumped g c =
+    let w = c.args.wave.now in
+    let out = g.W.Write.contents c.args.out.now in
+    let trace = g.R.Read.remaining c.args.trace.now in
+    subst (λ (b : Bool). DumpsAs b w.steps (cut_of w) c.args.inputs.now trace out out (Err c.from.result)) (sym c.if-wave.false)
+    (subst (λ (f : Failure). Dumps (cut_of w) c.args.inputs.now trace out out (Err f)) (sym c.from.ensures)
+    (dumps_none (cut_of w) c.args.inputs.now trace out c.in-Err.error c.in-Err.ensures.refused))
+
+pub returns-in-Ok-written-clause-dumped : goal.returns-in-Ok-written-clause-dumped
+returns-in-Ok-written-clause-dumped g c =
+    let w = c.args.wave.now in
+    let sys = system_of c.in-Ok.system in
+    let old = g.W.Write.contents c.args.out.now in
+    let new = g.W.Write.contents c.write_wave_with-written.new.out in
+    let trace = g.R.Read.remaining c.args.trace.now in
+    subst (λ (b : Bool). DumpsAs b w.steps (cut_of w) c.args.inputs.now trace old new (Ok Shown)) (sym c.if-wave.false) (
+      c.in-Ok.system,
+      c.in-Ok.ensures.system,
+      subst (λ (m : Cut). IfSome trace (λ text. IsShown m sys text old new)) c.cut_of-cut.ensures
+          (subst (λ r. OnOk r (IfSome trace (λ text. IsShown c.cut_of-cut.result sys text old new))) c.in-Ok-written.is c.write_wave_with-written.ensures.whole),
+    )
+
+pub returns-in-Ok-written-clause-noted : goal.returns-in-Ok-written-clause-noted
+returns-in-Ok-written-clause-noted g c =
+    let w = c.args.wave.now in
+    let trace = g.R.Read.remaining c.args.trace.now in
+    subst (λ (b : Bool). NotesAs b w.why c.args.inputs.now trace (Ok Shown) (option_map string_bytes c.note_of_trace_line-note.result)) (sym c.if-wave.false)
+    (none_noted string_bytes w.why c.args.inputs.now trace c.in-Ok.system c.write_wave_with-written.new.current c.write_wave_with-written.result (Ok Shown)
+    c.in-Ok-written.field-0 c.note_of_trace_line-note.result c.in-Ok-written.is c.note_of_trace_line-note.ensures)
+
 pub returns-clause-dumped : goal.returns-clause-dumped
 returns-clause-dumped g c =
     let w = c.args.wave.now in
-    subst (λ (b : Bool). DumpsAs b w.steps (cut_of w) c.args.inputs.now (g.R.Read.remaining c.args.trace.now) (g.W.Write.contents c.args.out.now) (g.W.Write.contents c.dump_ports.new.out) c.dump_ports.result.0)
-    (sym c.if-wave.false) c.dump_ports.ensures.dumped
+    let sys = system_of c.in-Ok.system in
+    let old = g.W.Write.contents c.args.out.now in
+    let new = g.W.Write.contents c.write_wave_with-written.new.out in
+    let trace = g.R.Read.remaining c.args.trace.now in
+    let e = c.in-Err-written.error in
+    subst (λ (b : Bool). DumpsAs b w.steps (cut_of w) c.args.inputs.now trace old new (Err c.from-in-Err-written.result)) (sym c.if-wave.false)
+    (subst (λ (f : Failure). Dumps (cut_of w) c.args.inputs.now trace old new (Err f)) (sym c.from-in-Err-written.ensures)
+    (dumps_front (cut_of w) c.args.inputs.now trace old new c.in-Ok.system c.in-Ok.ensures.system e
+    (subst (λ (m : Cut). FailsShown m sys old new e) c.cut_of-cut.ensures (subst (λ r. IfErr r (FailsShown c.cut_of-cut.result sys old new)) c.in-Err-written.is c.write_wave_with-written.ensures.part))
+    (subst (λ (m : Cut). BlamesShown m sys trace e) c.cut_of-cut.ensures (subst (λ r. IfErr r (BlamesShown c.cut_of-cut.result sys trace)) c.in-Err-written.is c.write_wave_with-written.ensures.refused))))
 
 pub returns-clause-noted : goal.returns-clause-noted
 returns-clause-noted g c =
     let w = c.args.wave.now in
-    subst (λ (b : Bool). NotesAs b w.why c.args.inputs.now (g.R.Read.remaining c.args.trace.now) c.dump_ports.result.0 (option_map string_bytes c.dump_ports.result.1)) (sym c.if-wave.false)
-    c.dump_ports.ensures.noted
+    let trace = g.R.Read.remaining c.args.trace.now in
+    subst (λ (b : Bool). NotesAs b w.why c.args.inputs.now trace (Err c.from-in-Err-written.result) (option_map string_bytes c.note_of_trace_line-note.result)) (sym c.if-wave.false)
+    (line_noted string_bytes w.why c.args.inputs.now trace c.in-Ok.system c.write_wave_with-written.new.current c.write_wave_with-written.result
+    c.in-Err-written.error c.from-in-Err-written.result c.note_of_trace_line-note.result c.in-Ok.ensures.system c.in-Err-written.is c.write_wave_with-written.ensures.current
+    c.from-in-Err-written.ensures c.note_of_trace_line-note.ensures)

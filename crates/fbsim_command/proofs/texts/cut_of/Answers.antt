@@ -1,7 +1,7 @@
 use Rattle.std.proofs.Common.{Bool, sym, ap}
 use Rattle.std.specs.Prelude.{if◌then◌else◌}
 use Rattle.fb_wave.specs.declared.truncation.Cut.TheVariants as cut
-use Rattle.fbsim_command.proofs.wave.cut_of.Goals as goal
+use Rattle.fbsim_command.proofs.texts.cut_of.Goals as goal
 
 pub returns-then-is_cut : goal.returns-then-is_cut
 returns-then-is_cut c = ap (λ (b : Bool). if b then cut.Allowed else cut.Refused) (sym c.if-is_cut.true)
