@@ -6,7 +6,7 @@ use Rattle.clap.specs.Words.{App, Rule, Text, AddsArg, AddsSubcommand, app_of, r
 use Rattle.clap.specs.declared.builder.action.ArgAction.{ArgAction}
 use Rattle.clap.specs.declared.builder.arg.Arg.{Arg}
 use Rattle.clap.specs.declared.builder.command.Command.{Command}
-use Rattle.fbsim_command.specs.Line.{command_for, kinds, program, rule_for, simulator_with, with_arguments, with_kinds}
+use Rattle.fbsim_command.specs.Line.{command_for, rule_for, with_arguments, with_kinds}
 use Rattle.fbsim_command.specs.declared.arguments.Argument.{Argument}
 use Rattle.fbsim_command.specs.declared.line.Subcommand.{Subcommand}
 use Rattle.clap.specs.declared.builder.value_parser.ValueParser.{ValueParser}
@@ -91,7 +91,3 @@ joins-on values a ks i d old sub new lt adds local is joins =
 
 pub joins-past : (values : ValueParser) (a : App) (ks : List Subcommand) (i : ℕ) (c : Command) → length ks ≤ i → Joins values a ks i c → app_of c ≡ with_kinds values a ks
 joins-past values a ks i c end joins = sym (joins.app ∙ ap (with_kinds values (app_of c)) (drop_all i ks end))
-
--- with all of them this is the command of the program
-pub kinds_are : (values : ValueParser) → with_kinds values program kinds ≡ simulator_with values
-kinds_are values = refl

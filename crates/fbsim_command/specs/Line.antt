@@ -213,21 +213,9 @@ abbrev pub with_kinds : ValueParser → App → List Subcommand → App
 with_kinds values a [] = a
 with_kinds values a (k ∷ ks) = with_kinds values (with_subcommand a (command_for values k).top) ks
 
--- a command with those of a run, with this parser for the form of the trace, of a check and of a dump
-abbrev pub with_runs : ValueParser → App → App
-with_runs values a = with_subcommand (with_subcommand (with_subcommand a (with_run_options values (files (codes "run"))).top) check.top) wave.top
-
--- a command with those that hold traces against rules, compare them, and draw
-abbrev pub with_benches : App → App
-with_benches a = with_subcommand (with_subcommand (with_subcommand a expect.top) diff.top) draw.top
-
--- a command with those that show what traces leave out, and that explain
-abbrev pub with_insides : App → App
-with_insides a = with_subcommand (with_subcommand (with_subcommand a inspect.top) coverage.top) explain.top
-
 -- the program's command, with this parser for the form of the trace
 abbrev pub simulator_with : ValueParser → App
-simulator_with values = with_insides (with_benches (with_runs values program))
+simulator_with values = with_kinds values program kinds
 
 abbrev pub simulator : App
 simulator = simulator_with forms

@@ -39,6 +39,16 @@ pub(crate) enum Argument<'a> {
     Worded(&'a str, ValueParser<'a>, &'a str, &'a str),
 }
 
+/// What a command is made of.
+#[derive(Clone, Copy)]
+pub(crate) struct Outline<'a, 'b> {
+    pub name: &'a str,
+    pub about: &'a str,
+    /// A call of it, with which the help ends.
+    pub example: &'a str,
+    pub arguments: &'b [Argument<'a>],
+}
+
 /// Whole numbers from 1 to the most.
 fn up_to<'a>(most: u64) -> ValueParser<'a>
     ensures { result ≡ spec.up_to most }
@@ -131,30 +141,22 @@ fn with_all<'a>(
     Ok(command)
 }
 
-/// A command with its help texts and these arguments.
-pub(crate) fn made<'a>(
-    alloc: Global,
-    name: &'a str,
-    about: &'a str,
-    example: &'a str,
-    arguments: &[Argument<'a>],
-) -> Result<Command<'a>, AllocError>
-    ensures app { IfOk result (λ c. app_of c ≡ spec.with_arguments (new_app name.entry.now) arguments.now) }
+/// The command of an outline.
+pub(crate) fn made<'a>(alloc: Global, outline: Outline<'a, '_>) -> Result<Command<'a>, AllocError>
+    ensures app { IfOk result (λ c. app_of c ≡ spec.with_arguments (new_app outline.entry.name.now) outline.entry.arguments.now) }
     ensures globals { IfOk result (λ c. (fields_of c).has_globals ≡ false) }
 {
-    with_all(alloc, titled(alloc, name, about, example), arguments)
+    let command = titled(alloc, outline.name, outline.about, outline.example);
+    with_all(alloc, command, outline.arguments)
 }
 
-/// A command with its help texts, the names of a declaration, of the files of block types before it, and of its
-/// deployment, and these arguments.
+/// The same, with the names of a declaration, of the files of block types before it, and of its deployment before the
+/// arguments.
 pub(crate) fn deployed<'a>(
     alloc: Global,
-    name: &'a str,
-    about: &'a str,
-    example: &'a str,
-    arguments: &[Argument<'a>],
+    outline: Outline<'a, '_>,
 ) -> Result<Command<'a>, AllocError>
-    ensures app { IfOk result (λ c. app_of c ≡ spec.with_arguments (spec.deployed name.entry.now) arguments.now) }
+    ensures app { IfOk result (λ c. app_of c ≡ spec.with_arguments (spec.deployed outline.entry.name.now) outline.entry.arguments.now) }
     ensures globals { IfOk result (λ c. (fields_of c).has_globals ≡ false) }
 {
     let files = [
@@ -162,6 +164,12 @@ pub(crate) fn deployed<'a>(
         Argument::Repeated("types", TYPES_HELP),
         Argument::Named("deploy", DEPLOY_HELP),
     ];
-    let command = made(alloc, name, about, example, &files)?;
-    with_all(alloc, command, arguments)
+    let start = Outline {
+        name: outline.name,
+        about: outline.about,
+        example: outline.example,
+        arguments: &files,
+    };
+    let command = made(alloc, start)?;
+    with_all(alloc, command, outline.arguments)
 }

@@ -1,16 +1,15 @@
 //! The calls that check traces: against rules, and against one another.
 
 ghost use Rattle.std.specs.Prelude.{◌≡◌, IfNone, IfOk, IfSome, codes, false, map, option_map};
-ghost use Rattle.clap.specs.Words.{app_of, found_of, rows_of};
-ghost use Rattle.clap.specs.declared.builder.command.Command.TheViews.{out-Command as fields_of};
+ghost use Rattle.clap.specs.Words.{found_of, rows_of};
 ghost use Rattle.fbsim_command.specs.Line as spec;
 ghost use Rattle.fbsim_command.specs.Line.{AsksDiff, AsksExpect, IsCall, call_name};
 ghost use Rattle.fbsim_command.specs.declared.bench_line.Diff.{Diff};
 ghost use Rattle.fbsim_command.specs.declared.bench_line.Expect.{Expect};
 
-use crate::arguments::{Argument, TYPES_HELP, made};
+use crate::arguments::{Argument, Outline, TYPES_HELP};
 use crate::line::{Call, has_flag, texts_of};
-use clap::{ArgMatches, Command};
+use clap::ArgMatches;
 use std::alloc::{AllocError, Global};
 
 /// Rules, and the traces against which they are checked.
@@ -77,11 +76,11 @@ const FIRST_HELP: &str = "The file with the first trace; `-` is standard input, 
 const SECOND_HELP: &str = "The file with the second trace.";
 
 /// The command that checks rules against traces.
-pub(crate) fn expect_command<'a>(alloc: Global) -> Result<Command<'a>, AllocError>
-    ensures app { IfOk result (λ c. app_of c ≡ spec.expect) }
-    ensures globals { IfOk result (λ c. (fields_of c).has_globals ≡ false) }
-{
-    let arguments = [
+pub(crate) const EXPECT_COMMAND: Outline<'static, 'static> = Outline {
+    name: "expect",
+    about: EXPECT_ABOUT,
+    example: EXPECT_EXAMPLE,
+    arguments: &[
         Argument::Required("RULES", RULES_HELP),
         Argument::Several("TRACE", TRACES_HELP),
         Argument::Named("decl", DECL_HELP),
@@ -90,21 +89,19 @@ pub(crate) fn expect_command<'a>(alloc: Global) -> Result<Command<'a>, AllocErro
         Argument::Flag("strict", STRICT_HELP),
         Argument::Flag("cut", CUT_HELP),
         Argument::Flag("why", WHY_HELP),
-    ];
-    made(alloc, "expect", EXPECT_ABOUT, EXPECT_EXAMPLE, &arguments)
-}
+    ],
+};
 
 /// The command that compares two traces.
-pub(crate) fn diff_command<'a>(alloc: Global) -> Result<Command<'a>, AllocError>
-    ensures app { IfOk result (λ c. app_of c ≡ spec.diff) }
-    ensures globals { IfOk result (λ c. (fields_of c).has_globals ≡ false) }
-{
-    let arguments = [
+pub(crate) const DIFF_COMMAND: Outline<'static, 'static> = Outline {
+    name: "diff",
+    about: DIFF_ABOUT,
+    example: DIFF_EXAMPLE,
+    arguments: &[
         Argument::Required("A", FIRST_HELP),
         Argument::Required("B", SECOND_HELP),
-    ];
-    made(alloc, "diff", DIFF_ABOUT, DIFF_EXAMPLE, &arguments)
-}
+    ],
+};
 
 /// Whether a deployment or block types are given without a declaration.
 fn declares_nothing(declaration: Option<&str>, deploy: Option<&str>, types: &[&str]) -> bool

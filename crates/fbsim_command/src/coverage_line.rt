@@ -1,16 +1,14 @@
 //! The call that reports what traces cover.
 
-ghost use Rattle.std.specs.Prelude.{◌≡◌, IfNone, IfOk, IfSome, codes, false};
-ghost use Rattle.clap.specs.Words.{app_of, found_of, rows_of};
-ghost use Rattle.clap.specs.declared.builder.command.Command.TheViews.{out-Command as fields_of};
-ghost use Rattle.fbsim_command.specs.Line as spec;
+ghost use Rattle.std.specs.Prelude.{◌≡◌, IfNone, IfOk, IfSome, codes};
+ghost use Rattle.clap.specs.Words.{found_of, rows_of};
 ghost use Rattle.fbsim_command.specs.Line.{AsksCoverage, IsCall, call_name};
 ghost use Rattle.fbsim_command.specs.declared.coverage_line.Coverage.{Coverage};
 
-use crate::arguments::{Argument, deployed};
+use crate::arguments::{Argument, Outline};
 use crate::bench_line::TRACES_HELP;
 use crate::line::{Call, WHY_HELP, has_flag, number, texts_of};
-use clap::{ArgMatches, Command};
+use clap::ArgMatches;
 use fb_types::MOST_STEPS;
 use std::alloc::{AllocError, Global};
 
@@ -42,19 +40,18 @@ const STEPS_HELP: &str =
 const CUT_HELP: &str =
     "Accepts traces that are cut off, without a last line or within a line; the report says how many are.";
 
-/// The command that reports what traces cover.
-pub(crate) fn coverage_command<'a>(alloc: Global) -> Result<Command<'a>, AllocError>
-    ensures app { IfOk result (λ c. app_of c ≡ spec.coverage) }
-    ensures globals { IfOk result (λ c. (fields_of c).has_globals ≡ false) }
-{
-    let arguments = [
+/// The command that reports what traces cover, after the names of the files of a system.
+pub(crate) const COVERAGE_COMMAND: Outline<'static, 'static> = Outline {
+    name: "coverage",
+    about: ABOUT,
+    example: EXAMPLE,
+    arguments: &[
         Argument::Several("TRACE", TRACES_HELP),
         Argument::Number("steps", MOST_STEPS, "10000", STEPS_HELP),
         Argument::Flag("cut", CUT_HELP),
         Argument::Flag("why", WHY_HELP),
-    ];
-    deployed(alloc, "coverage", ABOUT, EXAMPLE, &arguments)
-}
+    ],
+};
 
 /// The call that reports what traces cover, with what was found.
 pub(crate) fn coverage_of<'a>(

@@ -1,15 +1,13 @@
 //! The call that draws what is declared.
 
-ghost use Rattle.std.specs.Prelude.{◌≡◌, IfNone, IfOk, IfSome, codes, false};
-ghost use Rattle.clap.specs.Words.{app_of, found_of, rows_of};
-ghost use Rattle.clap.specs.declared.builder.command.Command.TheViews.{out-Command as fields_of};
-ghost use Rattle.fbsim_command.specs.Line as spec;
+ghost use Rattle.std.specs.Prelude.{◌≡◌, IfNone, IfOk, IfSome, codes};
+ghost use Rattle.clap.specs.Words.{found_of, rows_of};
 ghost use Rattle.fbsim_command.specs.Line.{AsksDraw, IsCall, call_name};
 ghost use Rattle.fbsim_command.specs.declared.draw_line.Draw.{Draw};
 
-use crate::arguments::{Argument, deployed};
+use crate::arguments::{Argument, Outline};
 use crate::line::{Call, texts_of};
-use clap::{ArgMatches, Command};
+use clap::ArgMatches;
 use std::alloc::{AllocError, Global};
 
 /// What is drawn, and its files.
@@ -31,14 +29,13 @@ const EXAMPLE: &str = "Example: fbsim draw cell.iec --deploy cell.toml | dot -Ts
 const TYPE_HELP: &str =
     "The name of the type to draw, in any letter case: the chart of a basic type, the network of a composite type; without it the application is drawn.";
 
-/// The command that draws what is declared.
-pub(crate) fn draw_command<'a>(alloc: Global) -> Result<Command<'a>, AllocError>
-    ensures app { IfOk result (λ c. app_of c ≡ spec.draw) }
-    ensures globals { IfOk result (λ c. (fields_of c).has_globals ≡ false) }
-{
-    let arguments = [Argument::Named("type", TYPE_HELP)];
-    deployed(alloc, "draw", ABOUT, EXAMPLE, &arguments)
-}
+/// The command that draws what is declared, after the names of the files of a system.
+pub(crate) const DRAW_COMMAND: Outline<'static, 'static> = Outline {
+    name: "draw",
+    about: ABOUT,
+    example: EXAMPLE,
+    arguments: &[Argument::Named("type", TYPE_HELP)],
+};
 
 /// The call that draws what is declared, from the parser's matches.
 pub(crate) fn draw_of<'a>(

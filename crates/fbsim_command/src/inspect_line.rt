@@ -1,15 +1,13 @@
 //! The call that inspects a trace.
 
-ghost use Rattle.std.specs.Prelude.{◌≡◌, IfNone, IfOk, IfSome, codes, false};
-ghost use Rattle.clap.specs.Words.{app_of, found_of, rows_of};
-ghost use Rattle.clap.specs.declared.builder.command.Command.TheViews.{out-Command as fields_of};
-ghost use Rattle.fbsim_command.specs.Line as spec;
+ghost use Rattle.std.specs.Prelude.{◌≡◌, IfNone, IfOk, IfSome, codes};
+ghost use Rattle.clap.specs.Words.{found_of, rows_of};
 ghost use Rattle.fbsim_command.specs.Line.{AsksInspect, IsCall, call_name};
 ghost use Rattle.fbsim_command.specs.declared.inspect_line.Inspect.{Inspect};
 
-use crate::arguments::{Argument, deployed};
+use crate::arguments::{Argument, Outline};
 use crate::line::{Call, WHY_HELP, has_flag, number, texts_of};
-use clap::{ArgMatches, Command};
+use clap::ArgMatches;
 use fb_types::MOST_STEPS;
 use std::alloc::{AllocError, Global};
 
@@ -49,20 +47,19 @@ const STEPS_HELP: &str =
 const CUT_HELP: &str =
     "Accepts a trace that is cut off, without a last line or within a line; the output says so at its end.";
 
-/// The command that inspects a trace.
-pub(crate) fn inspect_command<'a>(alloc: Global) -> Result<Command<'a>, AllocError>
-    ensures app { IfOk result (λ c. app_of c ≡ spec.inspect) }
-    ensures globals { IfOk result (λ c. (fields_of c).has_globals ≡ false) }
-{
-    let arguments = [
+/// The command that inspects a trace, after the names of the files of a system.
+pub(crate) const INSPECT_COMMAND: Outline<'static, 'static> = Outline {
+    name: "inspect",
+    about: ABOUT,
+    example: EXAMPLE,
+    arguments: &[
         Argument::Required("TRACE", TRACE_HELP),
         Argument::Repeated("only", ONLY_HELP),
         Argument::Number("steps", MOST_STEPS, "10000", STEPS_HELP),
         Argument::Flag("cut", CUT_HELP),
         Argument::Flag("why", WHY_HELP),
-    ];
-    deployed(alloc, "inspect", ABOUT, EXAMPLE, &arguments)
-}
+    ],
+};
 
 /// The call that inspects a trace, from the parser's matches.
 pub(crate) fn inspect_of<'a>(

@@ -12,11 +12,11 @@ ghost use Rattle.fb_types.specs.declared.run.Form.{Form};
 ghost use Rattle.clap.specs.Words.{all_of, app_of, first_of, rows_of, found_of, kind_of, subcommand_rows_of};
 ghost use Rattle.clap.specs.declared.builder.command.Command.TheViews.{out-Command as fields_of};
 
-use crate::arguments::{Argument, deployed, made, titled};
-use crate::bench_line::{Diff, Expect, diff_command, diff_of, expect_command, expect_of};
-use crate::coverage_line::{Coverage, coverage_command, coverage_of};
-use crate::draw_line::{Draw, draw_command, draw_of};
-use crate::inspect_line::{Inspect, inspect_command, inspect_of};
+use crate::arguments::{Argument, Outline, deployed, made, titled};
+use crate::bench_line::{DIFF_COMMAND, Diff, EXPECT_COMMAND, Expect, diff_of, expect_of};
+use crate::coverage_line::{COVERAGE_COMMAND, Coverage, coverage_of};
+use crate::draw_line::{DRAW_COMMAND, Draw, draw_of};
+use crate::inspect_line::{INSPECT_COMMAND, Inspect, inspect_of};
 use clap::builder::ValueParser;
 use clap::error::ErrorKind;
 use clap::{ArgMatches, Command, Error};
@@ -203,18 +203,17 @@ fn forms<'a>() -> ValueParser<'a>
     ValueParser::Names(FORM_WORDS)
 }
 
-/// The command that checks.
-fn check_command<'a>(alloc: Global) -> Result<Command<'a>, AllocError>
-    ensures app { IfOk result (λ c. app_of c ≡ spec.check) }
-    ensures globals { IfOk result (λ c. (fields_of c).has_globals ≡ false) }
-{
-    let arguments = [
+/// The command that checks, after the names of the files of a system.
+const CHECK_COMMAND: Outline<'static, 'static> = Outline {
+    name: "check",
+    about: CHECK_ABOUT,
+    example: CHECK_EXAMPLE,
+    arguments: &[
         Argument::Named("stim", STIMULI_HELP),
         Argument::Flag("why", WHY_HELP),
         Argument::Flag("lint", LINT_HELP),
-    ];
-    deployed(alloc, "check", CHECK_ABOUT, CHECK_EXAMPLE, &arguments)
-}
+    ],
+};
 
 /// The command `run`.
 fn run<'a>(alloc: Global, forms: ValueParser<'a>) -> Result<Command<'a>, AllocError>
@@ -231,41 +230,36 @@ fn run<'a>(alloc: Global, forms: ValueParser<'a>) -> Result<Command<'a>, AllocEr
         Argument::Flag("progress", PROGRESS_HELP),
         Argument::Worded("trace", forms, "1", TRACE_HELP),
     ];
-    deployed(alloc, "run", RUN_ABOUT, RUN_EXAMPLE, &arguments)
+    let outline = Outline {
+        name: "run",
+        about: RUN_ABOUT,
+        example: RUN_EXAMPLE,
+        arguments: &arguments,
+    };
+    deployed(alloc, outline)
 }
 
-/// The command that shows a trace.
-fn wave_command<'a>(alloc: Global) -> Result<Command<'a>, AllocError>
-    ensures app { IfOk result (λ c. app_of c ≡ spec.wave) }
-    ensures globals { IfOk result (λ c. (fields_of c).has_globals ≡ false) }
-{
-    let arguments = [
+/// The command that shows a trace, after the names of the files of a system.
+const WAVE_COMMAND: Outline<'static, 'static> = Outline {
+    name: "wave",
+    about: WAVE_ABOUT,
+    example: WAVE_EXAMPLE,
+    arguments: &[
         Argument::Required("TRACE", TRACE_FILE_HELP),
         Argument::Flag("cut", CUT_TRACE_HELP),
         Argument::Flag("states", STATES_HELP),
         Argument::Number("steps", MOST_STEPS, "10000", WAVE_STEPS_HELP),
         Argument::Flag("why", WHY_HELP),
-    ];
-    deployed(alloc, "wave", WAVE_ABOUT, WAVE_EXAMPLE, &arguments)
-}
+    ],
+};
 
 /// The command that explains a refusal or a reason.
-fn explain<'a>(alloc: Global) -> Result<Command<'a>, AllocError>
-    ensures app { IfOk result (λ c. app_of c ≡ spec.explain) }
-    ensures globals { IfOk result (λ c. (fields_of c).has_globals ≡ false) }
-{
-    let arguments = [Argument::Required("NAME", NAME_HELP)];
-    made(alloc, "explain", EXPLAIN_ABOUT, EXPLAIN_EXAMPLE, &arguments)
-}
-
-/// The command of the program, without its subcommands.
-fn program<'a>(alloc: Global) -> Command<'a>
-    ensures { app_of result ≡ spec.program }
-{
-    titled(alloc, "fbsim", ABOUT, EXAMPLE)
-        .version(VERSION)
-        .subcommand_required(true)
-}
+const EXPLAIN_COMMAND: Outline<'static, 'static> = Outline {
+    name: "explain",
+    about: EXPLAIN_ABOUT,
+    example: EXPLAIN_EXAMPLE,
+    arguments: &[Argument::Required("NAME", NAME_HELP)],
+};
 
 /// A subcommand of the program.
 #[derive(Clone, Copy)]
@@ -305,14 +299,14 @@ fn command_for<'a>(
 {
     match kind {
         Subcommand::Run => run(alloc, forms),
-        Subcommand::Check => check_command(alloc),
-        Subcommand::Wave => wave_command(alloc),
-        Subcommand::Expect => expect_command(alloc),
-        Subcommand::Diff => diff_command(alloc),
-        Subcommand::Draw => draw_command(alloc),
-        Subcommand::Inspect => inspect_command(alloc),
-        Subcommand::Coverage => coverage_command(alloc),
-        Subcommand::Explain => explain(alloc),
+        Subcommand::Check => deployed(alloc, CHECK_COMMAND),
+        Subcommand::Wave => deployed(alloc, WAVE_COMMAND),
+        Subcommand::Expect => made(alloc, EXPECT_COMMAND),
+        Subcommand::Diff => made(alloc, DIFF_COMMAND),
+        Subcommand::Draw => deployed(alloc, DRAW_COMMAND),
+        Subcommand::Inspect => deployed(alloc, INSPECT_COMMAND),
+        Subcommand::Coverage => deployed(alloc, COVERAGE_COMMAND),
+        Subcommand::Explain => made(alloc, EXPLAIN_COMMAND),
     }
 }
 
@@ -320,7 +314,9 @@ fn command_for<'a>(
 fn simulator<'a>(alloc: Global, forms: ValueParser<'a>) -> Result<Command<'a>, AllocError>
     ensures { IfOk result (λ c. app_of c ≡ spec.simulator_with forms.entry) }
 {
-    let mut command = program(alloc);
+    let mut command = titled(alloc, "fbsim", ABOUT, EXAMPLE)
+        .version(VERSION)
+        .subcommand_required(true);
     for kind in SUBCOMMANDS {
         let Ok(made) = command_for(alloc, *kind, forms) else {
             // Dropped by one call: the end of its scope would prove the drop part by part.
@@ -405,32 +401,8 @@ pub(crate) fn texts_of<'a>(
     }
 }
 
-/// The files and the action of a run or a check, if the command has such a name.
-fn task_of<'a>(name: &str, found: &ArgMatches<'a>) -> Option<Task<'a>>
-    ensures name { IfSome result (λ c. name.now ≡ command_name c.action) }
-    ensures rows { IfSome result (IsTask (rows_of (found_of found.now))) }
-    ensures none { IfNone result ((c : Task) → name.now ≡ command_name c.action → IsTask (rows_of (found_of found.now)) c → ⊥) }
-{
-    let Some(declaration) = found.get_str("DECL") else {
-        return None;
-    };
-    let Some(action) = action_of(name, found) else {
-        return None;
-    };
-    let deploy = found.get_str("deploy");
-    let stimuli = found.get_str("stim");
-    let why = has_flag(found, "why");
-    Some(Task {
-        action,
-        declaration,
-        deploy,
-        stimuli,
-        why,
-    })
-}
-
 /// The call for a run or a check, from the parser's matches, if the command has such a name.
-fn task_call<'a>(
+fn task_of<'a>(
     alloc: Global,
     name: &str,
     found: &ArgMatches<'a>,
@@ -439,10 +411,23 @@ fn task_call<'a>(
     ensures rows { IfOk result (λ o. IfSome o (IsCall (rows_of (found_of found.now)))) }
     ensures none { IfOk result (λ o. IfNone o ((c : Task) → name.now ≡ command_name c.action → IsTask (rows_of (found_of found.now)) c → ⊥)) }
 {
-    let Some(task) = task_of(name, found) else {
+    let Some(declaration) = found.get_str("DECL") else {
         return Ok(None);
     };
+    let Some(action) = action_of(name, found) else {
+        return Ok(None);
+    };
+    let deploy = found.get_str("deploy");
+    let stimuli = found.get_str("stim");
+    let why = has_flag(found, "why");
     let types = texts_of(alloc, found, "types")?;
+    let task = Task {
+        action,
+        declaration,
+        deploy,
+        stimuli,
+        why,
+    };
     Ok(Some(Call::Task(task, types)))
 }
 
@@ -499,7 +484,7 @@ fn call_of<'a>(
         "draw" => draw_of(alloc, found),
         "inspect" => inspect_of(alloc, found),
         "coverage" => coverage_of(alloc, found),
-        _ => task_call(alloc, name, found),
+        _ => task_of(alloc, name, found),
     }
 }
 

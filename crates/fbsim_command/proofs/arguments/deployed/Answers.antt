@@ -5,7 +5,7 @@ use Rattle.fbsim_command.specs.Line.{with_arguments}
 use Rattle.fbsim_command.proofs.arguments.deployed.Goals as goal
 
 pub returns-clause-app : goal.returns-clause-app
-returns-clause-app c = subst (λ (a : App). IfOk c.with_all.result (λ r. app_of r ≡ with_arguments a c.args.arguments.now)) c.in_ok-command.ensures.app c.with_all.ensures.app
+returns-clause-app c = subst (λ (a : App). IfOk c.with_all.result (λ r. app_of r ≡ with_arguments a c.args.outline.arguments.now)) c.in_ok-command.ensures.app c.with_all.ensures.app
 
 pub returns-clause-globals : goal.returns-clause-globals
 returns-clause-globals c = c.with_all.ensures.globals

@@ -118,15 +118,15 @@ returns-in-expect-clause-none c =
     c.expect_of.ensures.none
 
 pub returns-in_default-clause-name : goal.returns-in_default-clause-name
-returns-in_default-clause-name c = c.task_call.ensures.name
+returns-in_default-clause-name c = c.task_of.ensures.name
 
 pub returns-in_default-clause-rows : goal.returns-in_default-clause-rows
-returns-in_default-clause-rows c = c.task_call.ensures.rows
+returns-in_default-clause-rows c = c.task_of.ensures.rows
 
 pub returns-in_default-clause-none : goal.returns-in_default-clause-none
 returns-in_default-clause-none c =
     let rows = rows_of (found_of c.args.found.now) in
-    ok_none c.task_call.result ((t : Task) → c.args.name.now ≡ command_name t.action → IsTask rows t → ⊥) ((r : Call) → c.args.name.now ≡ call_name r → IsCall rows r → ⊥)
+    ok_none c.task_of.result ((t : Task) → c.args.name.now ≡ command_name t.action → IsTask rows t → ⊥) ((r : Call) → c.args.name.now ≡ call_name r → IsCall rows r → ⊥)
     (no_other_call rows c.args.name.now c.in_default.not-explain c.in_default.not-wave c.in_default.not-expect c.in_default.not-diff
     c.in_default.not-draw c.in_default.not-inspect c.in_default.not-coverage)
-    c.task_call.ensures.none
+    c.task_of.ensures.none

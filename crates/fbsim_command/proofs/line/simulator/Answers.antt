@@ -1,10 +1,16 @@
-use Rattle.std.proofs.Common.{◌∙◌}
+use Rattle.std.proofs.Common.{◌∙◌, true, ap}
+use Rattle.clap.specs.Simple.{app_of_fields}
+use Rattle.clap.specs.Words.{App}
 use Rattle.fbsim_command.specs.Line.{kinds, program}
-use Rattle.fbsim_command.proofs.BuildLaws.{joins-first, joins-on, joins-past, kinds_are}
+use Rattle.fbsim_command.proofs.BuildLaws.{joins-first, joins-on, joins-past}
 use Rattle.fbsim_command.proofs.line.simulator.Goals as goal
 
 pub loop-kind-init : goal.loop-kind-init
-loop-kind-init c = joins-first c.args.forms program kinds c.program-command.result c.program-command.ensures
+loop-kind-init c =
+    joins-first c.args.forms program kinds c.subcommand_required-command.result
+    (ap app_of_fields c.subcommand_required-command.ensures
+    ∙ ap (λ (a : App). record a { top = record a.top { subcommand_required = true } })
+    (ap app_of_fields c.version.ensures ∙ ap (λ (a : App). record a { top = record a.top { has_version = true } }) c.titled.ensures.app))
 
 pub loop-kind-preserved : goal.loop-kind-preserved
 loop-kind-preserved c =
@@ -12,4 +18,4 @@ loop-kind-preserved c =
     c.in-Ok.ensures.app c.loop-kind.invariant
 
 pub returns : goal.returns
-returns c = joins-past c.args.forms program kinds c.loop-kind.kind-index c.loop-kind.command c.loop-kind-test.false c.loop-kind.invariant ∙ kinds_are c.args.forms
+returns c = joins-past c.args.forms program kinds c.loop-kind.kind-index c.loop-kind.command c.loop-kind-test.false c.loop-kind.invariant

@@ -7,14 +7,16 @@ use Rattle.fbsim_command.proofs.line.task_of.Goals as goal
 pub returns-clause-rows : goal.returns-clause-rows
 returns-clause-rows c =
     let m = found_of c.args.found.now in
-    let given : first_value m (codes "DECL") ≡ Some c.in-Some.declaration.now = search rules in
-    record {
-      declaration = sym (first_value-rows m (codes "DECL")) ∙ given;
-      deploy = sym (first_value-rows m (codes "deploy")) ∙ sym c.get_str-deploy.ensures;
-      stimuli = sym (first_value-rows m (codes "stim")) ∙ sym c.get_str-stimuli.ensures;
-      why = c.has_flag-why.ensures;
-      action = c.in-Some-action_of.ensures.options;
-    }
+    let given : first_value m (codes "DECL") ≡ Some c.in-Some.declaration.now = search rules in (
+      record {
+        declaration = sym (first_value-rows m (codes "DECL")) ∙ given;
+        deploy = sym (first_value-rows m (codes "deploy")) ∙ sym c.get_str-deploy.ensures;
+        stimuli = sym (first_value-rows m (codes "stim")) ∙ sym c.get_str-stimuli.ensures;
+        why = c.has_flag-why.ensures;
+        action = c.in-Some-action_of.ensures.options;
+      },
+      c.in_ok-types.ensures,
+    )
 
 pub returns-in_default-clause-none : goal.returns-in_default-clause-none
 returns-in_default-clause-none c =
