@@ -34,6 +34,13 @@ pub says :
 says bytes sys x line fault words None applies is = tt
 says bytes sys x line fault words (Some n) applies is = record { fault = fault; applies = applies; words = words; is = is }
 
+-- the note to a line, as that of the trace that is refused there
+pub refused_line :
+    {U S : Type 0} (bytes : S → Text) (why : Bool) (sys : System) (x : CurrentLine) (line : ℕ) (written : Result U WaveError) (note : Option S) → IsTrue why → written ≡ Err (wave.Refused line)
+    → IfSome note (λ n. SaysFault sys x line (bytes n)) → IfSome note (λ n. IsTrue why × ((line : ℕ) × (written ≡ Err (wave.Refused line)) × SaysFault sys x line (bytes n)))
+refused_line bytes why sys x line written None asked is said = tt
+refused_line bytes why sys x line written (Some n) asked is said = (asked, (line, is, said))
+
 -- what is said of a refused line
 pub line_noted :
     {U S : Type 0} (bytes : S → Text) (why : Bool) (given : Given) (trace : Held) (i : Inputs) (x : CurrentLine) (written : Result U WaveError) (e : WaveError) (failure : Failure) (note : Option S)

@@ -357,22 +357,7 @@ fn form_of(found: &ArgMatches<'_>) -> Option<Form>
     }
 }
 
-/// A run with the options that were found.
-fn run_of(found: &ArgMatches<'_>) -> Option<Action>
-    ensures name { IfSome result (λ o. codes "run" ≡ command_name o) }
-    ensures options { IfSome result (λ o. IsAction (rows_of (found_of found.now)) o) }
-    ensures none { IfNone result ((o : Action) → codes "run" ≡ command_name o → IsAction (rows_of (found_of found.now)) o → ⊥) }
-{
-    Some(Action::Run {
-        horizon: number(found, "horizon")?,
-        steps: number(found, "steps")?,
-        workers: number(found, "workers")?,
-        serial: has_flag(found, "serial"),
-        form: form_of(found)?,
-        progress: has_flag(found, "progress"),
-    })
-}
-
+/// What the command of this name does, with the options that were found.
 fn action_of(name: &str, found: &ArgMatches<'_>) -> Option<Action>
     ensures name { IfSome result (λ o. name.now ≡ command_name o) }
     ensures options { IfSome result (λ o. IsAction (rows_of (found_of found.now)) o) }
@@ -382,7 +367,14 @@ fn action_of(name: &str, found: &ArgMatches<'_>) -> Option<Action>
         "check" => Some(Action::Check {
             lint: has_flag(found, "lint"),
         }),
-        "run" => run_of(found),
+        "run" => Some(Action::Run {
+            horizon: number(found, "horizon")?,
+            steps: number(found, "steps")?,
+            workers: number(found, "workers")?,
+            serial: has_flag(found, "serial"),
+            form: form_of(found)?,
+            progress: has_flag(found, "progress"),
+        }),
         _ => None,
     }
 }

@@ -26,18 +26,8 @@ fn note_with(alloc: Global, line: u64, words: &str) -> Option<String>
     }
 }
 
-/// What is wrong with the line of this number, at which a trace is refused. Without memory for it there is none.
-fn note_of_line(alloc: Global, system: &System, line: u64, current: &CurrentLine) -> Option<String>
-    ensures { IfSome result (λ note. SaysFault system.now current.now line (string_bytes note)) }
-{
-    let fault = fault_of(system, current)?;
-    let Ok(words) = line_message(alloc, system, current, fault) else {
-        return None;
-    };
-    note_with(alloc, line, words.as_str())
-}
-
-/// The note to a trace of which this was written, where one is asked for.
+/// The note to a trace of which this was written, where one is asked for: what is wrong with the line at which it is
+/// refused. Without memory for it there is none.
 pub(crate) fn note_of_trace_line(
     alloc: Global,
     why: bool,
@@ -51,10 +41,14 @@ pub(crate) fn note_of_trace_line(
     if !why {
         return None;
     }
-    match written {
-        Err(WaveError::Refused(line)) => note_of_line(alloc, system, *line, current),
-        _ => None,
-    }
+    let Err(WaveError::Refused(line)) = written else {
+        return None;
+    };
+    let fault = fault_of(system, current)?;
+    let Ok(words) = line_message(alloc, system, current, fault) else {
+        return None;
+    };
+    note_with(alloc, *line, words.as_str())
 }
 
 /// The note to the end of a call for waveforms: that of a line, if there is one, or that of a check.
