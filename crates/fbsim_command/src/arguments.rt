@@ -150,8 +150,7 @@ pub(crate) fn made<'a>(alloc: Global, outline: Outline<'a, '_>) -> Result<Comman
     with_all(alloc, command, outline.arguments)
 }
 
-/// The same, with the names of a declaration, of the files of block types before it, and of its deployment before the
-/// arguments.
+/// The same, with arguments for a declaration, the files of block types and a deployment before those of the outline.
 pub(crate) fn deployed<'a>(
     alloc: Global,
     outline: Outline<'a, '_>,

@@ -40,7 +40,7 @@ const STEPS_HELP: &str =
 const CUT_HELP: &str =
     "Accepts traces that are cut off, without a last line or within a line; the report says how many are.";
 
-/// The command that reports what traces cover, after the names of the files of a system.
+/// The command that reports what traces cover. `deployed` puts the files of a system before its arguments.
 pub(crate) const COVERAGE_COMMAND: Outline<'static, 'static> = Outline {
     name: "coverage",
     about: ABOUT,

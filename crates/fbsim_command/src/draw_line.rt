@@ -29,7 +29,7 @@ const EXAMPLE: &str = "Example: fbsim draw cell.iec --deploy cell.toml | dot -Ts
 const TYPE_HELP: &str =
     "The name of the type to draw, in any letter case: the chart of a basic type, the network of a composite type; without it the application is drawn.";
 
-/// The command that draws what is declared, after the names of the files of a system.
+/// The command that draws what is declared. `deployed` puts the files of a system before its arguments.
 pub(crate) const DRAW_COMMAND: Outline<'static, 'static> = Outline {
     name: "draw",
     about: ABOUT,

@@ -47,7 +47,7 @@ const STEPS_HELP: &str =
 const CUT_HELP: &str =
     "Accepts a trace that is cut off, without a last line or within a line; the output says so at its end.";
 
-/// The command that inspects a trace, after the names of the files of a system.
+/// The command that inspects a trace. `deployed` puts the files of a system before its arguments.
 pub(crate) const INSPECT_COMMAND: Outline<'static, 'static> = Outline {
     name: "inspect",
     about: ABOUT,

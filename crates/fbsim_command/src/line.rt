@@ -203,7 +203,7 @@ fn forms<'a>() -> ValueParser<'a>
     ValueParser::Names(FORM_WORDS)
 }
 
-/// The command that checks, after the names of the files of a system.
+/// The command that checks. `deployed` puts the files of a system before its arguments.
 const CHECK_COMMAND: Outline<'static, 'static> = Outline {
     name: "check",
     about: CHECK_ABOUT,
@@ -239,7 +239,7 @@ fn run<'a>(alloc: Global, forms: ValueParser<'a>) -> Result<Command<'a>, AllocEr
     deployed(alloc, outline)
 }
 
-/// The command that shows a trace, after the names of the files of a system.
+/// The command that shows a trace. `deployed` puts the files of a system before its arguments.
 const WAVE_COMMAND: Outline<'static, 'static> = Outline {
     name: "wave",
     about: WAVE_ABOUT,
