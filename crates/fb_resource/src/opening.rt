@@ -89,12 +89,14 @@ pub fn open_agenda(alloc: Global, system: &System, of: Option<u32>) -> Result<Ag
     ensures { IfOk result (IsOpened system.now of) }
 {
     let mut agenda = Agenda::new(alloc, system.count())?;
+    // The stimuli, each at its tick and under its row.
     for row in 0..row_count(system) {
         let key = key_of_stimulus(system, row);
         if is_asked(of, key.resource) {
             agenda.put(key, Event::Stimulus(row))?;
         }
     }
+    // The timers that start by themselves.
     system.facts();
     for instance in 0..system.count() {
         let number = instance as u32;
@@ -117,10 +119,12 @@ pub fn open_agendas(alloc: Global, system: &System) -> Result<Vec<Agenda>, Alloc
     for _ in 0..system.resources() {
         agendas.push(Agenda::new(alloc, system.count())?)?;
     }
+    // The stimuli, each at its tick and under its row.
     for row in 0..row_count(system) {
         let key = key_of_stimulus(system, row);
         agendas[key.resource as usize].put(key, Event::Stimulus(row))?;
     }
+    // The timers that start by themselves.
     system.facts();
     for instance in 0..system.count() {
         let number = instance as u32;

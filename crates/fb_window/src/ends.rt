@@ -51,6 +51,7 @@ pub(crate) fn end_of(resources: &[Resource], horizon: u64) -> End
 {
     match first_stop(resources) {
         Some(mark) => {
+            // Each that has not stopped has to be past the tick of the stop.
             for resource in resources {
                 if resource.stopped().is_none() && resource.clock() <= mark.tick {
                     return End::Open;
@@ -59,6 +60,7 @@ pub(crate) fn end_of(resources: &[Resource], horizon: u64) -> End
             End::Stop(mark)
         }
         None => {
+            // All clocks have to be at the horizon.
             for resource in resources {
                 if resource.clock() != horizon {
                     return End::Open;

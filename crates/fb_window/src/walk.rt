@@ -56,6 +56,7 @@ impl Walk<'_> {
         ensures may { OnOk result (MayTurn self.new) }
         ensures same { IsSame self.old self.new }
     {
+        // A list of one message is handed on as it is.
         if sent.len() == 1 {
             let receiver = self.system.resource(sent[0].target.instance);
             return self.hand(receiver, sent);
