@@ -62,7 +62,7 @@ pub(crate) fn basic_of(system: &System, instance: u32) -> Option<&BasicType>
     }
 }
 
-/// Whether an instance is a basic block of the type with this name.
+/// Whether some instance is a basic block of the type with this name.
 pub(crate) fn is_used(system: &System, name: &Name) -> bool
     ensures { result ≡ is_used system.now name.now }
 {

@@ -57,7 +57,7 @@ is_named c values = list_any (is_named_by c) (words_after values)
 abbrev pub is_met : Condition → (values : Text) → Bool
 is_met c values = list_any (is_met_by c) (words_after values)
 
--- whether one of them is of the variable and, if it must meet the condition, also does
+-- whether one of them is of the variable and, if it must, also meets the condition
 abbrev pub is_found_by : Condition → (must_meet : Bool) → (word : Text) → Bool
 is_found_by c true = is_met_by c
 is_found_by c false = is_named_by c
