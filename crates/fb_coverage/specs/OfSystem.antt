@@ -33,10 +33,7 @@ opening_marks i = openings.opening_marks i.library.blocks (system_of i)
 
 -- ---- The report
 
--- what it says of the ports of an instance, and of all instances
-abbrev pub instance_text : Inputs → Marks → (instance : ℕ) → Path → List ℕ
-instance_text i = reports.instance_text (system_of i)
-
+-- what it says of the ports of all instances
 abbrev pub instances_text : Inputs → Marks → List ℕ
 instances_text i marks = reports.listed (reports.instance_text (system_of i) marks) 0 (system_of i).paths
 

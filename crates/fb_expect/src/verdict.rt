@@ -1,6 +1,6 @@
 //! The result of a rule.
 
-ghost use Rattle.std.specs.Prelude.{◌≡◌, ℕ, Bool, List};
+ghost use Rattle.std.specs.Prelude.{◌≡◌, List};
 ghost use Rattle.fb_expect.specs.Rules as spec;
 ghost use Rattle.fb_expect.specs.Rules.{IsVerdict};
 ghost use Rattle.fb_expect.specs.Traces.{tick_of};

@@ -1,9 +1,8 @@
 -- What contracts say of the signals of a system: its value is the accepted inputs, and each of these is of the flat system.
-use Rattle.std.specs.Prelude.{ℕ, List, Bool, Option}
+use Rattle.std.specs.Prelude.{ℕ, List, Option}
 use Rattle.fb_types.specs.Headline.{Inputs, system_of}
 use Rattle.fb_types.specs.Names.{Name, Path}
 use Rattle.fb_types.specs.Simulation.{Ending}
-use Rattle.fb_types.specs.declared.library.Variable.{Variable}
 use Rattle.fb_types.specs.declared.run.Form.{Form}
 use Rattle.fb_types.specs.declared.run.Line.{Line}
 use Rattle.fb_types.specs.declared.run.StopMark.{StopMark}
@@ -36,9 +35,6 @@ use Rattle.fb_wave.specs.declared.truncation.Cut.{Cut}
 abbrev pub HasNames : Inputs → Type 0
 HasNames i = named.HasNames (system_of i)
 
-abbrev pub is_named_at : Inputs → (instance : ℕ) → Bool
-is_named_at i = named.is_named_at (system_of i)
-
 abbrev pub IsPortOf : Inputs → Port → Type 0
 IsPortOf i = ports.IsPortOf (system_of i)
 
@@ -52,13 +48,6 @@ abbrev pub BeginsWith : Inputs → (text : List ℕ) → Port → (rest : List �
 BeginsWith i = ports.BeginsWith (system_of i)
 
 -- ---- What is read of a trace
-
--- the variables WITH a port, and those among which they are
-abbrev pub port_side : Inputs → Port → List Variable
-port_side i = lines.port_side (system_of i)
-
-abbrev pub port_variables : Inputs → Port → List Name
-port_variables i = lines.port_variables (system_of i)
 
 abbrev pub AreValuesOf : Inputs → Port → (text : List ℕ) → (values : List Value) → Type 0
 AreValuesOf i = lines.AreValuesOf (system_of i)

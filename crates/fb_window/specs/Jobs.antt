@@ -1,8 +1,7 @@
 -- The jobs of a phase, and what does them (this project's profile).
-use Rattle.std.specs.Prelude.{◌≡◌, ℕ, ◌+◌, ◌^◌, ◌≤◌, List, [], ◌∷◌, ◌++◌, length, Option, Some, None, refl, slice_get, slice_index_or}
+use Rattle.std.specs.Prelude.{◌≡◌, ℕ, ◌+◌, ◌^◌, ◌≤◌, List, [], ◌∷◌, ◌++◌, Option, Some, None, refl, slice_get, slice_index_or}
 use Rattle.std.specs.Coded.{Coded, code_by, coded×, coded_ℕ}
-use Rattle.fb_types.specs.Headline.{Inputs, system_of}
-use Rattle.fb_types.specs.Parts.{count_of}
+use Rattle.fb_types.specs.Headline.{Inputs}
 use Rattle.fb_system.specs.contracts.system.System as system
 use Rattle.fb_resource.specs.Resources.{IsOf, HasRun}
 use Rattle.fb_resource.specs.contracts.resource.Resource as resource
@@ -53,9 +52,3 @@ resting_of x = elim x.stopped [ None ↦ None | Some reason ↦ Some x ]
 -- Each resource that has not stopped may run to the bound at its index.
 abbrev pub MayLeave : (bounds : List ℕ) → List Resource → Type 0
 MayLeave bs xs = (r : ℕ) (x : Resource) → slice_get xs r ≡ Some x → x.stopped ≡ None → (x.clock ≤ slice_index_or bs r 0) × (slice_index_or bs r 0 ≤ 10 ^ 12)
-
--- The resources of a system, in order.
-pub record AreOf (i : Inputs) (xs : List Resource) : Type 0 where
-  pub counted : length xs ≡ count_of (system_of i)
-  pub numbered : (r : ℕ) (x : Resource) → slice_get xs r ≡ Some x → x.tree.resource ≡ r
-  pub of : (r : ℕ) (x : Resource) → slice_get xs r ≡ Some x → IsOf i x
