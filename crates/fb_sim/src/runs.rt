@@ -89,6 +89,8 @@ fn run_rounds<R: Threads + Wait + Sync, W: Write, P: Gate, C: Clock + CpuClock>(
     if let Some(pace) = pace {
         // Where one agenda is quicker than the first rounds, it runs from the opening.
         if is_quicker(alloc, system, options, pace, clock)? {
+            // The resources are not needed any more: the run makes its own.
+            drop(leg);
             return run_one_agenda(alloc, system, options, out);
         }
     }
