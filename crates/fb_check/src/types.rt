@@ -37,7 +37,6 @@ pub use resolution::resolve;
 pub use scope::Scope;
 pub use statements::{Standing, all_statements};
 pub use value_kinds::{
-    Typing, are_same, is_condition, is_step_whole, is_value_kind, is_whole, value_kind_of,
-    value_kind_of_type,
+    Typing, are_same, is_step_whole, is_value_kind, value_kind_of, value_kind_of_type,
 };
 pub use variables::{port_type, type_among, variable_type};

@@ -3,7 +3,7 @@
 ghost use Rattle.std.specs.Prelude.{◌≡◌, [], ◌∷◌, option_and_then};
 ghost use Rattle.fb_types.specs.Kinds.{are_truths, are_whole, binary_value_kind, function_value_kind, is_value_kind, same_value_kind, value_kind_of, value_kind_of_type, value_kinds_of, unary_value_kind};
 ghost use Rattle.fb_types.specs.Syntax.{expr_of, step_of};
-ghost use Rattle.fb_types.specs.declared.value_kind.ValueKind.TheVariants.{TruthValue, WholeNumber};
+ghost use Rattle.fb_types.specs.declared.value_kind.ValueKind.TheVariants.{WholeNumber};
 ghost use Rattle.fb_check.specs.types.Trees.{arguments_of};
 
 use fb_types::{BinaryOperator, Expr, Function, Name, Ty, UnaryOperator, ValueKind};
@@ -203,26 +203,12 @@ pub fn is_value_kind<T: Typing>(value_kind: ValueKind, expr: &Expr, typing: &T) 
     }
 }
 
-/// Whether an expression is a truth value.
-pub fn is_condition<T: Typing>(expr: &Expr, typing: &T) -> bool
-    ensures { result ≡ is_value_kind TruthValue (value_kind_of (T.types typing.now) (expr_of expr.now)) }
-{
-    is_value_kind(ValueKind::TruthValue, expr, typing)
-}
-
-/// Whether an expression is a whole number.
-pub fn is_whole<T: Typing>(expr: &Expr, typing: &T) -> bool
-    ensures { result ≡ is_value_kind WholeNumber (value_kind_of (T.types typing.now) (expr_of expr.now)) }
-{
-    is_value_kind(ValueKind::WholeNumber, expr, typing)
-}
-
-/// The same for the step of FOR, if there is one.
+/// Whether the step of FOR, if there is one, is a whole number.
 pub fn is_step_whole<T: Typing>(step: &Option<Expr>, typing: &T) -> bool
     ensures { result ≡ is_value_kind WholeNumber (value_kind_of (T.types typing.now) (step_of step.now)) }
 {
     match step {
-        Some(step) => is_whole(step, typing),
+        Some(step) => is_value_kind(ValueKind::WholeNumber, step, typing),
         None => true,
     }
 }
