@@ -44,6 +44,11 @@ and_both {T} {E} {P} {Q} {R} q (Ok x) (Ok y) is f first last = subst (λ (d : Re
 and_both {T} {E} {P} {Q} {R} q (Ok x) (Err e) is f first last = subst (λ (d : Result T E). IfOk d (λ _. R)) (sym is) tt
 and_both {T} {E} {P} {Q} {R} q (Err e) s is f first last = subst (λ (d : Result T E). IfOk d (λ _. R)) (sym is) tt
 
+-- what holds of the answer that is given in place of a call's own
+pub ok_joined : {A B E P : Type 0} (Q : B → Type 0) (q : Result B E) (r : Result A E) (x : B) → q ≡ result_and r (Ok x) → IfOk r (λ _. P) → (P → Q x) → IfOk q Q
+ok_joined {A} {B} {E} {P} Q q (Ok a) x is h f = subst (λ (d : Result B E). IfOk d Q) (sym is) (f h)
+ok_joined {A} {B} {E} {P} Q q (Err e) x is h f = subst (λ (d : Result B E). IfOk d Q) (sym is) tt
+
 -- what each item means is added with the item
 pub meaning_added :
     {A X T E : Type 0} (r : Result T E) (f : A → X) (old new : List A) (x : A) → IfOk r (λ _. new ≡ old ++ (x ∷ [])) → IfOk r (λ _. map f new ≡ map f old ++ (f x ∷ []))

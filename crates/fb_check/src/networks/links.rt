@@ -82,8 +82,8 @@ pub fn unlinked_locations(
     let network = &library.application.network;
     let mut found = Vec::new(alloc);
     let events = network.event_connections.as_slice();
-    push_unlinked(&mut found, plan, mapping, &ways, FlowKind::Events, events)?;
     let data = network.data_connections.as_slice();
-    push_unlinked(&mut found, plan, mapping, &ways, FlowKind::Data, data)?;
-    Ok(found)
+    push_unlinked(&mut found, plan, mapping, &ways, FlowKind::Events, events)
+        .and(push_unlinked(&mut found, plan, mapping, &ways, FlowKind::Data, data))
+        .and(Ok(found))
 }

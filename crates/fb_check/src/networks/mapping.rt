@@ -119,13 +119,13 @@ fn list_all<'a>(
     ensures indexes { IfOk result (λ l. AreLastIndexes (flat_map (λ r. r.instances) resources.now) l.indexes) }
     ensures owners { IfOk result (λ l. l.owners.items ≡ each_at owners_in resources.now) }
 {
+    let owners = owners_of(alloc, resources)?;
     let names = listed_names(alloc, resources)?;
     let mut again = Vec::new(alloc);
     let indexes = last_indexes(alloc, &mut again, names.as_slice())?;
-    push_unlisted(found, &indexes, instances)?;
-    push_again(found, again.as_slice())?;
-    let owners = owners_of(alloc, resources)?;
-    Ok(Listed { indexes, owners })
+    push_unlisted(found, &indexes, instances)
+        .and(push_again(found, again.as_slice()))
+        .and(Ok(Listed { indexes, owners }))
 }
 
 /// Which resource holds each instance of the application, if each is mapped to one. Adds all that are not (E26): the

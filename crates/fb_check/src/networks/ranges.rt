@@ -109,13 +109,8 @@ pub fn misjoin_locations(
     ensures none { IfOk result (λ found. found.items ≡ [] → ¬ (OutOfRange library.now)) }
 {
     let mut found = Vec::new(alloc);
-    push_in_blocks(&mut found, library, &numbers.blocks)?;
-    push_in_network(
-        &mut found,
-        library,
-        Site::Application,
-        None,
-        &numbers.application,
-    )?;
-    Ok(found)
+    let application = &numbers.application;
+    push_in_blocks(&mut found, library, &numbers.blocks)
+        .and(push_in_network(&mut found, library, Site::Application, None, application))
+        .and(Ok(found))
 }

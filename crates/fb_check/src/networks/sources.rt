@@ -97,8 +97,8 @@ pub fn joined_locations(alloc: Global, library: &Library) -> Result<Vec<Joined>,
     ensures none { IfOk result (λ found. found.items ≡ [] → ¬ (TwoSources library.now)) }
 {
     let mut found = Vec::new(alloc);
-    push_in_blocks(alloc, &mut found, library.blocks.as_slice())?;
     let connections = library.application.network.data_connections.as_slice();
-    push_in_network(alloc, &mut found, Site::Application, connections)?;
-    Ok(found)
+    push_in_blocks(alloc, &mut found, library.blocks.as_slice())
+        .and(push_in_network(alloc, &mut found, Site::Application, connections))
+        .and(Ok(found))
 }

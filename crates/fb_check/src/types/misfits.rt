@@ -208,14 +208,9 @@ pub fn misfit_locations(
 {
     let mut found = Vec::new(alloc);
     let indexes = catalog.blocks.as_slice();
-    push_in_blocks(alloc, &mut found, library, indexes, &numbers.blocks)?;
     let network = &library.application.network;
-    push_wrong_parameters(
-        &mut found,
-        library,
-        Site::Application,
-        network,
-        &numbers.application,
-    )?;
-    Ok(found)
+    let site = Site::Application;
+    push_in_blocks(alloc, &mut found, library, indexes, &numbers.blocks)
+        .and(push_wrong_parameters(&mut found, library, site, network, &numbers.application))
+        .and(Ok(found))
 }

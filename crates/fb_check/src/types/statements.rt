@@ -96,8 +96,7 @@ pub fn all_statements(alloc: Global, body: &Body) -> Result<Vec<Standing>, Alloc
     ensures { IfOk result (λ r. all_standing r.items ≡ each_in_body false (body_of body.now)) }
 {
     let mut all = Vec::new(alloc);
-    push_statements(&mut all, &body.statements, false)?;
-    Ok(all)
+    push_statements(&mut all, &body.statements, false).and(Ok(all))
 }
 
 /// A statement of an algorithm of a block type, by its indexes.

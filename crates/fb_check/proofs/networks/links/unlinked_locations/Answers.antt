@@ -1,4 +1,4 @@
-use Rattle.std.proofs.Common.{◌≡◌, ◌++◌, [], List, Contains, sym, subst, ◌∙◌}
+use Rattle.std.proofs.Common.{◌≡◌, ◌++◌, [], List, Contains, subst, ◌∙◌}
 use Rattle.std.specs.Prelude.{All}
 use Rattle.fb_types.specs.Mapped.{NoLink}
 use Rattle.fb_types.specs.declared.deploy.Link.{Link}
@@ -9,6 +9,8 @@ use Rattle.fb_types.proofs.Elements.{Contains-nil}
 use Rattle.fb_check_names.specs.Listed.{each_at}
 use Rattle.fb_check_names.specs.declared.location.FlowKind.TheVariants.{Events, Data}
 use Rattle.fb_check_names.specs.declared.location.Unlinked.{Unlinked}
+use Rattle.fb_check.proofs.types.Added.{and_both, ok_joined}
+use Rattle.fb_check_names.proofs.Listing.{of_list}
 use Rattle.fb_check.specs.networks.Links.{AreWays, IsUnlinkedAt, unlinked_all, unlinked_at}
 use Rattle.fb_check.proofs.networks.Sets.{has_none, pair_cmp, pair_view}
 use Rattle.fb_check.proofs.networks.Unlinked.{each_unlinked, none_unlinked, ways_from}
@@ -38,18 +40,31 @@ are_all lib plan es ds f0 f1 f2 events values empty first second =
 
 pub returns-clause-listed : goal.returns-clause-listed
 returns-clause-listed c =
-    are_all c.args.library.now c.args.plan.now _ _ _ _ _ c.as_slice-events.ensures c.as_slice-data.ensures c.new-found.ensures.items c.in_ok-push_unlinked.ensures c.in_ok-push_unlinked-2.ensures
+    let lib = c.args.library.now in
+    let plan = c.args.plan.now in
+    ok_joined _ c.and-2.result c.and.result c.push_unlinked-2.new.found c.and-2.ensures
+    (and_both c.and.result c.push_unlinked.result c.push_unlinked-2.result c.and.ensures
+    (λ one two. are_all lib plan _ _ _ _ _ c.as_slice-events.ensures c.as_slice-data.ensures c.new-found.ensures.items one two) c.push_unlinked.ensures c.push_unlinked-2.ensures)
+    (λ are. are)
 
 pub returns-clause-each : goal.returns-clause-each
 returns-clause-each c =
     let lib = c.args.library.now in
     let plan = c.args.plan.now in
-    let are = are_all lib plan _ _ _ _ _ c.as_slice-events.ensures c.as_slice-data.ensures c.new-found.ensures.items c.in_ok-push_unlinked.ensures c.in_ok-push_unlinked-2.ensures in
-    subst (λ (ps : List Unlinked). All (IsUnlinkedAt lib plan) ps) (sym are) (each_unlinked lib plan)
+    of_list c.and-2.result (λ ps. All (IsUnlinkedAt lib plan) ps)
+    (ok_joined _ c.and-2.result c.and.result c.push_unlinked-2.new.found c.and-2.ensures
+    (and_both c.and.result c.push_unlinked.result c.push_unlinked-2.result c.and.ensures
+    (λ one two. are_all lib plan _ _ _ _ _ c.as_slice-events.ensures c.as_slice-data.ensures c.new-found.ensures.items one two) c.push_unlinked.ensures c.push_unlinked-2.ensures)
+    (λ are. are))
+    (each_unlinked lib plan)
 
 pub returns-clause-none : goal.returns-clause-none
 returns-clause-none c =
     let lib = c.args.library.now in
     let plan = c.args.plan.now in
-    let are = are_all lib plan _ _ _ _ _ c.as_slice-events.ensures c.as_slice-data.ensures c.new-found.ensures.items c.in_ok-push_unlinked.ensures c.in_ok-push_unlinked-2.ensures in
-    subst (λ (ps : List Unlinked). ps ≡ [] → ¬ (NoLink lib plan)) (sym are) (none_unlinked lib plan)
+    of_list c.and-2.result (λ ps. ps ≡ [] → ¬ (NoLink lib plan))
+    (ok_joined _ c.and-2.result c.and.result c.push_unlinked-2.new.found c.and-2.ensures
+    (and_both c.and.result c.push_unlinked.result c.push_unlinked-2.result c.and.ensures
+    (λ one two. are_all lib plan _ _ _ _ _ c.as_slice-events.ensures c.as_slice-data.ensures c.new-found.ensures.items one two) c.push_unlinked.ensures c.push_unlinked-2.ensures)
+    (λ are. are))
+    (none_unlinked lib plan)

@@ -1,4 +1,4 @@
-use Rattle.std.proofs.Common.{◌≡◌, ◌++◌, [], List, None, sym, subst, ◌∙◌, ap}
+use Rattle.std.proofs.Common.{◌≡◌, ◌++◌, [], List, None, ◌∙◌, ap}
 use Rattle.std.specs.Prelude.{All}
 use Rattle.fb_types.specs.Joined.{OutOfRange}
 use Rattle.fb_types.specs.Repeated.{NameTwice}
@@ -9,6 +9,8 @@ use Rattle.fb_check_names.specs.Numbers.{IsResolved}
 use Rattle.fb_check_names.specs.declared.location.Misjoin.{Misjoin}
 use Rattle.fb_check_names.specs.declared.location.Site.TheVariants.{Application}
 use Rattle.fb_check_names.specs.declared.numbers.Resolved.{Resolved}
+use Rattle.fb_check.proofs.types.Added.{and_both, ok_joined}
+use Rattle.fb_check_names.proofs.Listing.{of_list}
 use Rattle.fb_check.specs.networks.Misjoins.{IsMisjoinedAt, misjoins_all, out_at_index, out_in}
 use Rattle.fb_check.proofs.networks.Joined.{each_misjoin, misjoins_are, none_misjoin}
 use Rattle.fb_check.proofs.networks.ranges.misjoin_locations.Goals as goal
@@ -24,16 +26,28 @@ are_all lib plan r f0 f1 f2 once is empty blocks application =
 
 pub returns-clause-listed : goal.returns-clause-listed
 returns-clause-listed c =
-    are_all c.args.library.now c.requires.0 c.args.numbers.now _ _ _ c.requires.2 c.requires.1 c.new-found.ensures.items c.in_ok-push_in_blocks.ensures c.in_ok-push_in_network.ensures
+    let lib = c.args.library.now in
+    ok_joined _ c.and-2.result c.and.result c.push_in_network.new.found c.and-2.ensures
+    (and_both c.and.result c.push_in_blocks.result c.push_in_network.result c.and.ensures
+    (λ one two. are_all lib c.requires.0 c.args.numbers.now _ _ _ c.requires.2 c.requires.1 c.new-found.ensures.items one two) c.push_in_blocks.ensures c.push_in_network.ensures)
+    (λ are. are)
 
 pub returns-clause-each : goal.returns-clause-each
 returns-clause-each c =
     let lib = c.args.library.now in
-    let are = are_all lib c.requires.0 c.args.numbers.now _ _ _ c.requires.2 c.requires.1 c.new-found.ensures.items c.in_ok-push_in_blocks.ensures c.in_ok-push_in_network.ensures in
-    subst (λ (ps : List Misjoin). All (IsMisjoinedAt lib) ps) (sym are) (each_misjoin lib)
+    of_list c.and-2.result (λ ps. All (IsMisjoinedAt lib) ps)
+    (ok_joined _ c.and-2.result c.and.result c.push_in_network.new.found c.and-2.ensures
+    (and_both c.and.result c.push_in_blocks.result c.push_in_network.result c.and.ensures
+    (λ one two. are_all lib c.requires.0 c.args.numbers.now _ _ _ c.requires.2 c.requires.1 c.new-found.ensures.items one two) c.push_in_blocks.ensures c.push_in_network.ensures)
+    (λ are. are))
+    (each_misjoin lib)
 
 pub returns-clause-none : goal.returns-clause-none
 returns-clause-none c =
     let lib = c.args.library.now in
-    let are = are_all lib c.requires.0 c.args.numbers.now _ _ _ c.requires.2 c.requires.1 c.new-found.ensures.items c.in_ok-push_in_blocks.ensures c.in_ok-push_in_network.ensures in
-    subst (λ (ps : List Misjoin). ps ≡ [] → ¬ (OutOfRange lib)) (sym are) (none_misjoin lib)
+    of_list c.and-2.result (λ ps. ps ≡ [] → ¬ (OutOfRange lib))
+    (ok_joined _ c.and-2.result c.and.result c.push_in_network.new.found c.and-2.ensures
+    (and_both c.and.result c.push_in_blocks.result c.push_in_network.result c.and.ensures
+    (λ one two. are_all lib c.requires.0 c.args.numbers.now _ _ _ c.requires.2 c.requires.1 c.new-found.ensures.items one two) c.push_in_blocks.ensures c.push_in_network.ensures)
+    (λ are. are))
+    (none_misjoin lib)

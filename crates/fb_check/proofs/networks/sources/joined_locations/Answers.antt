@@ -1,4 +1,4 @@
-use Rattle.std.proofs.Common.{◌≡◌, ◌++◌, [], List, sym, subst, ◌∙◌}
+use Rattle.std.proofs.Common.{◌≡◌, ◌++◌, [], List, ◌∙◌}
 use Rattle.std.specs.Prelude.{All}
 use Rattle.fb_types.specs.Joined.{TwoSources}
 use Rattle.fb_types.specs.declared.library.BlockType.{BlockType}
@@ -8,6 +8,8 @@ use Rattle.fb_check_names.specs.Listed.{each_at}
 use Rattle.fb_check_names.specs.Sites.{inside_of}
 use Rattle.fb_check_names.specs.declared.location.Joined.{Joined}
 use Rattle.fb_check_names.specs.declared.location.Site.TheVariants.{Application}
+use Rattle.fb_check.proofs.types.Added.{and_both, ok_joined}
+use Rattle.fb_check_names.proofs.Listing.{of_list}
 use Rattle.fb_check.specs.networks.Sources.{IsJoinedAt, joined_all, joined_among, joined_in}
 use Rattle.fb_check.proofs.networks.Targets.{each_joined, none_joined}
 use Rattle.fb_check.proofs.networks.sources.joined_locations.Goals as goal
@@ -22,16 +24,28 @@ are_all lib bs cs f0 f1 f2 blocks connections empty first second =
 
 pub returns-clause-listed : goal.returns-clause-listed
 returns-clause-listed c =
-    are_all c.args.library.now _ _ _ _ _ c.as_slice.ensures c.as_slice-connections.ensures c.new-found.ensures.items c.in_ok-push_in_blocks.ensures c.in_ok-push_in_network.ensures
+    let lib = c.args.library.now in
+    ok_joined _ c.and-2.result c.and.result c.push_in_network.new.found c.and-2.ensures
+    (and_both c.and.result c.push_in_blocks.result c.push_in_network.result c.and.ensures
+    (λ one two. are_all lib _ _ _ _ _ c.as_slice.ensures c.as_slice-connections.ensures c.new-found.ensures.items one two) c.push_in_blocks.ensures c.push_in_network.ensures)
+    (λ are. are)
 
 pub returns-clause-each : goal.returns-clause-each
 returns-clause-each c =
     let lib = c.args.library.now in
-    let are = are_all lib _ _ _ _ _ c.as_slice.ensures c.as_slice-connections.ensures c.new-found.ensures.items c.in_ok-push_in_blocks.ensures c.in_ok-push_in_network.ensures in
-    subst (λ (ps : List Joined). All (IsJoinedAt lib) ps) (sym are) (each_joined lib)
+    of_list c.and-2.result (λ ps. All (IsJoinedAt lib) ps)
+    (ok_joined _ c.and-2.result c.and.result c.push_in_network.new.found c.and-2.ensures
+    (and_both c.and.result c.push_in_blocks.result c.push_in_network.result c.and.ensures
+    (λ one two. are_all lib _ _ _ _ _ c.as_slice.ensures c.as_slice-connections.ensures c.new-found.ensures.items one two) c.push_in_blocks.ensures c.push_in_network.ensures)
+    (λ are. are))
+    (each_joined lib)
 
 pub returns-clause-none : goal.returns-clause-none
 returns-clause-none c =
     let lib = c.args.library.now in
-    let are = are_all lib _ _ _ _ _ c.as_slice.ensures c.as_slice-connections.ensures c.new-found.ensures.items c.in_ok-push_in_blocks.ensures c.in_ok-push_in_network.ensures in
-    subst (λ (ps : List Joined). ps ≡ [] → ¬ (TwoSources lib)) (sym are) (none_joined lib)
+    of_list c.and-2.result (λ ps. ps ≡ [] → ¬ (TwoSources lib))
+    (ok_joined _ c.and-2.result c.and.result c.push_in_network.new.found c.and-2.ensures
+    (and_both c.and.result c.push_in_blocks.result c.push_in_network.result c.and.ensures
+    (λ one two. are_all lib _ _ _ _ _ c.as_slice.ensures c.as_slice-connections.ensures c.new-found.ensures.items one two) c.push_in_blocks.ensures c.push_in_network.ensures)
+    (λ are. are))
+    (none_joined lib)

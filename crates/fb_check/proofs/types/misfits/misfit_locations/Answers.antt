@@ -7,6 +7,8 @@ use Rattle.fb_check.specs.types.Checks.{AreBlocks}
 use Rattle.fb_check_names.specs.Listed.{each_at}
 use Rattle.fb_check_names.specs.declared.location.Misfit.{Misfit}
 use Rattle.fb_check_names.specs.declared.location.Site.TheVariants.{Application}
+use Rattle.fb_check.proofs.types.Added.{and_both, ok_joined}
+use Rattle.fb_check_names.proofs.Listing.{of_list}
 use Rattle.fb_check.specs.networks.Parameters.{misfits_in_network}
 use Rattle.fb_check.specs.types.MisfitLists.{misfits_all, misfits_in_block}
 use Rattle.fb_check.specs.types.Misfits.{IsMisfitAt}
@@ -36,16 +38,29 @@ are_all lib f0 f1 f2 empty blocks application =
     application ∙ ap (λ (ps : List Misfit). ps ++ last) (blocks ∙ ap (λ (ps : List Misfit). ps ++ each_at (misfits_in_block lib) lib.blocks) empty)
 
 pub returns-clause-listed : goal.returns-clause-listed
-returns-clause-listed c = are_all c.args.library.now _ _ _ c.new-found.ensures.items c.in_ok-push_in_blocks.ensures c.in_ok-push_wrong_parameters.ensures
+returns-clause-listed c =
+    let lib = c.args.library.now in
+    ok_joined _ c.and-2.result c.and.result c.push_wrong_parameters.new.found c.and-2.ensures
+    (and_both c.and.result c.push_in_blocks.result c.push_wrong_parameters.result c.and.ensures
+    (λ one two. are_all lib _ _ _ c.new-found.ensures.items one two) c.push_in_blocks.ensures c.push_wrong_parameters.ensures)
+    (λ are. are)
 
 pub returns-clause-each : goal.returns-clause-each
 returns-clause-each c =
     let lib = c.args.library.now in
-    subst (λ (ps : List Misfit). All (IsMisfitAt lib) ps)
-    (sym (are_all lib _ _ _ c.new-found.ensures.items c.in_ok-push_in_blocks.ensures c.in_ok-push_wrong_parameters.ensures)) (each_misfit lib)
+    of_list c.and-2.result (λ ps. All (IsMisfitAt lib) ps)
+    (ok_joined _ c.and-2.result c.and.result c.push_wrong_parameters.new.found c.and-2.ensures
+    (and_both c.and.result c.push_in_blocks.result c.push_wrong_parameters.result c.and.ensures
+    (λ one two. are_all lib _ _ _ c.new-found.ensures.items one two) c.push_in_blocks.ensures c.push_wrong_parameters.ensures)
+    (λ are. are))
+    (each_misfit lib)
 
 pub returns-clause-none : goal.returns-clause-none
 returns-clause-none c =
     let lib = c.args.library.now in
-    subst (λ (ps : List Misfit). ps ≡ [] → ¬ (KindWrong lib))
-    (sym (are_all lib _ _ _ c.new-found.ensures.items c.in_ok-push_in_blocks.ensures c.in_ok-push_wrong_parameters.ensures)) (none_misfit lib)
+    of_list c.and-2.result (λ ps. ps ≡ [] → ¬ (KindWrong lib))
+    (ok_joined _ c.and-2.result c.and.result c.push_wrong_parameters.new.found c.and-2.ensures
+    (and_both c.and.result c.push_in_blocks.result c.push_wrong_parameters.result c.and.ensures
+    (λ one two. are_all lib _ _ _ c.new-found.ensures.items one two) c.push_in_blocks.ensures c.push_wrong_parameters.ensures)
+    (λ are. are))
+    (none_misfit lib)

@@ -1,0 +1,11 @@
+use Rattle.std.proofs.Common.{false, List, ◌++◌, ◌∙◌, ap}
+use Rattle.fb_types.specs.Syntax.{body_of}
+use Rattle.fb_check.specs.types.Statements.{all_standing, each_in_body}
+use Rattle.fb_check.specs.declared.types.statements.Standing.{Standing}
+use Rattle.fb_check.proofs.types.Added.{ok_joined}
+use Rattle.fb_check.proofs.types.statements.all_statements.Goals as goal
+
+pub returns : goal.returns
+returns c =
+    ok_joined _ c.and.result c.push_statements.result _ c.and.ensures c.push_statements.ensures
+    (λ added. added ∙ ap (λ (xs : List Standing). all_standing xs ++ each_in_body false (body_of c.args.body.now)) c.new-all.ensures.items)
