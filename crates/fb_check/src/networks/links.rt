@@ -5,7 +5,8 @@ ghost use Rattle.fb_types.specs.Flat.{name_of_resource};
 ghost use Rattle.fb_types.specs.Mapped.{NoLink};
 ghost use Rattle.fb_check.specs.networks.Mapping.{IsMapping, IsHolding};
 ghost use Rattle.fb_check_names.specs.Listed.{each_at};
-ghost use Rattle.fb_check.specs.networks.Links.{AreWays, IsUnlinkedAt, unlinked_all, unlinked_at};
+ghost use Rattle.fb_check_names.specs.Pairs.{link_names};
+ghost use Rattle.fb_check.specs.networks.Links.{AreWays, IsUnlinkedAt, names_of_link, unlinked_all, unlinked_at};
 
 use crate::networks::mapping::{Mapping, resource_of};
 use fb_check_names::{FlowKind, Unlinked, push_unless};
@@ -16,13 +17,20 @@ use std::collections::BTreeSet;
 /// The names of two resources: the sender, and the receiver.
 type Way<'a> = (&'a [u8], &'a [u8]);
 
+/// The names of the resources that a link joins.
+fn way_of(link: &Link) -> Way<'_>
+    ensures { link_names result ≡ names_of_link link.now }
+{
+    (link.from.as_bytes(), link.to.as_bytes())
+}
+
 /// Adds the ordered pairs of resources that have a link to an empty set.
 fn add_ways<'a>(ways: &mut BTreeSet<Way<'a>, Global>, links: &'a [Link]) -> Result<(), AllocError>
     requires { AreWays [] ways.old }
     ensures { OnOk result (AreWays links.now ways.new) }
 {
     for link in links {
-        ways.insert((link.from.as_bytes(), link.to.as_bytes()))?;
+        ways.insert(way_of(link))?;
     }
     Ok(())
 }

@@ -3,15 +3,23 @@
 ghost use Rattle.std.specs.Prelude.{◌≡◌, ◌++◌, [], All, IfOk, map};
 ghost use Rattle.fb_types.specs.Joined.{TwoSources};
 ghost use Rattle.fb_types.specs.Names.{same_port};
+ghost use Rattle.fb_check_names.specs.Ends.{end_port};
 ghost use Rattle.fb_check_names.specs.Listed.{each_at};
 ghost use Rattle.fb_check_names.specs.Repeats.{repeats};
 ghost use Rattle.fb_check_names.specs.Sites.{inside_of};
-ghost use Rattle.fb_check.specs.networks.Sources.{IsJoinedAt, joined_all, joined_among, joined_at, joined_in, targets};
+ghost use Rattle.fb_check.specs.networks.Sources.{IsJoinedAt, joined_all, joined_among, joined_at, joined_in, target, targets};
 
 use fb_check_names::{EndNames, Joined, Repeat, Site, end_names, push_pair};
 use fb_types::{BlockType, Connection, Library};
 use std::alloc::{AllocError, Global};
 use std::collections::BTreeMap;
+
+/// The names at the end to which a connection leads.
+fn target_of(connection: &Connection) -> EndNames<'_>
+    ensures { end_port result ≡ target connection.now }
+{
+    end_names(&connection.to)
+}
 
 /// Each connection that leads to the port of one before, with the index of the nearest such connection.
 fn target_pairs(alloc: Global, connections: &[Connection]) -> Result<Vec<Repeat>, AllocError>
@@ -20,7 +28,7 @@ fn target_pairs(alloc: Global, connections: &[Connection]) -> Result<Vec<Repeat>
     let mut seen: BTreeMap<EndNames, usize, Global> = BTreeMap::new(alloc);
     let mut pairs = Vec::new(alloc);
     for (second, connection) in connections.iter().enumerate() {
-        let first = seen.insert(end_names(&connection.to), second)?;
+        let first = seen.insert(target_of(connection), second)?;
         push_pair(&mut pairs, first, second)?;
     }
     Ok(pairs)

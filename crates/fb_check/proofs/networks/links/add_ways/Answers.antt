@@ -11,8 +11,8 @@ loop-link-init c = λ k. c.requires.has k.0.now k.1.now
 
 pub loop-link-preserved : goal.loop-link-preserved
 loop-link-preserved c =
-    elements_more pair_cmp pair_view names_of_link _ _ _ _ _ (c.as_bytes.result, c.as_bytes-in-loop-link.result) pair_cmp-exact c.loop-link-test.true c.link-item.is
-    (λ i. (c.as_bytes.ensures i, c.as_bytes-in-loop-link.ensures i)) c.loop-link.invariant c.in_ok-insert.ensures.updates.0
+    elements_more pair_cmp pair_view names_of_link _ _ _ _ _ c.way_of.result pair_cmp-exact c.loop-link-test.true c.link-item.is
+    c.way_of.ensures c.loop-link.invariant c.in_ok-insert.ensures.updates.0
 
 pub returns : goal.returns
 returns c =

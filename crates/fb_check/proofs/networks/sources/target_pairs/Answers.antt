@@ -19,12 +19,12 @@ loop-second-preserved c =
     let xs = c.args.connections.now in
     let i = c.loop-second.second in
     let x = c.index-connections-second.result in (
-      last_more end_cmp end_port same_port target xs i x c.loop-second.seen c.insert.new.self c.end_names.result end_agrees c.loop-second-test.true c.index-connections-second.is c.end_names.ensures
+      last_more end_cmp end_port same_port target xs i x c.loop-second.seen c.insert.new.self c.target_of.result end_agrees c.loop-second-test.true c.index-connections-second.is c.target_of.ensures
           c.loop-second.invariant.0 c.in_ok-first.ensures.updates.0,
       each_more (pair_in same_port target xs) xs i x c.loop-second.pairs.items c.push_pair.new.pairs.items _ c.loop-second-test.true c.index-connections-second.is
           (c.in_ok-push_pair.ensures
           ∙ ap (λ (ps : List (ℕ × ℕ)). c.loop-second.pairs.items ++ ps)
-          (index_in_table end_cmp end_port same_port target xs i x c.loop-second.seen c.end_names.result _ c.end_names.ensures c.loop-second.invariant.0 c.in_ok-first.ensures.old))
+          (index_in_table end_cmp end_port same_port target xs i x c.loop-second.seen c.target_of.result _ c.target_of.ensures c.loop-second.invariant.0 c.in_ok-first.ensures.old))
           c.loop-second.invariant.1,
     )
 
