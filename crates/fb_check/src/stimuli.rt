@@ -13,6 +13,7 @@ ghost use Rattle.fb_check.specs.Stimuli.{AreAllBad, AreSlotsOr, IsAdded, IsBadAt
 use crate::directory::{Directory, inputs_at};
 use crate::directory_making::{TypeInputs, inputs_of_each, targets_of};
 use crate::location::{StimulusFault, StimulusLocation};
+use crate::types::there::push_one;
 use fb_check_names::{Catalog, index_of_name, indexes_of};
 use fb_system::{SlotValue, StimulusRow};
 use fb_types::{Items, Library, Name, Setting, Stimulus, Value, all_ports};
@@ -135,10 +136,9 @@ fn push_row(
     ensures { IfOk result (λ _. IsAdded row made rows.old rows.new found.old.items found.new.items) }
 {
     match made {
-        Ok(taken) => rows.push(taken)?,
-        Err(fault) => found.push(StimulusLocation { row, fault })?,
+        Ok(taken) => rows.push(taken),
+        Err(fault) => push_one(found, StimulusLocation { row, fault }),
     }
-    Ok(())
 }
 
 /// The stimuli by number, each at its row, from what they may name. Adds all that can't be taken.

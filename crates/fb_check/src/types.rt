@@ -27,7 +27,7 @@ mod networks;
 pub mod resolution;
 pub mod scope;
 pub mod statements;
-mod there;
+pub(crate) mod there;
 pub mod value_kinds;
 pub mod variables;
 
