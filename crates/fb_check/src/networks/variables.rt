@@ -27,19 +27,6 @@ pub fn input_type(library: &Library, number: TypeNumber, index: usize) -> Option
     }
 }
 
-/// The type of a data output of a block type.
-fn output_type(library: &Library, number: TypeNumber, index: usize) -> Option<Ty>
-    ensures { result ≡ spec.output_type library.now number index }
-{
-    match number {
-        TypeNumber::Event(kind) => event_block_output(kind, index),
-        TypeNumber::Declared(block) => {
-            let ports = library.blocks.get(block)?.ports();
-            type_at(ports.outputs.as_slice(), index)
-        }
-    }
-}
-
 /// The type of the variable at which a data connection begins, in a network with these ports around it.
 pub fn source_type(
     library: &Library,
@@ -49,9 +36,15 @@ pub fn source_type(
 ) -> Option<Ty>
     ensures { result ≡ spec.source_type library.now (option_copied boundary.entry) types.now end }
 {
-    match end.component {
-        Some(component) => output_type(library, *types.get(component)?, end.port),
-        None => type_at(boundary?.inputs.as_slice(), end.port),
+    let Some(component) = end.component else {
+        return type_at(boundary?.inputs.as_slice(), end.port);
+    };
+    match *types.get(component)? {
+        TypeNumber::Event(kind) => event_block_output(kind, end.port),
+        TypeNumber::Declared(block) => {
+            let ports = library.blocks.get(block)?.ports();
+            type_at(ports.outputs.as_slice(), end.port)
+        }
     }
 }
 
