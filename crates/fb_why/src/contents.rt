@@ -74,45 +74,53 @@ impl<'a> Contents<'a> {
     }
 
     /// The statement at an index of an algorithm, which has this body. The algorithm is given by the indexes of the
-    /// basic type and its own.
-    ///
-    /// # Errors
-    ///
-    /// When memory runs out.
+    /// basic type and its own. If memory runs out, the text remembers it.
     pub fn statement(
         &mut self,
+        text: &mut Text,
         algorithm: (usize, usize),
         body: &'a Body,
         index: usize,
-    ) -> Result<Option<&'a Stmt>, AllocError> {
+    ) -> Option<&'a Stmt> {
         if self.stated != Some(algorithm) {
-            drop(mem::replace(&mut self.statements, all_statements(self.alloc, body)?));
+            let Ok(statements) = all_statements(self.alloc, body) else {
+                text.give_up();
+                return None;
+            };
+            drop(mem::replace(&mut self.statements, statements));
             self.stated = Some(algorithm);
         }
-        match self.statements.get(index) {
-            Some(standing) => Ok(Some(standing.statement)),
-            None => Ok(None),
-        }
+        Some(self.statements.get(index)?.statement)
     }
 
-    /// What an algorithm or a guard of a basic type names at an index.
-    ///
-    /// # Errors
-    ///
-    /// When memory runs out.
-    pub fn mention(
+    /// Adds that what an algorithm or a guard of a basic type names at an index is unknown.
+    pub fn push_mention(
         &mut self,
+        text: &mut Text,
         basic: &'a BasicType,
         source: Source,
         index: usize,
-    ) -> Result<Option<Mention<'a>>, AllocError> {
+    ) {
         if self.mentioned != Some(source) {
             self.mentioned = None;
             self.mentions.clear();
-            push_mentions(&mut self.mentions, basic, source)?;
+            if push_mentions(&mut self.mentions, basic, source).is_err() {
+                text.give_up();
+                return;
+            }
             self.mentioned = Some(source);
         }
-        Ok(self.mentions.get(index).copied())
+        match self.mentions.get(index) {
+            Some(Mention::Variable(name)) => {
+                text.named(": ", &basic.name);
+                text.named(" has no variable ", name);
+            }
+            Some(Mention::Function(name)) => {
+                text.named(": there is no function ", name);
+                text.words(" (there are MIN, MAX, ABS, LIMIT, SEL)");
+            }
+            None => {}
+        }
     }
 
     /// Adds the names of the parts of a kind, which are these items of the basic type at an index.

@@ -13,8 +13,7 @@ use fb_read_positions::headings::{
     network_at, push_connection, push_item, push_position, site_position,
 };
 use fb_read_positions::{BlockTypes, NetworkPart, PortPart, Position, Text, name_at};
-use fb_types::{Library, Link, Name, Network, Plan, PortName, ResourceEntry};
-use std::alloc::{AllocError, Global};
+use fb_types::{Connection, Library, Link, Name, Plan, PortName, ResourceEntry};
 
 const AGAIN: &str = " is given twice";
 
@@ -29,64 +28,51 @@ fn kind_at(position: Position) -> &'static str {
     }
 }
 
-/// Adds which two ports or variables of a block type have one name (E20).
-fn push_ports(text: &mut Text, library: &Library, block: usize, pair: Repeat) {
-    let Some(declared) = library.blocks.get(block) else {
-        return;
-    };
-    let first = port_at(block, declared.ports(), pair.0);
-    let second = port_at(block, declared.ports(), pair.1);
-    if let Some(name) = name_at(first, library) {
-        text.named(": ", name);
-    }
-    text.phrase(&[AGAIN, ", as ", kind_at(first), " and as ", kind_at(second)]);
-}
-
 /// Adds words for a link.
 pub(crate) fn push_link(text: &mut Text, link: &Link) {
     text.named("link from ", &link.from);
     text.named(" to ", &link.to);
 }
 
-/// Adds that something is given twice (E20).
+/// Adds that something is given twice (E20). Of two ports or variables of a block type it says what they are.
 fn push_given(text: &mut Text, library: &Library, plan: &Plan, given: GivenTwice) {
     match given {
-        GivenTwice::EventBlock(_) => {
-            text.words(": an event block has this name");
-            return;
-        }
-        GivenTwice::Block(block, InBlock::Port(pair)) => {
-            push_ports(text, library, block, pair);
-            return;
+        GivenTwice::EventBlock(_) => text.words(": an event block has this name"),
+        GivenTwice::Block(block, InBlock::Port((first, second))) => {
+            if let Some(declared) = library.blocks.get(block) {
+                let first = port_at(block, declared.ports(), first);
+                let second = port_at(block, declared.ports(), second);
+                if let Some(name) = name_at(first, library) {
+                    text.named(": ", name);
+                }
+                text.phrase(&[AGAIN, ", as ", kind_at(first), " and as ", kind_at(second)]);
+            }
         }
         GivenTwice::Resource((_, resource)) => {
             push_item(text, "resource ", plan.resources.as_slice(), resource);
+            text.words(AGAIN);
         }
         GivenTwice::Link((_, link)) => {
             if let Some(link) = plan.links.get(link) {
                 push_link(text, link);
             }
+            text.words(AGAIN);
         }
-        _ => {}
+        _ => text.words(AGAIN),
     }
-    text.words(AGAIN);
 }
 
-/// Adds which two data connections lead to one port (E24).
-fn push_joined(text: &mut Text, library: &Library, joined: Joined) {
-    if let Some(network) = network_at(library, joined.site) {
-        let connections = network.data_connections.as_slice();
-        let (first, second) = joined.connections;
-        push_connection(text, ": data connections ", connections.get(first));
-        push_connection(text, " and ", connections.get(second));
-        text.words(" lead to one port");
-    }
+/// Adds which two of these data connections lead to one port (E24).
+fn push_joined(text: &mut Text, connections: &[Connection], (first, second): Repeat) {
+    push_connection(text, ": data connections ", connections.get(first));
+    push_connection(text, " and ", connections.get(second));
+    text.words(" lead to one port");
 }
 
 /// The resource and the name at an index in the lists of all resources, one after another.
-fn listed_at(plan: &Plan, location: usize) -> Option<(&ResourceEntry, &Name)> {
+fn listed_at(resources: &[ResourceEntry], location: usize) -> Option<(&ResourceEntry, &Name)> {
     let mut rest = location;
-    for resource in plan.resources.as_slice() {
+    for resource in resources {
         let names = resource.instances.as_slice();
         if rest < names.len() {
             return Some((resource, &names[rest]));
@@ -97,9 +83,10 @@ fn listed_at(plan: &Plan, location: usize) -> Option<(&ResourceEntry, &Name)> {
 }
 
 /// Adds which resources list an instance, by two indexes in all their lists (E26).
-fn push_listed(text: &mut Text, plan: &Plan, first: usize, second: usize) {
-    let (Some((one, name)), Some((other, _))) = (listed_at(plan, first), listed_at(plan, second))
-    else {
+fn push_listed(text: &mut Text, resources: &[ResourceEntry], (first, second): Repeat) {
+    let one = listed_at(resources, first);
+    let other = listed_at(resources, second);
+    let (Some((one, name)), Some((other, _))) = (one, other) else {
         return;
     };
     text.named(": instance ", name);
@@ -134,52 +121,41 @@ fn resource_of(resources: &[ResourceEntry], end: &PortName) -> usize {
 }
 
 /// Adds words, and the name of the resource at an end of a connection.
-fn push_resource(text: &mut Text, words: &str, plan: &Plan, end: &PortName) {
-    let resources = plan.resources.as_slice();
+fn push_resource(text: &mut Text, words: &str, resources: &[ResourceEntry], end: &PortName) {
     push_item(text, words, resources, resource_of(resources, end));
 }
 
 /// Adds which link a connection would need (E27).
-fn push_unlinked(text: &mut Text, network: &Network, plan: &Plan, at: Unlinked) {
-    let connections = match at.flow {
-        FlowKind::Events => network.event_connections.as_slice(),
-        FlowKind::Data => network.data_connections.as_slice(),
-    };
-    if let Some(connection) = connections.get(at.connection) {
+fn push_unlinked(text: &mut Text, resources: &[ResourceEntry], connection: Option<&Connection>) {
+    if let Some(connection) = connection {
         text.words(": there is no link");
-        push_resource(text, " from resource ", plan, &connection.from);
-        push_resource(text, " to resource ", plan, &connection.to);
+        push_resource(text, " from resource ", resources, &connection.from);
+        push_resource(text, " to resource ", resources, &connection.to);
     }
 }
 
 /// Adds which event could serve a data connection (E28).
-fn push_unserved(text: &mut Text, network: &Network, plan: &Plan, at: usize) {
-    if let Some(connection) = network.data_connections.get(at) {
+fn push_unserved(text: &mut Text, resources: &[ResourceEntry], connection: Option<&Connection>) {
+    if let Some(connection) = connection {
         if let Some(component) = &connection.from.component {
             text.named(": no output event of ", component);
         }
         text.named(" WITH ", &connection.from.port);
-        push_resource(text, " goes to resource ", plan, &connection.to);
+        push_resource(text, " goes to resource ", resources, &connection.to);
     }
 }
 
-/// Adds what is wrong at a location, which is at this position if it is in the declaration.
-fn push_flaw<'a>(
-    text: &mut Text,
-    types: &BlockTypes<'a>,
-    contents: &mut Contents<'a>,
-    case: &Case,
-    location: Spot,
-    position: Option<Position>,
-) {
-    let (library, plan) = (case.library, case.plan);
+/// Adds what is wrong at a location, for the numbers that are not about types.
+fn push_untyped(text: &mut Text, library: &Library, plan: &Plan, location: Spot) {
     let network = &library.application.network;
+    let resources = plan.resources.as_slice();
     match location {
         Spot::Twice(given) => push_given(text, library, plan, given),
-        Spot::Unknown(name) => push_unknown(text, types, contents, plan, name, position),
-        Spot::Misfit(misfit) => push_misfit(text, types, contents, misfit),
-        Spot::Misjoin(misjoin) => push_misjoin(text, types, misjoin),
-        Spot::Joined(joined) => push_joined(text, library, joined),
+        Spot::Joined(Joined { site, connections }) => {
+            if let Some(network) = network_at(library, site) {
+                push_joined(text, network.data_connections.as_slice(), connections);
+            }
+        }
         Spot::TooHigh(Descent::Circle(block, _)) => {
             push_item(text, ": ", library.blocks.as_slice(), block);
             text.words(" contains itself through it");
@@ -187,15 +163,21 @@ fn push_flaw<'a>(
         Spot::TooHigh(Descent::Height(_, _)) => {
             text.words(": composites nest more than 16 deep through it");
         }
-        Spot::Unmapped(Unmapped::Again((first, second))) => push_listed(text, plan, first, second),
+        Spot::Unmapped(Unmapped::Again(pair)) => push_listed(text, resources, pair),
         Spot::Unmapped(Unmapped::Unlisted(_)) => text.words(": no resource lists it"),
-        Spot::Unlinked(unlinked) => push_unlinked(text, network, plan, unlinked),
-        Spot::Unserved(connection) => push_unserved(text, network, plan, connection),
-        Spot::Stimulus(at) => push_stimulus(text, types, case.stimuli, at),
+        Spot::Unlinked(Unlinked { flow, connection }) => {
+            let connections = match flow {
+                FlowKind::Events => network.event_connections.as_slice(),
+                FlowKind::Data => network.data_connections.as_slice(),
+            };
+            push_unlinked(text, resources, connections.get(connection));
+        }
+        Spot::Unserved(at) => push_unserved(text, resources, network.data_connections.get(at)),
         Spot::Limit(Limit::Instances) => {
             text.words("application: there are more than 4,096 instances, components included");
         }
         Spot::Limit(Limit::Stimuli) => text.words("there are more than 100,000 rows"),
+        Spot::Unknown(_) | Spot::Misfit(_) | Spot::Misjoin(_) | Spot::Stimulus(_) => {}
         Spot::Text(_) | Spot::Deployment(_) | Spot::Stimuli(_) => {}
     }
 }
@@ -214,19 +196,23 @@ fn heading_of(location: Spot, position: Option<Position>) -> Option<Position> {
     }
 }
 
-/// Says where the refusal applies, and what is wrong there.
-pub(crate) fn flaw_message<'a>(
-    alloc: Global,
+/// Adds the words for the location of a finding, and what is wrong there.
+pub(crate) fn push_flaw<'a>(
+    text: &mut Text,
     types: &BlockTypes<'a>,
     contents: &mut Contents<'a>,
     case: &Case,
     location: Spot,
-) -> Result<String, AllocError> {
-    let mut text = Text::new(alloc);
+) {
     let position = position_of(case.library, location);
     if let Some(heading) = heading_of(location, position) {
-        push_position(&mut text, case.library, heading);
+        push_position(text, case.library, heading);
     }
-    push_flaw(&mut text, types, contents, case, location, position);
-    text.into_string()
+    match location {
+        Spot::Unknown(name) => push_unknown(text, types, contents, case.plan, name, position),
+        Spot::Misfit(misfit) => push_misfit(text, types, contents, misfit),
+        Spot::Misjoin(misjoin) => push_misjoin(text, types, misjoin),
+        Spot::Stimulus(at) => push_stimulus(text, types, case.stimuli, at),
+        _ => push_untyped(text, case.library, case.plan, location),
+    }
 }

@@ -151,13 +151,10 @@ fn push_statement<'a>(
     let Some(declared) = basic.algorithms.get(algorithm) else {
         return;
     };
-    match contents.statement((block, algorithm), &declared.body, statement) {
-        Ok(Some(found)) => {
-            text.words(": ");
-            push_part(text, basic, found, part);
-        }
-        Ok(None) => {}
-        Err(_) => text.give_up(),
+    let body = &declared.body;
+    if let Some(found) = contents.statement(text, (block, algorithm), body, statement) {
+        text.words(": ");
+        push_part(text, basic, found, part);
     }
 }
 

@@ -10,11 +10,11 @@ ghost use Rattle.fb_why.specs.Places.{IsPlacedFinding};
 ghost use Rattle.fb_why.specs.Positions as spec;
 
 use crate::contents::Contents;
-use crate::flaw_messages::flaw_message;
+use crate::flaw_messages::push_flaw;
 use crate::place::{PlacedFinding, position_of};
 use crate::spot::{Finding, Spot};
 use fb_check::Case;
-use fb_read_positions::{BlockTypes, TextLocation, places_of};
+use fb_read_positions::{BlockTypes, Text, TextLocation, places_of};
 use fb_types::Library;
 use std::alloc::{AllocError, Global};
 
@@ -57,8 +57,10 @@ fn findings_at<'a>(
 {
     let mut all = Vec::new(alloc);
     for (index, location) in locations.iter().enumerate() {
-        let text = flaw_message(alloc, types, contents, case, *location)?;
         let (location, place) = (*location, places[index]);
+        let mut text = Text::new(alloc);
+        push_flaw(&mut text, types, contents, case, location);
+        let text = text.into_string()?;
         let finding = Finding { location, text };
         all.push(PlacedFinding { finding, place })?;
     }

@@ -1,8 +1,7 @@
 //! The text for an unknown name (E21), after the words for its position: what was expected there.
 
-use crate::contents::{Contents, Kind, Source};
+use crate::contents::{Contents, Kind};
 use crate::flaw_messages::push_link;
-use fb_check::types::mentions::Mention;
 use fb_check_names::{PortKind, Side, UnknownName};
 use fb_read_positions::headings::basic_at;
 use fb_read_positions::{
@@ -156,28 +155,6 @@ fn push_at<'a>(
     }
 }
 
-/// Adds what a guard or an algorithm of the basic type names at an index.
-fn push_mention<'a>(
-    text: &mut Text,
-    contents: &mut Contents<'a>,
-    basic: &'a BasicType,
-    source: Source,
-    at: usize,
-) {
-    match contents.mention(basic, source, at) {
-        Ok(Some(Mention::Variable(name))) => {
-            text.named(": ", &basic.name);
-            text.named(" has no variable ", name);
-        }
-        Ok(Some(Mention::Function(name))) => {
-            text.named(": there is no function ", name);
-            text.words(" (there are MIN, MAX, ABS, LIMIT, SEL)");
-        }
-        Ok(None) => {}
-        Err(_) => text.give_up(),
-    }
-}
-
 /// Adds what is unknown in the deployment of the application with a name.
 fn push_in_plan(text: &mut Text, application: &Name, plan: &Plan, name: UnknownName) {
     match name {
@@ -218,23 +195,19 @@ pub(crate) fn push_unknown<'a>(
         push_in_plan(text, &types.library.application.name, plan, name);
         return;
     };
-    match position {
+    let (source, at) = match position {
         Position::InBasic(block, BasicPart::Transition(index, TransitionPart::Mention(at))) => {
-            if let Some(basic) = basic_at(types.library, block) {
-                push_mention(text, contents, basic, (Kind::Guard, block, index), at);
-            }
+            ((Kind::Guard, block, index), at)
         }
         Position::InBasic(block, BasicPart::Mention(algorithm, at)) => {
-            if let Some(basic) = basic_at(types.library, block) {
-                push_mention(
-                    text,
-                    contents,
-                    basic,
-                    (Kind::Algorithm, block, algorithm),
-                    at,
-                );
-            }
+            ((Kind::Algorithm, block, algorithm), at)
         }
-        _ => push_at(text, types, contents, position),
+        _ => {
+            push_at(text, types, contents, position);
+            return;
+        }
+    };
+    if let Some(basic) = basic_at(types.library, source.1) {
+        contents.push_mention(text, basic, source, at);
     }
 }
