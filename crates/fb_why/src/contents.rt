@@ -4,7 +4,7 @@ use fb_check::types::mentions::{Mention, push_body, push_expression};
 use fb_check::types::{Standing, all_statements};
 use fb_check_names::Named;
 use fb_read_positions::Text;
-use fb_types::{BasicType, Body, Expr, Stmt};
+use fb_types::{BasicType, Body, Stmt};
 use std::alloc::{AllocError, Global};
 use std::mem;
 
@@ -35,28 +35,21 @@ pub(crate) struct Contents<'a> {
     names: String,
 }
 
-/// The guard of the transition at an index, if it has one.
-pub(crate) fn guard_of(basic: &BasicType, transition: usize) -> Option<&Expr> {
-    basic.transitions.get(transition)?.condition.guard.as_ref()
-}
-
 /// Adds what an algorithm or a guard names, in the order of the text.
 fn push_mentions<'a>(
     all: &mut Vec<Mention<'a>>,
     basic: &'a BasicType,
     (kind, _, index): Source,
 ) -> Result<(), AllocError> {
-    match kind {
-        Kind::Algorithm => match basic.algorithms.get(index) {
-            Some(algorithm) => push_body(all, &algorithm.body),
-            None => Ok(()),
-        },
-        Kind::Guard => match guard_of(basic, index) {
-            Some(guard) => push_expression(all, guard),
-            None => Ok(()),
-        },
-        Kind::State => Ok(()),
+    if let (Kind::Algorithm, Some(algorithm)) = (kind, basic.algorithms.get(index)) {
+        return push_body(all, &algorithm.body);
     }
+    if let (Kind::Guard, Some(transition)) = (kind, basic.transitions.get(index)) {
+        if let Some(guard) = &transition.condition.guard {
+            return push_expression(all, guard);
+        }
+    }
+    Ok(())
 }
 
 impl<'a> Contents<'a> {

@@ -1,8 +1,8 @@
 //! Finds where a refusal applies: reads the bytes again, and searches for the locations at which the refusal applies.
 
-ghost use Rattle.std.specs.Prelude.{All, IfOk, List, MatchOption, Option, option_map, ℕ};
+ghost use Rattle.std.specs.Prelude.{All, IfOk, MatchOption, option_map};
 ghost use Rattle.fb_read.specs.Whole.{IsLibraryText};
-ghost use Rattle.fb_why.specs.Findings.{AreFed, AreNoStimuli, AreNotFed, AreStimuli, IsNoPlan, IsPlan};
+ghost use Rattle.fb_why.specs.Findings.{AreFed, AreNotFed, IsNoPlan, IsPlan};
 ghost use Rattle.fb_why.specs.Listings.{AreFlaws, AreFound};
 ghost use Rattle.fb_why.specs.Places.{IsPlacedFinding};
 
@@ -14,7 +14,7 @@ use crate::refused::{bytes_finding, text_finding};
 use fb_check::{Case, Fault};
 use fb_inputs::{InputError, read_deploy, read_stimuli};
 use fb_read::{ReadError, discard, read_library};
-use fb_types::{Deploy, Library, Plan, Stimulus};
+use fb_types::{Deploy, Library, Stimulus};
 use std::alloc::{AllocError, Global};
 
 /// The deployment that is given, or the default one if none is given. `None` if the bytes are refused.
@@ -31,20 +31,6 @@ fn deploy_of(alloc: Global, deploy: Option<&[u8]>) -> Result<Option<Deploy>, All
     }
 }
 
-/// The stimuli that are given, or no stimuli if none are given. `None` if the bytes are refused.
-fn stimuli_of(alloc: Global, stimuli: Option<&[u8]>) -> Result<Option<Vec<Stimulus>>, AllocError>
-    ensures { let given = option_map (λ b. b.now) stimuli.entry in IfOk result (λ o. MatchOption o (AreNoStimuli given) (λ v. AreStimuli given v.items)) }
-{
-    let Some(bytes) = stimuli else {
-        return Ok(Some(Vec::new(alloc)));
-    };
-    match read_stimuli(alloc, bytes) {
-        Ok(stimuli) => Ok(Some(stimuli)),
-        Err(InputError::Memory) => Err(AllocError),
-        Err(_) => Ok(None),
-    }
-}
-
 /// The stimuli that a refusal is about: those that are given, or none. `None` if the bytes are refused.
 fn fed_stimuli(
     alloc: Global,
@@ -53,36 +39,17 @@ fn fed_stimuli(
 ) -> Result<Option<Vec<Stimulus>>, AllocError>
     ensures { let given = option_map (λ b. b.now) stimuli.entry in IfOk result (λ o. MatchOption o (AreNotFed flaw given) (λ v. AreFed flaw given v.items)) }
 {
-    if is_of_stimuli(flaw) {
-        stimuli_of(alloc, stimuli)
-    } else {
-        Ok(Some(Vec::new(alloc)))
+    if !is_of_stimuli(flaw) {
+        return Ok(Some(Vec::new(alloc)));
     }
-}
-
-/// Where the refusal applies to a library, which this text declares, to a plan, and to the stimuli in these bytes.
-fn flaws_with(
-    alloc: Global,
-    flaw: Fault,
-    declaration: &[u8],
-    library: &Library,
-    plan: &Plan,
-    stimuli: Option<&[u8]>,
-) -> Result<Findings, AllocError>
-    requires { IsLibraryText declaration.now library.now }
-    ensures found { (deploy : Option (List ℕ)) → IsPlan deploy plan.now → IfOk result (AreFlaws flaw declaration.now deploy (option_map (λ b. b.now) stimuli.entry)) }
-    ensures placed { IfOk result (λ f. All (IsPlacedFinding declaration.now) f.shown.items) }
-{
-    let Some(stimuli) = fed_stimuli(alloc, flaw, stimuli)? else {
-        return one(alloc, None);
+    let Some(bytes) = stimuli else {
+        return Ok(Some(Vec::new(alloc)));
     };
-    let case = Case {
-        library,
-        plan,
-        stimuli: stimuli.as_slice(),
-    };
-    let spots = spots_in(alloc, flaw, &case)?;
-    listed(alloc, declaration, &case, spots.as_slice())
+    match read_stimuli(alloc, bytes) {
+        Ok(stimuli) => Ok(Some(stimuli)),
+        Err(InputError::Memory) => Err(AllocError),
+        Err(_) => Ok(None),
+    }
 }
 
 /// Where the refusal applies to a library, which this text declares, and to the deployment and the stimuli in these
@@ -102,7 +69,16 @@ fn flaws_in(
     let Some(deploy) = deploy_of(alloc, deploy)? else {
         return one(alloc, None);
     };
-    flaws_with(alloc, flaw, declaration, library, deploy.plan(), stimuli)
+    let Some(stimuli) = fed_stimuli(alloc, flaw, stimuli)? else {
+        return one(alloc, None);
+    };
+    let case = Case {
+        library,
+        plan: deploy.plan(),
+        stimuli: stimuli.as_slice(),
+    };
+    let spots = spots_in(alloc, flaw, &case)?;
+    listed(alloc, declaration, &case, spots.as_slice())
 }
 
 /// Where the refusal applies to the inputs in these bytes.

@@ -1,7 +1,7 @@
 //! The texts for a wrong kind (E22) and a wrong range (E23), after the words for its position: what is there, and what
 //! was expected.
 
-use crate::contents::{Contents, guard_of};
+use crate::contents::Contents;
 use fb_check::types::{
     Typing, internals_of, port_type, value_kind_of, value_kind_of_type, variable_type,
 };
@@ -123,9 +123,9 @@ fn push_initial(text: &mut Text, block: &BlockType, list: Variables, index: usiz
     }
 }
 
-/// Adds the value of a parameter, and that one of the type of its data input is expected.
-fn push_parameter(text: &mut Text, types: &BlockTypes, instance: &Instance, index: usize) {
-    let ports = types.ports_named(&instance.block_type);
+/// Adds the value of a parameter, and that one of the type of its data input is expected. The ports are those of the
+/// type of the instance, if it is there.
+fn push_parameter(text: &mut Text, ports: Option<&Ports>, instance: &Instance, index: usize) {
     if let (Some(parameter), Some(ports)) = (instance.parameters.get(index), ports) {
         if let Some(ty) = variable_type(ports.inputs.as_slice(), &parameter.name) {
             push_expected(text, parameter.value, ty);
@@ -135,8 +135,10 @@ fn push_parameter(text: &mut Text, types: &BlockTypes, instance: &Instance, inde
 
 /// Adds that the guard of the transition at an index is no truth value, if it has one.
 fn push_guard(text: &mut Text, basic: &BasicType, transition: usize) {
-    if let Some(guard) = guard_of(basic, transition) {
-        push_kind(text, basic, ": guard", ValueKind::TruthValue, guard);
+    if let Some(transition) = basic.transitions.get(transition) {
+        if let Some(guard) = &transition.condition.guard {
+            push_kind(text, basic, ": guard", ValueKind::TruthValue, guard);
+        }
     }
 }
 
@@ -183,7 +185,8 @@ pub(crate) fn push_misfit<'a>(
         } => {
             if let Some(network) = network_at(library, site) {
                 if let Some(instance) = network.instances.get(instance) {
-                    push_parameter(text, types, instance, parameter);
+                    let ports = types.ports_named(&instance.block_type);
+                    push_parameter(text, ports, instance, parameter);
                 }
             }
         }

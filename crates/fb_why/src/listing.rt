@@ -1,13 +1,10 @@
 //! The findings of one number.
 
 ghost use Rattle.std.specs.Prelude.{◌≡◌, All, IfOk, false, length, map, nat_lt, take};
-ghost use Rattle.std.specs.List.{AllZip};
 ghost use Rattle.std.specs.Option.{option_to_list};
 ghost use Rattle.fb_read.specs.Whole.{IsLibraryText};
-ghost use Rattle.fb_read_positions.specs.Locations.{IsPlaceFor};
 ghost use Rattle.fb_why.specs.Listings.{locations_of, most_findings};
 ghost use Rattle.fb_why.specs.Places.{IsPlacedFinding};
-ghost use Rattle.fb_why.specs.Positions as spec;
 
 use crate::contents::Contents;
 use crate::flaw_messages::push_flaw;
@@ -15,7 +12,6 @@ use crate::place::{PlacedFinding, position_of};
 use crate::spot::{Finding, Spot};
 use fb_check::Case;
 use fb_read_positions::{BlockTypes, Text, TextLocation, places_of};
-use fb_types::Library;
 use std::alloc::{AllocError, Global};
 
 /// The greatest number of findings that are shown.
@@ -67,22 +63,6 @@ fn findings_at<'a>(
     Ok(all)
 }
 
-/// The places of these locations in the text that declares the library, each at the index of its location.
-fn places_at(
-    alloc: Global,
-    declaration: &[u8],
-    library: &Library,
-    locations: &[Spot],
-) -> Result<Vec<Option<TextLocation>>, AllocError>
-    ensures { IfOk result (λ places. AllZip (IsPlaceFor declaration.now library.now) (map (spec.position_of library.now) locations.now) places.items) }
-{
-    let mut positions = Vec::new(alloc);
-    for location in locations {
-        positions.push(position_of(library, *location))?;
-    }
-    places_of(alloc, declaration, library, positions.as_slice())
-}
-
 /// What is wrong at each of these locations of inputs, with its place at the same index.
 fn shown_at(
     alloc: Global,
@@ -113,7 +93,11 @@ pub(crate) fn listed(
 {
     let more = locations.len() > MOST_FINDINGS;
     let first = &locations[..locations.len().min(MOST_FINDINGS)];
-    let places = places_at(alloc, declaration, case.library, first)?;
+    let mut positions = Vec::new(alloc);
+    for location in first {
+        positions.push(position_of(case.library, *location))?;
+    }
+    let places = places_of(alloc, declaration, case.library, positions.as_slice())?;
     let shown = shown_at(alloc, case, first, places.as_slice())?;
     Ok(Findings { shown, more })
 }

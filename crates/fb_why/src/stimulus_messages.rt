@@ -47,16 +47,6 @@ fn is_connected(connections: &[Connection], stimulus: &Stimulus, setting: &Setti
     false
 }
 
-/// The type of the data input that a stimulus sets, if the value is not of this type.
-fn unfit_type(types: &BlockTypes, stimulus: &Stimulus, setting: &Setting) -> Option<Ty> {
-    let instances = types.library.application.network.instances.as_slice();
-    let ports = ports_of_instance(types, instances, &stimulus.instance)?;
-    match variable_type(ports.inputs.as_slice(), &setting.variable) {
-        Some(ty) if !ty.holds(setting.value) => Some(ty),
-        _ => None,
-    }
-}
-
 /// The values of a type.
 fn values_of(ty: Ty) -> &'static str {
     match ty {
@@ -85,16 +75,18 @@ fn push_setting(text: &mut Text, types: &BlockTypes, stimulus: &Stimulus, index:
         text.words(": a data connection leads to the variable");
         return;
     }
-    match unfit_type(types, stimulus, setting) {
-        Some(ty) => {
-            text.named(": ", &setting.variable);
-            text.phrase(&[" is ", values_of(ty)]);
-        }
-        None => {
-            text.named(": no data input that goes WITH ", &stimulus.event);
-            text.words(" has this name");
+    let ports = ports_of_instance(types, network.instances.as_slice(), &stimulus.instance);
+    if let Some(ports) = ports {
+        if let Some(ty) = variable_type(ports.inputs.as_slice(), &setting.variable) {
+            if !ty.holds(setting.value) {
+                text.named(": ", &setting.variable);
+                text.phrase(&[" is ", values_of(ty)]);
+                return;
+            }
         }
     }
+    text.named(": no data input that goes WITH ", &stimulus.event);
+    text.words(" has this name");
 }
 
 /// Whether one of these settings is of this variable.

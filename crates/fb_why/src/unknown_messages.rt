@@ -115,19 +115,14 @@ fn push_in_basic<'a>(
     text.lacks(&basic.name, kind, required, &basic.ports);
 }
 
-/// Adds what is unknown at a position at which the library has a name.
-fn push_at<'a>(
-    text: &mut Text,
-    types: &BlockTypes<'a>,
-    contents: &mut Contents<'a>,
-    position: Position,
-) {
+/// Adds what is unknown at a position outside of basic types, if the library has a name there.
+fn push_at(text: &mut Text, types: &BlockTypes, position: Position) {
     let library = types.library;
     let Some(required) = name_at(position, library) else {
         return;
     };
     match position {
-        Position::Application | Position::Block(_) => {}
+        Position::Application | Position::Block(_) | Position::InBasic(_, _) => {}
         Position::InApplication(part) => {
             let scope = (None, &library.application.network);
             push_in_network(text, types, scope, part, required);
@@ -145,11 +140,6 @@ fn push_at<'a>(
                     _ => PortKind::Output,
                 };
                 text.lacks(block.type_name(), kind, required, block.ports());
-            }
-        }
-        Position::InBasic(block, part) => {
-            if let Some(basic) = basic_at(library, block) {
-                push_in_basic(text, contents, block, basic, (part, required));
             }
         }
     }
@@ -191,23 +181,29 @@ pub(crate) fn push_unknown<'a>(
     name: UnknownName,
     position: Option<Position>,
 ) {
+    let library = types.library;
     let Some(position) = position else {
-        push_in_plan(text, &types.library.application.name, plan, name);
+        push_in_plan(text, &library.application.name, plan, name);
         return;
     };
-    let (source, at) = match position {
-        Position::InBasic(block, BasicPart::Transition(index, TransitionPart::Mention(at))) => {
-            ((Kind::Guard, block, index), at)
+    let Position::InBasic(block, part) = position else {
+        push_at(text, types, position);
+        return;
+    };
+    let Some(basic) = basic_at(library, block) else {
+        return;
+    };
+    match part {
+        BasicPart::Transition(index, TransitionPart::Mention(at)) => {
+            contents.push_mention(text, basic, (Kind::Guard, block, index), at);
         }
-        Position::InBasic(block, BasicPart::Mention(algorithm, at)) => {
-            ((Kind::Algorithm, block, algorithm), at)
+        BasicPart::Mention(algorithm, at) => {
+            contents.push_mention(text, basic, (Kind::Algorithm, block, algorithm), at);
         }
         _ => {
-            push_at(text, types, contents, position);
-            return;
+            if let Some(required) = name_at(position, library) {
+                push_in_basic(text, contents, block, basic, (part, required));
+            }
         }
-    };
-    if let Some(basic) = basic_at(types.library, source.1) {
-        contents.push_mention(text, basic, source, at);
     }
 }

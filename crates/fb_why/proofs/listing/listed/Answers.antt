@@ -1,15 +1,32 @@
-use Rattle.std.proofs.Common.{◌≡◌, min, length, take, refl, ap, ◌∙◌, arith}
-use Rattle.std.proofs.lemmas.List.{take_min}
+use Rattle.std.proofs.Common.{◌≡◌, min, length, map, take, ap, ◌∙◌, arith}
+use Rattle.std.proofs.lemmas.List.{take_all, take_min}
+use Rattle.fb_types.proofs.LoopSteps.{mapped_next}
+use Rattle.fb_why.specs.Positions.{position_of}
 use Rattle.fb_why.proofs.Shown.{all_placed, as_many}
 use Rattle.fb_why.proofs.listing.listed.Goals as goal
 
+pub loop-location-init : goal.loop-location-init
+loop-location-init c = c.new-positions.ensures.items
+
+pub loop-location-preserved : goal.loop-location-preserved
+loop-location-preserved c =
+    mapped_next (position_of c.args.case.now.library.now) (take c.min.result c.args.locations.now) c.loop-location.location-index _ _ _ _ c.loop-location-test.true c.position_of.ensures c.loop-location.invariant
+    c.in_ok-push.ensures.items
+
 pub shown_at-requires : goal.shown_at-requires
-shown_at-requires c = as_many c.args.declaration.now c.args.case.now.library.now _ _ _ _ c.in_ok-places.ensures refl c.as_slice.ensures.value
+shown_at-requires c =
+    let lib = c.args.case.now.library.now in
+    let first = take c.min.result c.args.locations.now in
+    let are = c.as_slice.ensures.value ∙ c.loop-location.invariant ∙ ap (map (position_of lib)) (take_all c.loop-location.location-index first c.loop-location-test.false) in
+    as_many c.args.declaration.now lib first c.as_slice.result.now c.in_ok-places.places.items c.as_slice-2.result.now c.in_ok-places.ensures are c.as_slice-2.ensures.value
 
 pub returns-clause-placed : goal.returns-clause-placed
 returns-clause-placed c =
-    all_placed c.args.declaration.now c.args.case.now.library.now _ _ _ _ c.requires c.in_ok-shown.ensures.found
-    (c.in_ok-shown.ensures.placed ∙ c.as_slice.ensures.value) refl c.in_ok-places.ensures
+    let lib = c.args.case.now.library.now in
+    let first = take c.min.result c.args.locations.now in
+    let are = c.as_slice.ensures.value ∙ c.loop-location.invariant ∙ ap (map (position_of lib)) (take_all c.loop-location.location-index first c.loop-location-test.false) in
+    all_placed c.args.declaration.now lib c.in_ok-shown.shown.items first c.as_slice.result.now c.in_ok-places.places.items c.requires c.in_ok-shown.ensures.found
+    (c.in_ok-shown.ensures.placed ∙ c.as_slice-2.ensures.value) are c.in_ok-places.ensures
 
 pub returns-clause-shown : goal.returns-clause-shown
 returns-clause-shown c =

@@ -1,6 +1,0 @@
-use Rattle.std.proofs.Common.{◌≡◌, map, take}
-use Rattle.fb_why.specs.Positions.{position_of}
-use Rattle.fb_why.proofs.listing.places_at.Given as goal
-
-abbrev pub invariant-loop-location : goal.invariant-loop-location
-invariant-loop-location l = l.positions.items ≡ map (position_of l.library) (take l.location-index l.locations)
