@@ -11,12 +11,12 @@ use std::alloc::{AllocError, Global};
 fn push_values(text: &mut LineText, ports: &Ports, indexes: &[u32], emission: &Emission) {
     let variables = ports.outputs.as_slice();
     let values = emission.values.as_slice();
-    for place in 0..indexes.len().min(values.len()) {
-        if let Some(variable) = variables.get(indexes[place] as usize) {
+    for index in 0..indexes.len().min(values.len()) {
+        if let Some(variable) = variables.get(indexes[index] as usize) {
             text.words(" ");
             text.name(variable.name.as_bytes());
             text.words("=");
-            text.value(values[place]);
+            text.value(values[index]);
         }
     }
 }
