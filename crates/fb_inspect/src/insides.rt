@@ -5,7 +5,6 @@ ghost use Rattle.std.specs.Io.KnownBytes.{Consumes};
 ghost use Rattle.std.specs.List.{list_any};
 ghost use Rattle.fb_types.specs.Names.{Name, Path};
 ghost use Rattle.fb_types.specs.Text.{path_text};
-ghost use Rattle.fb_types.specs.OfSystem.{resource_count};
 ghost use Rattle.fb_wave.specs.Copying.{IsFirstLine};
 ghost use Rattle.fb_wave.specs.CutOff.{is_unended};
 ghost use Rattle.fb_wave.specs.Named.{is_digit};
@@ -105,22 +104,12 @@ fn shown_of(alloc: Global, system: &System, only: &[Name]) -> Result<Vec<bool>, 
     Ok(shown)
 }
 
-/// Whether an instance has each of these paths.
-fn have_paths(system: &System, only: &[Name]) -> bool {
-    for path in only {
-        if instance_of(system, path.as_bytes()).is_none() {
-            return false;
-        }
-    }
-    true
-}
-
-/// No steps were made in any resource.
-pub(crate) fn steps_of(alloc: Global, system: &System) -> Result<Vec<TickSteps>, AllocError>
-    ensures { IfOk result (λ all. AreUnused (resource_count system.now) all.items) }
+/// No steps were made in any of so many resources.
+fn steps_of(alloc: Global, resources: usize) -> Result<Vec<TickSteps>, AllocError>
+    ensures { IfOk result (λ all. AreUnused resources all.items) }
 {
     let mut all = Vec::new(alloc);
-    for _ in 0..system.resources() {
+    for _ in 0..resources {
         all.push(TickSteps::new())?;
     }
     Ok(all)
@@ -167,7 +156,7 @@ pub fn begun(
     ensures { IfOk result (λ walk. BeginsWalk system.now only.now marks reading walk) }
 {
     let blocks = opened_all(alloc, system)?;
-    let steps = steps_of(alloc, system)?;
+    let steps = steps_of(alloc, system.resources())?;
     let shown = shown_of(alloc, system, only)?;
     let trail = Trail {
         reading,
@@ -328,8 +317,10 @@ pub fn inspect<R: BufRead, W: Write>(
     ensures refused { HasNames system.now → inspection.entry.terms.steps ≤ most
         → IfErr result (OfRefusal (λ n. IfSome (R.remaining input.old) (IsWrongAt system.now inspection.entry.terms.steps n))) }
 {
-    if !have_paths(system, inspection.only) {
-        return Err(InspectError::Unknown);
+    for path in inspection.only {
+        if instance_of(system, path.as_bytes()).is_none() {
+            return Err(InspectError::Unknown);
+        }
     }
     let marks = Marks::none(alloc);
     inspect_and_mark(alloc, system, inspection, marks, refused, input, out)?;

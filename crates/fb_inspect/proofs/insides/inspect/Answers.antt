@@ -4,8 +4,8 @@ use Rattle.fb_inspect.proofs.Ended.{front_none}
 use Rattle.fb_inspect.proofs.Placed.{err_any}
 use Rattle.fb_inspect.proofs.insides.inspect.Goals as goal
 
-pub returns-then-not-have_paths-clause-fault : goal.returns-then-not-have_paths-clause-fault
-returns-then-not-have_paths-clause-fault g c =
+pub returns-then-is_none-clause-fault : goal.returns-then-is_none-clause-fault
+returns-then-is_none-clause-fault g c =
     front_none (system_of c.args.system.now) c.args.inspection.only.now c.args.inspection.terms.steps (g.W.Write.contents c.args.out.now)
 
 pub returns-clause-whole : goal.returns-clause-whole
