@@ -4,12 +4,9 @@ ghost use Rattle.std.specs.Prelude.{◌≡◌, ◌≢◌, ◌++◌, IfNone, IfOk
 ghost use Rattle.fb_types.specs.Blocks.{Basic, Event, variable_names};
 ghost use Rattle.fb_types.specs.declared.library.BasicType.{BasicType};
 ghost use Rattle.fb_types.specs.declared.library.BlockType.TheVariants as declared;
-ghost use Rattle.fb_types.specs.OfSystem.{IsInstance, instance_count, kind_at, opening_block, path_at};
+ghost use Rattle.fb_types.specs.OfSystem.{IsInstance, instance_count, kind_at, path_at};
 ghost use Rattle.fb_st.specs.Frames.{values_of};
-ghost use Rattle.fb_net.specs.Blocks as net;
 ghost use Rattle.fb_net.specs.Opening.{AreCharts};
-ghost use Rattle.fb_net.specs.declared.block.Block.TheVariants as block;
-ghost use Rattle.fb_net.specs.OfSystem.{Represents};
 ghost use Rattle.fb_inspect.specs.Looks as spec;
 ghost use Rattle.fb_inspect.specs.Notes.{own_variables};
 ghost use Rattle.fb_inspect.specs.OfSystem.{OpenAll, OpensAs};
@@ -158,46 +155,6 @@ fn first_due(kind: EventKind) -> Option<u64>
     }
 }
 
-/// A basic block before the first event.
-fn opened_chart(
-    alloc: Global,
-    system: &System,
-    instance: u32,
-    state: BasicState,
-) -> Result<Remembered, AllocError>
-    requires instance { IsInstance system.now instance }
-    requires stands { let p = path_at system.now instance in Represents system.now p (net.own_of (block.Basic state)) (opening_block system.now p) }
-    ensures { IfOk result (OpensAs system.now instance) }
-{
-    let Some(block) = basic_type(system, instance) else {
-        unreachable!()
-    };
-    let own = own_of(alloc, block)?;
-    Ok(Remembered::Basic(Chart {
-        state,
-        own,
-        before: Vec::new(alloc),
-    }))
-}
-
-/// An event block before the first event.
-fn opened_block(
-    alloc: Global,
-    system: &System,
-    instance: u32,
-    state: EventState,
-) -> Result<Remembered, AllocError>
-    requires instance { IsInstance system.now instance }
-    requires stands { let p = path_at system.now instance in Represents system.now p (net.own_of (block.Event state)) (opening_block system.now p) }
-    ensures { IfOk result (OpensAs system.now instance) }
-{
-    system.facts();
-    accepted_are_typed();
-    let inputs = system.initial_inputs(alloc, instance)?;
-    let due = first_due(state.kind());
-    Ok(Remembered::Event(EventBlock { state, inputs, due }))
-}
-
 /// What an instance remembers before the first event.
 fn opened(
     alloc: Global,
@@ -211,8 +168,21 @@ fn opened(
     ensures charts { OnOk result (AreCharts system.now charts.new) }
 {
     match block_of(alloc, system, instance, Items::new(alloc), charts)? {
-        Block::Basic(state) => opened_chart(alloc, system, instance, state),
-        Block::Event(state) => opened_block(alloc, system, instance, state),
+        Block::Basic(state) => {
+            let Some(block) = basic_type(system, instance) else {
+                unreachable!()
+            };
+            let own = own_of(alloc, block)?;
+            let before = Vec::new(alloc);
+            Ok(Remembered::Basic(Chart { state, own, before }))
+        }
+        Block::Event(state) => {
+            system.facts();
+            accepted_are_typed();
+            let inputs = system.initial_inputs(alloc, instance)?;
+            let due = first_due(state.kind());
+            Ok(Remembered::Event(EventBlock { state, inputs, due }))
+        }
         Block::Composite(_) => Ok(Remembered::Composite),
     }
 }
