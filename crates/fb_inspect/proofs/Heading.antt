@@ -1,7 +1,7 @@
 -- The head of a dump with the inside of blocks, instance by instance and resource by resource.
-use Rattle.std.proofs.Common.{◌≡◌, ℕ, ◌+◌, ◌-◌, ◌<◌, Bool, cond, true, List, [], ◌∷◌, ◌++◌, length, drop, get_or, sym, ap, ◌∙◌, append_assoc}
+use Rattle.std.proofs.Common.{◌≡◌, ℕ, ◌+◌, ◌-◌, ◌<◌, ◌≤◌, Bool, cond, true, List, [], ◌∷◌, ◌++◌, length, drop, get_or, sym, ap, ◌∙◌, append-nil, append_assoc}
 use Rattle.std.proofs.lemmas.Bool.{eq-eqb, ne_eqb}
-use Rattle.std.proofs.lemmas.List.{drop_more}
+use Rattle.std.proofs.lemmas.List.{drop_all, drop_more}
 use Rattle.fb_types.specs.Names.{Name, Path}
 use Rattle.fb_types.specs.Numbers.{path_at, ports_at}
 use Rattle.fb_types.specs.Systems.{System}
@@ -79,3 +79,6 @@ resources_on sys r n a b c d all within at one two three soFar =
   where
     regroup : (a o i k r : List ℕ) → (((a ++ o) ++ i) ++ k) ++ r ≡ a ++ (((o ++ i) ++ k) ++ r)
     regroup a o i k r = simp append_assoc
+
+pub resources_done : (sys : System) (r : ℕ) (a all : List ℕ) → length sys.resource_names ≤ r → a ++ resources_opened true sys r (drop r sys.resource_names) ≡ all → a ≡ all
+resources_done sys r a all past soFar = sym (append-nil a) ∙ ap (λ (ns : List Name). a ++ resources_opened true sys r ns) (sym (drop_all r sys.resource_names past)) ∙ soFar

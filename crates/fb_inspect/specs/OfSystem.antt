@@ -109,9 +109,6 @@ ShowsFront i = inspections.ShowsFront (system_of i)
 abbrev pub instances_opened : Inputs → (resource : ℕ) → List ℕ
 instances_opened i resource = heads.instances_opened true (system_of i) resource 0 0 (system_of i).paths
 
-abbrev pub resources_opened : Inputs → List ℕ
-resources_opened i = heads.resources_opened true (system_of i) 0 (system_of i).resource_names
-
 abbrev pub insides_begun : Inputs → List ℕ
 insides_begun i = heads.insides_begun true (system_of i) (system_of i).paths
 

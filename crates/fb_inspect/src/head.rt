@@ -2,7 +2,7 @@
 
 ghost use Rattle.std.specs.Prelude.{◌≡◌, ◌++◌, OnOk};
 ghost use Rattle.fb_wave.specs.OfSystem.{AreFirsts};
-ghost use Rattle.fb_inspect.specs.OfSystem.{AreKept, insides_begun, instances_opened, opening_look, resources_opened, state_head};
+ghost use Rattle.fb_inspect.specs.OfSystem.{AreKept, insides_begun, instances_opened, opening_look, state_head};
 
 use crate::before::{inside_of, put_inside};
 use crate::blocks::{Remembered, basic_type};
@@ -37,20 +37,6 @@ fn put_instances(
     put_closed(text, depth)
 }
 
-/// Puts the scopes of all resources.
-fn put_resources(text: &mut Vec<u8>, system: &System, firsts: &[usize]) -> Result<(), AllocError>
-    requires { AreFirsts system.now firsts.now }
-    ensures { OnOk result (text.new.items ≡ text.old.items
-        ++ resources_opened system.now) }
-{
-    for resource in 0..system.resources() {
-        put_opened(text, system.resource_name(resource))?;
-        put_instances(text, system, firsts, resource)?;
-        put_closed(text, 1)?;
-    }
-    Ok(())
-}
-
 /// Puts what the inside of all instances begins with.
 fn put_insides_begun(
     text: &mut Vec<u8>,
@@ -82,9 +68,13 @@ pub(crate) fn put_head(
     requires blocks { AreKept system.now blocks.now (opening_look system.now) }
     ensures { OnOk result (text.new.items ≡ text.old.items ++ state_head system.now) }
 {
-    text.extend_from_slice(b"$timescale 1 ms $end\n")
-        .and(put_resources(text, system, firsts))
-        .and(text.extend_from_slice(b"$enddefinitions $end\n#0\n$dumpvars\n"))
+    text.extend_from_slice(b"$timescale 1 ms $end\n")?;
+    for resource in 0..system.resources() {
+        put_opened(text, system.resource_name(resource))?;
+        put_instances(text, system, firsts, resource)?;
+        put_closed(text, 1)?;
+    }
+    text.extend_from_slice(b"$enddefinitions $end\n#0\n$dumpvars\n")
         .and(put_begun(alloc, text, system, firsts))
         .and(put_insides_begun(text, system, blocks))
         .and(text.extend_from_slice(b"$end\n"))

@@ -1,7 +1,7 @@
 use Rattle.std.proofs.Common.{◌≡◌, ◌++◌, drop, true}
 use Rattle.fb_types.specs.Headline.{system_of}
 use Rattle.fb_inspect.specs.Heads.{resources_opened}
-use Rattle.fb_inspect.proofs.head.put_resources.Given as goal
+use Rattle.fb_inspect.proofs.head.put_head.Given as goal
 
 abbrev pub invariant-loop-resource : goal.invariant-loop-resource
 invariant-loop-resource l =
