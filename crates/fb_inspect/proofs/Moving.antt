@@ -32,6 +32,15 @@ pub shown-append : (b : Bool) (xs ys : List ℕ) → shown_text b (xs ++ ys) ≡
 shown-append true xs ys = refl
 shown-append false xs ys = refl
 
+-- two texts that were added one after another
+pub shown_both :
+    (f b : Bool) (xs ys zs ws text end : List ℕ) → f ≡ b → xs ≡ zs → ys ≡ ws → end ≡ (text ++ shown_text f xs) ++ shown_text f ys → end ≡ text ++ shown_text b (zs ++ ws)
+shown_both f b xs ys zs ws text end flag one two is =
+    is ∙ append_assoc text (shown_text f xs) (shown_text f ys) ∙ ap (λ (l : List ℕ). text ++ l) (sym (shown-append f xs ys))
+    ∙ ap (λ (c : Bool). text ++ shown_text c (xs ++ ys)) flag
+    ∙ ap (λ (l : List ℕ). text ++ shown_text b (l ++ ys)) one
+    ∙ ap (λ (l : List ℕ). text ++ shown_text b (zs ++ l)) two
+
 pub shown-nil : (b : Bool) → shown_text b [] ≡ []
 shown-nil true = refl
 shown-nil false = refl

@@ -1,6 +1,6 @@
 //! Through a trace, line by line.
 
-ghost use Rattle.std.specs.Prelude.{◌≡◌, ◌<◌, ◌≤◌, ◌⊎◌, ◌↔◌, ◌++◌, ℕ, ◌+◌, List, [], IfErr, IfOk, IfSome, IsTrue, OnErr, OnOk, All, Option, Some, None, length, slice_get, true, false};
+ghost use Rattle.std.specs.Prelude.{◌≡◌, ◌<◌, ◌≤◌, ◌⊎◌, ◌↔◌, ℕ, ◌+◌, List, [], IfErr, IfOk, IfSome, IsTrue, OnErr, OnOk, All, Option, Some, None, length, slice_get, true, false};
 ghost use Rattle.std.specs.Bool.{OnFalse, OnTrue};
 ghost use Rattle.std.specs.Io.KnownBytes.{Consumes};
 ghost use Rattle.fb_types.specs.Blocks.{Basic};
@@ -16,7 +16,6 @@ ghost use Rattle.fb_inspect.specs.Inspections.{KeepSteps};
 ghost use Rattle.fb_inspect.specs.Lines.{IsAlone, IsPlain};
 ghost use Rattle.fb_inspect.specs.Looks.{Look, Taking, left_at, most};
 ghost use Rattle.fb_inspect.specs.Walking as spec;
-ghost use Rattle.fb_inspect.specs.Moves.{shown_text};
 ghost use Rattle.fb_inspect.specs.Refusals.{IsNoRefusal, OfRefusal};
 ghost use Rattle.fb_inspect.specs.declared.error.InspectError.TheVariants.{Refused};
 ghost use Rattle.fb_inspect.specs.Standing.{IsStepsStop};
@@ -39,7 +38,6 @@ use fb_st::Meter;
 use fb_trace::Outcome;
 use fb_types::{Key, LATEST_TICK, Line, MOST_STEPS, Reason, StopMark};
 use fb_wave::{Cut, read_last};
-use std::alloc::AllocError;
 use std::io::{BufRead, Write};
 use std::mem;
 
@@ -476,17 +474,6 @@ impl Walk {
         }
     }
 
-    /// Adds the lines of an event that is not taken, since the trace is cut off in them.
-    fn put_untaken(&mut self, line: &Line, ahead: &Ahead) -> Result<(), AllocError>
-        ensures text { OnOk result (self.new.trail.page.text.items ≡ self.old.trail.page.text.items ++ shown_text (spec.flag_at self.old.shown.items line.now.instance) (self.old.trail.reading.line.items ++ ahead.now.text.items)) }
-        ensures marks { self.new.trail.marks ≡ self.old.trail.marks }
-    {
-        let is_shown = flag_at(self.shown.as_slice(), line.instance);
-        let whole = self.trail.reading.line.as_slice();
-        put_line(&mut self.trail.page.text, whole, is_shown)?;
-        put_line(&mut self.trail.page.text, ahead.text.as_slice(), is_shown)
-    }
-
     /// Goes on with the line of an event, which is the next one.
     fn step_on<R: BufRead>(
         &mut self,
@@ -513,7 +500,11 @@ impl Walk {
     {
         let is_cut = ahead.look(fixed, terms.cut, line, input)?;
         if is_cut {
-            self.put_untaken(line, ahead)?;
+            // The event is not taken, since the trace is cut off in its lines.
+            let is_shown = flag_at(self.shown.as_slice(), line.instance);
+            let whole = self.trail.reading.line.as_slice();
+            let text = &mut self.trail.page.text;
+            put_line(text, whole, is_shown).and(put_line(text, ahead.text.as_slice(), is_shown))?;
             return Ok(Step::CutOff);
         }
         if self.is_near(fixed, ahead, line) {

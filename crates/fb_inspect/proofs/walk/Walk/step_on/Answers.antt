@@ -1,7 +1,10 @@
-use Rattle.std.proofs.Common.{List, ℕ, ◌<◌, Option, subst, sym}
+use Rattle.std.proofs.Common.{Bool, List, Ok, ℕ, ◌<◌, Option, ap, refl, subst, sym, ◌∙◌}
 use Rattle.std.specs.Io.KnownBytes.{Consumes}
 use Rattle.fb_types.specs.Headline.{system_of}
-use Rattle.fb_inspect.specs.Walking.{AreCutOff, unread}
+use Rattle.fb_inspect.specs.Walking.{AreCutOff, flag_at, unread}
+use Rattle.fb_inspect.specs.declared.walk.Walk.{Walk}
+use Rattle.fb_inspect.proofs.Joined.{both_put}
+use Rattle.fb_inspect.proofs.Moving.{shown_both}
 use Rattle.fb_inspect.proofs.OneStep.{line_reread, ok_both}
 use Rattle.fb_inspect.proofs.Placed.{ok_then}
 use Rattle.fb_inspect.proofs.Stepped.{advanced_on, none_ahead, reread_on, severed_on}
@@ -24,8 +27,12 @@ returns-then-is_cut-clause-goes g c = λ first only known old new covered later.
     let on : (bytes : List ℕ) → Consumes known (unread c.args.ahead.now o) bytes → Consumes known o bytes =
     λ bytes read. subst (λ (p : Option (List ℕ)). Consumes known p bytes) (none_ahead c.args.ahead.now.text.items o off.1) read in
     let again = reread_on types first sys fixed.form only c.args.terms.steps c.args.self.now known (unread c.args.ahead.now o) o old new on covered c.args.line.now.key.tick later in
-    severed_on types first sys fixed.form only c.args.terms.steps c.args.self.now known o old new again.0 c.args.line.now again.1 c.requires.is c.put_untaken.new.self c.look.new.self.rows.items c.look.new.self.text.items off.2
-    c.put_untaken.ensures.marks c.in_ok-put_untaken.ensures.text
+    let w : Walk = c.args.self.now in
+    let cut : Walk = record w { trail = record (w.trail) { page = record (w.trail.page) { text = c.put_line-then-is_cut.new.text } } } in
+    severed_on types first sys fixed.form only c.args.terms.steps c.args.self.now known o old new again.0 c.args.line.now again.1 c.requires.is cut c.look.new.self.rows.items c.look.new.self.text.items off.2 refl
+    (shown_both c.flag_at-is_shown.result _ _ _ w.trail.reading.line.items c.look.new.self.text.items w.trail.page.text.items c.put_line-then-is_cut.new.text.items
+    (c.flag_at-is_shown.ensures ∙ ap (λ (fs : List Bool). flag_at fs c.args.line.now.instance) c.as_slice.ensures.value) c.as_slice-whole.ensures.value c.as_slice-then-is_cut.ensures.value
+    (both_put (Ok tt) c.put_line.result c.put_line-then-is_cut.result _ _ _ _ c.in_ok-and.ensures c.put_line.ensures c.put_line-then-is_cut.ensures))
 
 pub returns-then-is_near-clause-goes : goal.returns-then-is_near-clause-goes
 returns-then-is_near-clause-goes g c = λ first only known old new covered later.
