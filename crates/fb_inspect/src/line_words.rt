@@ -78,7 +78,13 @@ fn push_port_fault(text: &mut LineText, system: &System, fault: PortFault<'_>) {
         }
         PortFault::Elsewhere(port) => {
             push_instance(text, system, port.instance);
-            push_resource(text, system, port.instance);
+            if (port.instance as usize) < system.count() {
+                let resource = system.resource(port.instance);
+                if resource < system.resources() {
+                    text.words(" is in resource ");
+                    text.name(system.resource_name(resource));
+                }
+            }
         }
         PortFault::Values(port, fault) => push_value_fault(text, system, port, fault),
     }
@@ -98,17 +104,6 @@ fn push_instance(text: &mut LineText, system: &System, instance: u32) {
     if (instance as usize) < system.count() {
         text.words("instance ");
         text.name(system.path(instance));
-    }
-}
-
-/// Adds in which resource an instance is.
-fn push_resource(text: &mut LineText, system: &System, instance: u32) {
-    if (instance as usize) < system.count() {
-        let resource = system.resource(instance);
-        if resource < system.resources() {
-            text.words(" is in resource ");
-            text.name(system.resource_name(resource));
-        }
     }
 }
 
