@@ -6,11 +6,11 @@ ghost use Rattle.fb_types.specs.Numbers.{event_at};
 ghost use Rattle.fb_types.specs.Values.{Values};
 ghost use Rattle.fb_types.specs.declared.library.Action.{Action};
 ghost use Rattle.fb_st.specs.Frames.{values_of};
-ghost use Rattle.fb_ecc.specs.Indexes.{IsBlockOf, IsStateOf, IsWellFormed, index, sampled, state_at};
+ghost use Rattle.fb_ecc.specs.Indexes.{IsBlockOf, IsStateOf, IsWellFormed, index, state_at};
 ghost use Rattle.fb_ecc.specs.Sound.{IsSound};
 ghost use Rattle.fb_ecc.specs.Trials.{transition_at};
 ghost use Rattle.fb_coverage.specs.Sets.{with_cleared};
-ghost use Rattle.fb_inspect.specs.Chains.{Acting, ShowsChain, ShowsReaction};
+ghost use Rattle.fb_inspect.specs.Chains.{Acting, ShowsChain};
 ghost use Rattle.fb_inspect.specs.Charting.{ChartGoes, HasLinked, IsChartOf, IsChartTaking, place};
 ghost use Rattle.fb_inspect.specs.Lines.{IsPlain};
 ghost use Rattle.fb_inspect.specs.Markings as marking;
@@ -24,7 +24,7 @@ use crate::blocks::{Chart, keep_values};
 use crate::error::InspectError;
 use crate::notes::{put_cleared, put_lost, put_ran, put_stopped};
 use crate::trail::{Fixed, Trail};
-use fb_ecc::{BasicState, act, action_count, begin, clear};
+use fb_ecc::{BasicState, act, action_count, clear};
 use fb_st::{Frame, Meter};
 use fb_types::{BasicType, Emits, Halt, Line, Name, Reason, Reference, Value};
 use std::alloc::AllocError;
@@ -304,7 +304,7 @@ fn link<R: BufRead>(
 }
 
 /// Goes through the chain of transitions that an event begins. Answers the reason that ends the reaction, if one does.
-fn follow<R: BufRead>(
+pub(crate) fn follow<R: BufRead>(
     taking: &ChartTaking<'_, '_, '_>,
     trail: &mut Trail,
     chart: &mut Chart,
@@ -333,7 +333,7 @@ fn follow<R: BufRead>(
 }
 
 /// Notes the reason that ended a reaction, if one did.
-fn note_stop(trail: &mut Trail, end: Option<Reason>) -> Result<(), AllocError>
+pub(crate) fn note_stop(trail: &mut Trail, end: Option<Reason>) -> Result<(), AllocError>
     ensures noted { OnOk result (HasNoted (stop_note end) trail.old.marks.charts trail.old trail.new) }
     ensures reading { trail.new.reading ≡ trail.old.reading }
 {
@@ -341,32 +341,4 @@ fn note_stop(trail: &mut Trail, end: Option<Reason>) -> Result<(), AllocError>
         Some(reason) if trail.is_shown => put_stopped(&mut trail.page.text, reason),
         _ => Ok(()),
     }
-}
-
-/// The reaction of a basic block to the event of a line. Answers the reason that ends the reaction, if one does.
-pub(crate) fn react_chart<R: BufRead>(
-    taking: &ChartTaking<'_, '_, '_>,
-    trail: &mut Trail,
-    chart: &mut Chart,
-    meter: &mut Meter,
-    input: &mut R,
-) -> Result<Option<Reason>, InspectError>
-    requires taking { IsChartTaking taking.now }
-    requires chart { IsChartOf taking.now.block.now chart.old }
-    requires next { IsNext taking.now.fixed taking.now.line.now.key.tick trail.old.reading }
-    ensures shown { let t = taking.now.block.now in let l = taking.now.line.now in
-        let begun = record (place t chart.old meter.old.left) { vars = sampled t l.event l.values (values_of chart.old.state.frame) } in
-        IfOk result (λ stop. ChartGoes taking.now (ShowsReaction t (event_at t.ports.event_inputs l.event)) begun stop (place t chart.new meter.new.left) trail.old trail.new (R.remaining input.old) (R.remaining input.new)) }
-    ensures refused { HasNames taking.now.fixed → IsPlain taking.now.fixed.form taking.now.line.now.key → let t = taking.now.block.now in let l = taking.now.line.now in
-        let begun = record (place t chart.old meter.old.left) { vars = sampled t l.event l.values (values_of chart.old.state.frame) } in
-        IfErr result (OfRefusal (λ n. ChartFails taking.now (ShowsReaction t (event_at t.ports.event_inputs l.event)) begun trail.old.reading trail.new.reading (R.remaining input.old) (R.remaining input.new) n)) }
-    ensures chart { OnOk result (IsChartOf taking.now.block.now chart.new) }
-    ensures next { OnOk result (IsNext taking.now.fixed taking.now.line.now.key.tick trail.new.reading) }
-{
-    let event = taking.line.event;
-    let values = taking.line.values.as_slice();
-    begin(&mut chart.state, taking.block, event, values);
-    let end = follow(taking, trail, chart, meter, input)?;
-    note_stop(trail, end)?;
-    Ok(end)
 }

@@ -26,7 +26,7 @@ ghost use Rattle.fb_inspect.specs.OfWalk.{AreAhead, AreApart, AreKept, BeginsTex
 use crate::ahead::Ahead;
 use crate::before::chart_at;
 use crate::blocks::{Chart, Remembered, basic_type, type_number};
-use crate::charts::{ChartTaking, react_chart};
+use crate::charts::{ChartTaking, follow, note_stop};
 use crate::error::InspectError;
 use crate::event_blocks::{expire_block, react_block};
 use crate::finding::Finding;
@@ -34,6 +34,7 @@ use crate::notes::put_cut;
 use crate::reading::Next;
 use crate::steps::TickSteps;
 use crate::trail::{Fixed, Trail, is_stop, put_line};
+use fb_ecc::begin;
 use fb_st::Meter;
 use fb_trace::Outcome;
 use fb_types::{Key, LATEST_TICK, Line, MOST_STEPS, Reason, StopMark};
@@ -96,7 +97,10 @@ fn react_basic<R: BufRead>(
         number,
         line,
     };
-    react_chart(&taking, trail, chart, meter, input)
+    begin(&mut chart.state, block, line.event, line.values.as_slice());
+    let end = follow(&taking, trail, chart, meter, input)?;
+    note_stop(trail, end)?;
+    Ok(end)
 }
 
 /// The reaction of an instance to the event of the next line. Answers the reason that stops the resource, if one does.
