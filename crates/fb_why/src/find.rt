@@ -67,8 +67,8 @@ fn end_of_earlier_line(alloc: Global, text: &[u8], offset: usize) -> Option<Text
     location_at(text, end, end)
 }
 
-/// Where a refusal is shown: where a semicolon is missing before the token that is refused, if one is and the token before
-/// is on an earlier line, or else at this token.
+/// Where a refusal is shown: where a semicolon is missing before the token that is refused, if one is and the token
+/// before is on an earlier line, or else at this token.
 fn shown(alloc: Global, text: &[u8], refusal: Refusal) -> TextLocation
     requires { IsFaultAt refusal.fault text.now refusal.start refusal.end }
     ensures location { IsLocation text.now result }

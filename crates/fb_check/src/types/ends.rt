@@ -120,7 +120,7 @@ fn connection_between(
     }
 }
 
-/// The connections of a network that carry the same, by number: those of which both ends are. Adds the ends that are
+/// The connections of a network that carry the same, by number: those whose ends are both known. Adds the ends that are
 /// unknown.
 pub(crate) fn wires_of(
     alloc: Global,
