@@ -327,7 +327,12 @@ fn expected_after(alloc: Global, tokens: Items<Located>, end: usize) -> Result<E
 
 /// The number of tokens that begin before this offset.
 fn tokens_before(tokens: &[Located], start: usize) -> usize {
-    tokens.partition_point(|token| token.index < start)
+    for before in 0..tokens.len() {
+        if tokens[before].index >= start {
+            return before;
+        }
+    }
+    tokens.len()
 }
 
 /// The kinds of tokens with which a text could go on in place of the one of its tokens that is at `start`, at which its
