@@ -73,9 +73,9 @@ impl<F: Fn(&mut Cursor<'_>, u32, u8) -> Result<Nested, ParseFault>> ExpressionRu
         ensures { Reads (spec.group self.now.below (spec.nested_expression self.now.below) cursor.old) result cursor.new }
     {
         let x = self.part(cursor, LOOSEST)?;
-        let x = ended(cursor, Mark::Close, x)?;
-        let inside = Boxed::new(cursor.alloc(), x.expr)?;
-        around(self.below, x.nesting, Expr::Group(inside), cursor)
+        let Nested { expr: x, nesting } = ended(cursor, Mark::Close, x)?;
+        let inside = Boxed::new(cursor.alloc(), x)?;
+        around(self.below, nesting, Expr::Group(inside), cursor)
     }
 
     /// The operand of a unary operator.
@@ -88,14 +88,9 @@ impl<F: Fn(&mut Cursor<'_>, u32, u8) -> Result<Nested, ParseFault>> ExpressionRu
         requires { Nests self.now.below (F.pre self.now.inner) (F.post self.now.inner) }
         ensures { Reads (spec.prefixed self.now.below (spec.nested_expression self.now.below) operator cursor.old) result cursor.new }
     {
-        let x = self.part(cursor, 0)?;
-        let operand = Boxed::new(cursor.alloc(), x.expr)?;
-        around(
-            self.below,
-            x.nesting,
-            Expr::Unary(operator, operand),
-            cursor,
-        )
+        let Nested { expr: x, nesting } = self.part(cursor, 0)?;
+        let operand = Boxed::new(cursor.alloc(), x)?;
+        around(self.below, nesting, Expr::Unary(operator, operand), cursor)
     }
 
     /// The arguments of a call, and how deep the deepest nests. Each iteration takes a token.
@@ -203,15 +198,16 @@ impl<F: Fn(&mut Cursor<'_>, u32, u8) -> Result<Nested, ParseFault>> ExpressionRu
         requires nests { Nests self.now.below (F.pre self.now.inner) (F.post self.now.inner) }
         ensures { Reads (spec.joined self.now.below (spec.nested_expression self.now.below (level - 1)) left operator cursor.old) result cursor.new }
     {
+        let Nested { expr: x, nesting } = left;
         cursor.take();
         // The operator nests too deep, whatever follows it.
-        if left.nesting > self.below {
-            drop(left);
+        if nesting > self.below {
+            drop(x);
             return Err(ParseFault::Nesting);
         }
         let right = self.part(cursor, level - 1)?;
-        let depth = left.nesting.max(right.nesting);
-        let (x, y) = both_boxed(cursor.alloc(), left.expr, right.expr)?;
+        let depth = nesting.max(right.nesting);
+        let (x, y) = both_boxed(cursor.alloc(), x, right.expr)?;
         around(self.below, depth, Expr::Binary(operator, x, y), cursor)
     }
 

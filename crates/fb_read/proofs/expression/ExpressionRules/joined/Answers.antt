@@ -32,14 +32,14 @@ made below operand left right op ts rest mid depth x y r new is le found deepest
     let ys = ap (λ (p : Expr × Expr). p.1) both in
     read_as _ _ _ _ (within below operand left op ts rest is le) (goes_on _ _ _ _ _ _ found (rw (deepest, xs, ys) at reads))
 
-pub returns-then-left-self : goal.returns-then-left-self
+pub returns-then-nesting-self : goal.returns-then-nesting-self
 unfolding joined
-returns-then-left-self g c = rw (lt-leb c.args.left.nesting c.args.self.now.below c.if-left-self.true) refl
+returns-then-nesting-self g c = rw (lt-leb c.args.left.nesting c.args.self.now.below c.if-nesting-self.true) refl
 
 pub returns-in_err-right : goal.returns-in_err-right
 returns-in_err-right g c =
     let p = err_from_is_err_and c.from_residual.result c.from_residual.ensures.1 in
-    rw (p.1, p.2) (stopped _ _ _ _ _ _ _ _ c.take.ensures c.if-left-self.false c.in_err-right.ensures)
+    rw (p.1, p.2) (stopped _ _ _ _ _ _ _ _ c.take.ensures c.if-nesting-self.false c.in_err-right.ensures)
 
 pub returns : goal.returns
-returns g c = made _ _ _ _ _ _ _ _ _ _ _ _ _ c.take.ensures c.if-left-self.false c.in_ok-right.ensures c.max-depth.ensures c.in_ok-x.ensures c.around.ensures
+returns g c = made _ _ _ _ _ _ _ _ _ _ _ _ _ c.take.ensures c.if-nesting-self.false c.in_ok-right.ensures c.max-depth.ensures c.in_ok-x.ensures c.around.ensures
