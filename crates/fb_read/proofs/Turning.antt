@@ -1,5 +1,5 @@
 -- One iteration of a loop that reads items, and adds what was read to what was found.
-use Rattle.std.proofs.Common.{◌≡◌, ℕ, suc, Bool, true, false, List, [], ◌∷◌, ◌++◌, Result, Ok, Err, refl, subst}
+use Rattle.std.proofs.Common.{◌≡◌, ℕ, suc, Bool, true, false, if◌then◌else◌, List, [], ◌∷◌, ◌++◌, Result, Ok, Err, refl, subst, ◌∙◌}
 use Rattle.fb_read.specs.declared.token.Mark.{Mark}
 use Rattle.fb_read.specs.declared.fault.ParseFault.{ParseFault}
 use Rattle.fb_read.specs.Tokens.{Tokens}
@@ -72,6 +72,22 @@ pub separated_fault :
     → Reads (item ts) read new → Adds found read (Err e) → Reads (separated_from item (suc n) found ts) (Err e) new
 unfolding separated_from
 separated_fault item n found ts new read e r shown = stops (item ts) _ e new (fault_of (item ts) read new found e r shown)
+
+-- the items with one more, where a comma follows it
+pub separated_more :
+    {A : Type 0} (item : Parser A) (n : ℕ) (found all : List A) (ts new mid : Tokens) (read : Result A ParseFault)
+    → Reads (item ts) read new → Adds found read (Ok all) → sees mark.Comma new ≡ true → mid ≡ after mark.Comma new → separated_from item (suc n) found ts ≡ separated_from item n all mid
+unfolding separated_from
+separated_more item n found all ts new mid read r shown more next =
+    added_on (item ts) read new found all (λ xs rest. (if sees mark.Comma rest then separated_from item n xs else (λ us. Ok (xs, us))) (after mark.Comma rest)) r shown ∙ rw (more, next) refl
+
+-- the last one
+pub separated_last :
+    {A : Type 0} (item : Parser A) (n : ℕ) (found all : List A) (ts new mid : Tokens) (read : Result A ParseFault)
+    → Reads (item ts) read new → Adds found read (Ok all) → sees mark.Comma new ≡ false → mid ≡ after mark.Comma new → separated_from item (suc n) found ts ≡ Ok (all, mid)
+unfolding separated_from
+separated_last item n found all ts new mid read r shown over next =
+    added_on (item ts) read new found all (λ xs rest. (if sees mark.Comma rest then separated_from item n xs else (λ us. Ok (xs, us))) (after mark.Comma rest)) r shown ∙ rw (over, next) refl
 
 pub after_none : (k : Mark) (ts : Tokens) → sees k ts ≡ false → after k ts ≡ ts
 unfolding after

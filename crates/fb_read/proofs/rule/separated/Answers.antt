@@ -1,25 +1,23 @@
-use Rattle.std.proofs.Common.{arith}
-use Rattle.std.proofs.lemmas.Grind.{common_steps}
+use Rattle.std.proofs.Common.{◌≡◌, ◌-◌, ℕ, true, false, [], length, ap, sym, ◌∙◌, arith}
 use Rattle.std.proofs.lemmas.Result.{err_from_is_err_and}
-use Rattle.fb_read.specs.Parser.{separated, separated_from}
+use Rattle.fb_read.specs.declared.token.Mark.TheVariants as mark
+use Rattle.fb_read.specs.Parser.{sees, separated, separated_from}
 use Rattle.fb_read.proofs.Turns.{one_more, no_more}
-use Rattle.fb_read.proofs.Adding.{item_of}
 use Rattle.fb_read.proofs.Reading.{stops_as}
-use Rattle.fb_read.proofs.Turning.{separated_fault}
+use Rattle.fb_read.proofs.Turning.{separated_fault, separated_last, separated_more}
 use Rattle.fb_read.proofs.rule.separated.Goals as goal
 
 pub loop-turn-init : goal.loop-turn-init
 unfolding separated
-loop-turn-init g c = grind (arith, common_steps)
+loop-turn-init g c =
+    let e : length c.args.cursor.now ≡ c.left-turn-end.result - 0 = omega (arith, c.left-turn-end.ensures) in
+    rw c.no_items-found.ensures (ap (λ (n : ℕ). separated_from g.T.Rule.parser n [] c.args.cursor.now) e)
 
 pub returns-then-not-eat : goal.returns-then-not-eat
-unfolding separated_from
 returns-then-not-eat g c =
-    let e = one_more (λ n. separated_from g.T.Rule.parser n c.loop-turn.found c.loop-turn.cursor) _ c.loop-turn._turn c.loop-turn-test.true c.loop-turn.invariant in
-    let i = item_of _ _ _ _ _ c.read.ensures c.in_ok-found.ensures in
-    let is = i.1 in
-    let more = i.2 in
-    grind (arith, common_steps)
+    let over : sees mark.Comma c.read.new.cursor ≡ false = sym c.eat.ensures.found ∙ c.if-not-eat.true in
+    one_more (λ n. separated_from g.T.Rule.parser n c.loop-turn.found c.loop-turn.cursor) _ c.loop-turn._turn c.loop-turn-test.true c.loop-turn.invariant
+    ∙ separated_last g.T.Rule.parser _ c.loop-turn.found _ c.loop-turn.cursor _ _ _ c.read.ensures c.in_ok-found.ensures over c.eat.ensures.after
 
 pub returns-in_err-found : goal.returns-in_err-found
 returns-in_err-found g c =
@@ -29,13 +27,10 @@ returns-in_err-found g c =
     (separated_fault g.T.Rule.parser _ c.loop-turn.found c.loop-turn.cursor _ _ _ c.read.ensures c.in_err-found.ensures))
 
 pub loop-turn-preserved : goal.loop-turn-preserved
-unfolding separated_from
 loop-turn-preserved g c =
-    let e = one_more (λ n. separated_from g.T.Rule.parser n c.loop-turn.found c.loop-turn.cursor) _ c.loop-turn._turn c.loop-turn-test.true c.loop-turn.invariant in
-    let i = item_of _ _ _ _ _ c.read.ensures c.in_ok-found.ensures in
-    let is = i.1 in
-    let more = i.2 in
-    grind (arith, common_steps)
+    let more : sees mark.Comma c.read.new.cursor ≡ true = sym c.eat.ensures.found ∙ c.if-not-eat.false in
+    one_more (λ n. separated_from g.T.Rule.parser n c.loop-turn.found c.loop-turn.cursor) _ c.loop-turn._turn c.loop-turn-test.true c.loop-turn.invariant
+    ∙ separated_more g.T.Rule.parser _ c.loop-turn.found _ c.loop-turn.cursor _ _ _ c.read.ensures c.in_ok-found.ensures more c.eat.ensures.after
 
 pub returns : goal.returns
 unfolding separated_from
