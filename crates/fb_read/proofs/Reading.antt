@@ -1,9 +1,10 @@
 -- What a rule reads, by what its parts read.
-use Rattle.std.proofs.Common.{◌≡◌, Result, Ok, Err, ap, sym, subst, ◌∙◌}
+use Rattle.std.proofs.Common.{◌≡◌, Bool, true, false, if◌then◌else◌, Result, Ok, Err, ap, sym, subst, ◌∙◌}
+use Rattle.fb_read.specs.declared.token.Mark.{Mark}
 use Rattle.fb_read.specs.declared.fault.ParseFault.{ParseFault}
 use Rattle.fb_read.specs.declared.fault.ParseFault.TheVariants as fault
 use Rattle.fb_read.specs.Tokens.{Tokens}
-use Rattle.fb_read.specs.Parser.{Parser, Outcome, Reads, and_then}
+use Rattle.fb_read.specs.Parser.{Parser, Outcome, Reads, and_then, sees, after}
 
 -- what its first part refuses, a rule refuses
 pub stops : {A B : Type 0} (o : Outcome A) (f : A → Parser B) (e : ParseFault) (new : Tokens) → Reads o (Err e) new → Reads (and_then o f) (Err e) new
@@ -31,3 +32,24 @@ read_as {A = A} o p r new same reads = subst (λ (x : Outcome A). Reads x r new)
 
 pub stops_as : {A : Type 0} (o p : Outcome A) (e : ParseFault) (new : Tokens) → o ≡ p → Reads p (Err e) new → Reads o (Err e) new
 stops_as o p e new same reads = read_as o p (Err e) new same reads
+
+-- the first of two rules, where its mark is next
+pub begun : {A : Type 0} (k : Mark) (p q : Parser A) (ts mid : Tokens) (b : Bool) (r : Result A ParseFault) (new : Tokens)
+    → b ≡ sees k ts → b ≡ true → mid ≡ after k ts → Reads (p mid) r new → Reads ((if sees k ts then p else q) (after k ts)) r new
+begun {A = A} k p q ts mid b r new found some there reads =
+    let is : sees k ts ≡ true = sym found ∙ some in
+    rw is (subst (λ (t : Tokens). Reads (p t) r new) there reads)
+
+-- the same, where the outcome is known
+pub begun_is : {A : Type 0} (k : Mark) (p q : Parser A) (ts mid : Tokens) (b : Bool) (o : Outcome A)
+    → b ≡ sees k ts → b ≡ true → mid ≡ after k ts → p mid ≡ o → (if sees k ts then p else q) (after k ts) ≡ o
+begun_is {A = A} k p q ts mid b o found some there is =
+    let next : sees k ts ≡ true = sym found ∙ some in
+    rw next (subst (λ (t : Tokens). p t ≡ o) there is)
+
+-- the second of them, where it is not
+pub passed : {A : Type 0} (k : Mark) (p q : Parser A) (ts mid : Tokens) (b : Bool) (r : Result A ParseFault) (new : Tokens)
+    → b ≡ sees k ts → b ≡ false → mid ≡ after k ts → Reads (q mid) r new → Reads ((if sees k ts then p else q) (after k ts)) r new
+passed {A = A} k p q ts mid b r new found none there reads =
+    let is : sees k ts ≡ false = sym found ∙ none in
+    rw is (subst (λ (t : Tokens). Reads (q t) r new) there reads)

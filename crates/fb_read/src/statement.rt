@@ -67,14 +67,6 @@ pub struct StatementRules<F> {
 }
 
 impl<F: Fn(&mut Cursor<'_>, u32) -> Result<Stmt, ParseFault>> StatementRules<F> {
-    /// An inner statement.
-    fn part(&self, cursor: &mut Cursor<'_>) -> Result<Stmt, ParseFault>
-        requires { StatementNests self.now.below (F.pre self.now.inner) (F.post self.now.inner) }
-        ensures { Reads (spec.nested_statement self.now.below cursor.old) result cursor.new }
-    {
-        (self.inner)(cursor, self.below)
-    }
-
     /// The statements up to the first token that begins none. Each iteration takes a token.
     fn block(&self, cursor: &mut Cursor<'_>) -> Result<Items<Stmt>, ParseFault>
         requires { StatementNests self.now.below (F.pre self.now.inner) (F.post self.now.inner) }
@@ -85,7 +77,7 @@ impl<F: Fn(&mut Cursor<'_>, u32) -> Result<Stmt, ParseFault>> StatementRules<F> 
             if !cursor.begins_statement() {
                 return Ok(found);
             }
-            found = added(found, self.part(cursor))?;
+            found = added(found, (self.inner)(cursor, self.below))?;
         }
         Ok(found)
     }
@@ -198,10 +190,10 @@ impl<F: Fn(&mut Cursor<'_>, u32) -> Result<Stmt, ParseFault>> StatementRules<F> 
         ensures { Reads (spec.for_statement (spec.nested_statement self.now.below) cursor.old) result cursor.new }
     {
         let first = pair::<Name, Expr>(cursor, Mark::Assign)?;
-        let (first, end) = then_read::<(Name, Expr), Expr>(cursor, first, Mark::To)?;
+        let head = then_read::<(Name, Expr), Expr>(cursor, first, Mark::To)?;
         let step = optional::<Expr>(cursor, Mark::By)?;
         let body = self.loop_body(cursor, Mark::EndFor)?;
-        let (variable, start) = first;
+        let ((variable, start), end) = head;
         Ok(Stmt::For(Reference::new(variable), start, end, step, body))
     }
 

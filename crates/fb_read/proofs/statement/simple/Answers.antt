@@ -1,12 +1,30 @@
-use Rattle.std.proofs.Common.{sym, subst, ◌∙◌}
+use Rattle.std.proofs.Common.{refl, sym, subst, ◌∙◌}
 use Rattle.std.proofs.lemmas.Result.{err_from_is_err_and}
 use Rattle.fb_types.specs.Names.{Name}
 use Rattle.fb_types.specs.declared.text.Stmt.TheVariants as s
 use Rattle.fb_read.specs.declared.token.Mark.TheVariants as mark
 use Rattle.fb_read.specs.Parser.{Reads, ended}
+use Rattle.fb_read.specs.Statements.{simple}
 use Rattle.fb_read.proofs.Pairs.{simple_is}
-use Rattle.fb_read.proofs.Reading.{goes_on, read_as, stops, stops_as}
+use Rattle.fb_read.proofs.Reading.{begun, begun_is, goes_on, passed, read_as, stops, stops_as}
 use Rattle.fb_read.proofs.statement.simple.Goals as goal
+
+pub returns-then-eat : goal.returns-then-eat
+unfolding simple
+returns-then-eat c = begun_is mark.Semicolon _ _ _ _ _ _ c.eat.ensures.found c.if-eat.true c.eat.ensures.after refl
+
+pub returns-then-eat-2 : goal.returns-then-eat-2
+unfolding simple
+returns-then-eat-2 c =
+    passed mark.Semicolon _ _ _ _ _ _ _ c.eat.ensures.found c.if-eat.false c.eat.ensures.after
+    (begun mark.Exit _ _ _ _ _ _ _ c.eat-else-eat.ensures.found c.if-eat-2.true c.eat-else-eat.ensures.after c.ended.ensures)
+
+pub returns-then-eat-3 : goal.returns-then-eat-3
+unfolding simple
+returns-then-eat-3 c =
+    passed mark.Semicolon _ _ _ _ _ _ _ c.eat.ensures.found c.if-eat.false c.eat.ensures.after
+    (passed mark.Exit _ _ _ _ _ _ _ c.eat-else-eat.ensures.found c.if-eat-2.false c.eat-else-eat.ensures.after
+    (begun mark.Return _ _ _ _ _ _ _ c.eat-else-eat-2.ensures.found c.if-eat-3.true c.eat-else-eat-2.ensures.after c.ended-then-eat-3.ensures))
 
 pub returns-in_err-target : goal.returns-in_err-target
 returns-in_err-target c =
