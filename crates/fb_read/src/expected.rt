@@ -120,6 +120,13 @@ const ST: u128 = 16;
 /// The bit of the first mark.
 const FIRST_MARK: u128 = 32;
 
+// The words for the kinds that are no marks.
+static KIND_WORDS: [&str; 5] = ["name", "whole", "time", "IN", "ST"];
+
+fn kind_words() -> &'static [&'static str] {
+    &KIND_WORDS
+}
+
 /// What a rule looks for.
 #[derive(Clone, Copy)]
 pub enum Sought {
@@ -236,25 +243,23 @@ impl Expected {
     /// When memory runs out.
     pub fn words(self, alloc: Global) -> Result<String, AllocError> {
         let mut all = String::new(alloc);
-        self.add_kinds(&mut all)?;
-        let mut bit = FIRST_MARK;
+        let listed = if self.kinds & NAME == 0 {
+            self
+        } else {
+            Expected {
+                kinds: self.kinds & !(IN | ST),
+            }
+        };
+        let mut bit = NAME;
+        for word in kind_words() {
+            listed.add_if(&mut all, bit, word)?;
+            bit <<= 1;
+        }
         for spelling in spellings() {
-            self.add_if(&mut all, bit, spelling.1)?;
+            listed.add_if(&mut all, bit, spelling.1)?;
             bit <<= 1;
         }
         Ok(all)
-    }
-
-    /// Adds the kinds that are no marks.
-    fn add_kinds(self, all: &mut String) -> Result<(), AllocError> {
-        self.add_if(all, NAME, "name")?;
-        self.add_if(all, WHOLE, "whole")?;
-        self.add_if(all, TIME, "time")?;
-        if self.kinds & NAME != 0 {
-            return Ok(());
-        }
-        self.add_if(all, IN, "IN")?;
-        self.add_if(all, ST, "ST")
     }
 
     /// Adds a word, if the kind is among these.
