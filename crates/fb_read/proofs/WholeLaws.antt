@@ -1,7 +1,8 @@
 -- A text has one list of tokens, or a first fault; what is read of its tokens is the one library that it declares.
-use Rattle.std.proofs.Common.{◌≡◌, ℕ, ◌<◌, Bool, true, false, cond, [], ◌∷◌, length, drop, Result, Ok, Err, Some, refl, sym, ap, subst, ◌∙◌, inl, inr, arith}
+use Rattle.std.proofs.Common.{◌≡◌, ℕ, ◌<◌, Bool, true, false, cond, List, [], ◌∷◌, length, drop, Result, Ok, Err, Some, refl, sym, ap, subst, ◌∙◌, inl, inr, arith}
 use Rattle.std.specs.Prelude.{◌↔◌}
 use Rattle.fb_types.specs.declared.library.Library.{Library}
+use Rattle.fb_read.specs.declared.token.Located.{Located}
 use Rattle.fb_read.specs.declared.token.Token.{Token}
 use Rattle.fb_read.specs.declared.error.ReadError.{ReadError}
 use Rattle.fb_read.specs.declared.error.ReadError.TheVariants as error
@@ -19,7 +20,7 @@ use Rattle.fb_read.specs.declared.refused.ReadFault.{ReadFault}
 use Rattle.fb_read.specs.declared.refused.ReadFault.TheVariants as fault
 use Rattle.fb_read.specs.declared.refused.TextFault.{TextFault}
 use Rattle.fb_read.specs.declared.refused.TextFault.TheVariants as text_fault
-use Rattle.fb_read.specs.Refusals.{IsFaultAt, IsUnread, IsErrorAt, IsErrorFor, too_long}
+use Rattle.fb_read.specs.Refusals.{IsFaultAt, IsUnread, IsUnreadOf, IsErrorAt, IsErrorFor, too_long}
 use Rattle.fb_read.proofs.TokenLaws.{first-located, front_empty, tokens-located}
 use Rattle.fb_read.proofs.BlocksSound.{library-sound}
 use Rattle.fb_read.proofs.BlocksComplete.{library-complete}
@@ -182,6 +183,11 @@ module _ (text : Text) where
   none-at text_fault.Syntax begin end h = nothing-parsed text (tokens_of h.placed) (syntax h.left) (tokens-located h.located) h.refused
   none-at text_fault.TooLong begin end h = λ x l. let long = h.long in read-short text x l long
   none-at text_fault.Nesting begin end h = nothing-parsed text (tokens_of h.placed) too_deep (tokens-located h.located) h.refused
+
+  -- the text is refused for what its tokens are
+  pub unread-of : (ps : List Located) (o : Unread) → IsUnreadOf text ps o → IsUnread text o
+  unread-of ps (unread.Fault e) h = h
+  unread-of ps (unread.Nesting left) h = (ps, h)
 
   pub is-none : (o : Unread) (e : ReadError) → IsUnread text o → IsErrorFor text o e → ¬ IsMemory e → Nothing text
   is-none (unread.Fault fault.Memory) e h w n = absurd (n (subst IsMemory (sym w) tt))

@@ -4,7 +4,6 @@ ghost use Rattle.std.specs.Prelude.{◌≡◌, ◌+◌, ◌-◌, ◌≤◌, ◌<
 ghost use Rattle.fb_types.specs.declared.library.Library.{Library};
 ghost use Rattle.fb_read.specs.Front.{bad_byte, bad_token};
 ghost use Rattle.fb_read.specs.Tokens.{after_mark};
-ghost use Rattle.fb_read.specs.declared.read.Unread.TheVariants.{Fault};
 ghost use Rattle.fb_read.specs.Located.{AreLocated, IsLocatedEnd};
 ghost use Rattle.fb_read.specs.Refusals.{IsAtNext, IsDeepLen, IsErrorAt, IsErrorFor, IsErrorOf, IsFaultAt, IsFirstDeep, IsNext, IsRefused, IsSameFault, IsTokenLen, IsTooDeep, IsUnread, IsUnreadOf, too_long};
 ghost use Rattle.fb_read.specs.Whole.{IsDerived, IsLibraryText, IsNesting, HasTokenFault, HasTokens, RefusesWhere, IsMemory, IsGrammarFault, most_bytes};
@@ -119,23 +118,11 @@ fn nesting_left(alloc: Global, tokens: &[Located]) -> Result<Option<usize>, Allo
     }
 }
 
-/// Whether these tokens are refused for their nesting.
-fn nests_too_deep(alloc: Global, tokens: &[Located]) -> Result<bool, AllocError>
-    requires { length tokens.now ≤ most_bytes }
-    ensures { IfOk result (λ b. IsTrue b ↔ IsTooDeep tokens.now) }
+/// The first of these elements, at most this number.
+fn front_of<T>(all: &[T], len: usize) -> &[T]
+    ensures { result.now ≡ take len all.now }
 {
-    Ok(nesting_left(alloc, tokens)?.is_some())
-}
-
-/// The first of these tokens, at most this number.
-fn front_of(tokens: &[Located], len: usize) -> &[Located]
-    ensures { result.now ≡ take len tokens.now }
-{
-    if tokens.len() > len {
-        &tokens[..len]
-    } else {
-        tokens
-    }
+    if all.len() > len { &all[..len] } else { all }
 }
 
 /// How many of these tokens there are up to the first that nests too deep, or more. It is that token after which this
@@ -150,7 +137,7 @@ fn refused_len(alloc: Global, tokens: &[Located], left: usize) -> Result<usize, 
     if left == 0 {
         return Ok(len);
     }
-    let nests = nests_too_deep(alloc, front_of(tokens, len))?;
+    let nests = nesting_left(alloc, front_of(tokens, len))?.is_some();
     if nests { Ok(len) } else { Ok(tokens.len()) }
 }
 
@@ -164,7 +151,7 @@ fn deep_len(alloc: Global, tokens: &[Located], left: usize) -> Result<usize, All
     let most = refused_len(alloc, tokens, left)?;
     for turn in 0..most {
         let len = most - turn;
-        let nests = nests_too_deep(alloc, front_of(tokens, len - 1))?;
+        let nests = nesting_left(alloc, front_of(tokens, len - 1))?.is_some();
         if !nests {
             return Ok(len);
         }
@@ -248,27 +235,6 @@ fn parse(alloc: Global, text: &[u8], tokens: &[Located]) -> Result<Library, Unre
     }
 }
 
-/// The library that all of the tokens form, or where they are refused.
-fn parse_located(alloc: Global, text: &[u8], tokens: &[Located]) -> Result<Library, ReadFault>
-    requires short { length text.now ≤ most_bytes }
-    requires few { length tokens.now ≤ most_bytes }
-    requires located { AreLocated text.now tokens.now (after_mark text.now) }
-    ensures declared { IfOk result (λ library. IsLibraryText text.now library) }
-    ensures refused { IfErr result (λ e. IsRefused text.now e) }
-{
-    if let Some(fault) = shown_nesting(alloc, text, tokens)? {
-        return Err(fault);
-    }
-    match parse(alloc, text, tokens) {
-        Ok(found) => Ok(found),
-        Err(Unread::Fault(fault)) => Err(fault),
-        Err(Unread::Nesting(left)) => {
-            let most = tokens.len();
-            Err(refused_nesting(alloc, text, tokens, most, left))
-        }
-    }
-}
-
 /// The tokens of a text that is not too long.
 fn tokens_in(alloc: Global, text: &[u8]) -> Result<Items<Located>, ReadFault>
     ensures short { IfOk result (λ tokens. length text.now ≤ most_bytes) }
@@ -334,23 +300,17 @@ pub fn read_located(alloc: Global, text: &[u8]) -> Result<Library, ReadFault>
     ensures too_long { most_bytes < length text.now → result ≡ Err too_long }
 {
     let tokens = tokens_in(alloc, text)?;
-    match parse_located(alloc, text, tokens.as_slice()) {
-        Ok(found) => Ok(found),
-        Err(ReadFault::Memory) => Err(ReadFault::Memory),
-        Err(ReadFault::Refused(refusal)) => Err(with_expected(alloc, tokens, refusal)),
+    let all = tokens.as_slice();
+    if let Some(fault) = shown_nesting(alloc, text, all)? {
+        return Err(fault);
     }
-}
-
-/// Reads the library that a declaration text declares. Neither what was expected in place of a syntax fault nor the
-/// place of a nesting is searched.
-fn read_unplaced(alloc: Global, text: &[u8]) -> Result<Library, Unread>
-    ensures declared { IfOk result (λ library. IsLibraryText text.now library) }
-    ensures refused { IfErr result (λ e. IsUnread text.now e) }
-    ensures too_long { most_bytes < length text.now → result ≡ Err (Fault too_long) }
-{
-    match tokens_in(alloc, text) {
-        Ok(tokens) => parse(alloc, text, tokens.as_slice()),
-        Err(fault) => Err(Unread::Fault(fault)),
+    match parse(alloc, text, all) {
+        Ok(found) => Ok(found),
+        Err(Unread::Fault(ReadFault::Memory)) => Err(ReadFault::Memory),
+        Err(Unread::Fault(ReadFault::Refused(refusal))) => {
+            Err(with_expected(alloc, tokens, refusal))
+        }
+        Err(Unread::Nesting(left)) => Err(refused_nesting(alloc, text, all, all.len(), left)),
     }
 }
 
@@ -359,12 +319,12 @@ fn line_of(text: &[u8], index: usize) -> u32
     requires { length text.now ≤ most_bytes }
     ensures { result ≡ 1 + count_by (λ b. b == 10) (take index text.now) }
 {
-    let before = if index < text.len() {
-        &text[..index]
-    } else {
-        text
-    };
-    1 + before.iter().filter(|b| **b == b'\n').count() as u32
+    let before = front_of(text, index);
+    let mut line = 1;
+    for byte in before {
+        line += u32::from(*byte == b'\n');
+    }
+    line
 }
 
 /// The refusal by its number, with the line of its offset for a syntax fault.
@@ -423,7 +383,12 @@ pub fn read_library(alloc: Global, text: &[u8]) -> Result<Library, ReadError>
     ensures token { RefusesWhere result ReadError.Token (HasTokenFault bad_token text.now) }
     ensures grammar { IfErr result (λ e. IsGrammarFault e → HasTokens text.now) }
 {
-    match read_unplaced(alloc, text) {
+    // Neither what was expected in place of a syntax fault nor the place of a nesting is searched.
+    let tokens = match tokens_in(alloc, text) {
+        Ok(tokens) => tokens,
+        Err(fault) => return Err(error_for(text, Unread::Fault(fault))),
+    };
+    match parse(alloc, text, tokens.as_slice()) {
         Ok(library) => Ok(library),
         Err(unread) => Err(error_for(text, unread)),
     }

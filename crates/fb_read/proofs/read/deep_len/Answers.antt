@@ -1,4 +1,4 @@
-use Rattle.std.proofs.Common.{◌≡◌, ℕ, ◌+◌, ◌-◌, subst, arith}
+use Rattle.std.proofs.Common.{◌≡◌, ℕ, ◌+◌, ◌-◌, sym, subst, ◌∙◌, arith}
 use Rattle.fb_read.specs.Refusals.{IsDeepLen}
 use Rattle.fb_read.proofs.RefusalLaws.{deep-shorter, first-deep}
 use Rattle.fb_read.proofs.read.deep_len.Goals as goal
@@ -10,13 +10,13 @@ loop-turn-init c =
 
 pub returns-then-not-nests : goal.returns-then-not-nests
 returns-then-not-nests c =
-    first-deep c.args.tokens.now (c.in_ok-most.most - c.loop-turn.turn) c.in_ok-nests.nests c.loop-turn.invariant (rw c.front_of.ensures at c.in_ok-nests.ensures) c.if-not-nests.true
+    first-deep c.args.tokens.now (c.in_ok-most.most - c.loop-turn.turn) _ c.loop-turn.invariant (rw c.front_of.ensures at c.in_ok-nesting_left.ensures) (sym c.is_some-nests.ensures ∙ c.if-not-nests.true)
 
 pub loop-turn-preserved : goal.loop-turn-preserved
 loop-turn-preserved c =
     let fewer : c.in_ok-most.most - c.loop-turn.turn - 1 ≡ c.in_ok-most.most - (c.loop-turn.turn + 1) = omega arith in
     subst (λ (n : ℕ). IsDeepLen c.args.tokens.now n) fewer
-    (deep-shorter c.args.tokens.now (c.in_ok-most.most - c.loop-turn.turn) c.in_ok-nests.nests c.loop-turn.invariant (rw c.front_of.ensures at c.in_ok-nests.ensures) c.if-not-nests.false)
+    (deep-shorter c.args.tokens.now (c.in_ok-most.most - c.loop-turn.turn) _ c.loop-turn.invariant (rw c.front_of.ensures at c.in_ok-nesting_left.ensures) (sym c.is_some-nests.ensures ∙ c.if-not-nests.false))
 
 pub returns : goal.returns
 returns c = absurd (omega (arith, c.loop-turn.invariant.0, c.loop-turn-test.false))

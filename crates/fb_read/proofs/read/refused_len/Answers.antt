@@ -1,4 +1,4 @@
-use Rattle.std.proofs.Common.{◌≡◌, ◌-◌, length, take, sym, subst, arith}
+use Rattle.std.proofs.Common.{◌≡◌, ◌-◌, length, take, sym, subst, ◌∙◌, arith}
 use Rattle.fb_read.specs.Refusals.{IsDeepLen, IsTooDeep}
 use Rattle.fb_read.proofs.RefusalLaws.{all-deep, deep-len}
 use Rattle.fb_read.proofs.read.refused_len.Goals as goal
@@ -10,7 +10,7 @@ returns-then-left-eq0 c =
 
 pub returns-then-nests : goal.returns-then-nests
 returns-then-nests c =
-    let deep : IsTooDeep (take c.saturating_sub-len.result c.args.tokens.now) = rw c.front_of.ensures at (c.in_ok-nests.ensures.0 c.if-nests.true) in
+    let deep : IsTooDeep (take c.saturating_sub-len.result c.args.tokens.now) = rw c.front_of.ensures at (c.in_ok-nesting_left.ensures.0 (sym c.is_some-nests.ensures ∙ c.if-nests.true)) in
     deep-len c.args.tokens.now c.saturating_sub-len.result (omega (arith, c.saturating_sub-len.ensures)) deep
 
 pub returns-else-nests : goal.returns-else-nests
