@@ -53,3 +53,9 @@ pub passed : {A : Type 0} (k : Mark) (p q : Parser A) (ts mid : Tokens) (b : Boo
 passed {A = A} k p q ts mid b r new found none there reads =
     let is : sees k ts ≡ false = sym found ∙ none in
     rw is (subst (λ (t : Tokens). Reads (q t) r new) there reads)
+
+pub passed_is : {A : Type 0} (k : Mark) (p q : Parser A) (ts mid : Tokens) (b : Bool) (o : Outcome A)
+    → b ≡ sees k ts → b ≡ false → mid ≡ after k ts → q mid ≡ o → (if sees k ts then p else q) (after k ts) ≡ o
+passed_is {A = A} k p q ts mid b o found none there is =
+    let next : sees k ts ≡ false = sym found ∙ none in
+    rw next (subst (λ (t : Tokens). q t ≡ o) there is)
