@@ -14,7 +14,7 @@ use Rattle.fb_read.specs.Network.{port, connection, constant, parameter, paramet
 use Rattle.fb_read.specs.Ports.{declaration, initial}
 use Rattle.fb_read.specs.Charts.{condition, transition}
 use Rattle.fb_read.specs.Expressions.{expression}
-use Rattle.fb_read.specs.Statements.{assignment, block, bounds, branches, case_body, case_statement, cases, for_end, for_to, for_statement, loop_body, others, repeat_statement, simple, step}
+use Rattle.fb_read.specs.Statements.{assignment, block, bounds, branches, case_body, case_statement, cases, for_end, for_to, for_statement, loop_body, others, simple, step}
 
 -- a mark and a rule after what was found, and what continues with both
 after_then : {A B C : Type 0} (x : A) (k : Mark) (q : Parser B) (go : A → B → Parser C) (ts : Tokens)
@@ -41,7 +41,7 @@ pair_then {A = A} {B = B} {C = C} p k q go ts = after_none (p ts)
     after_none (Err e) = refl
 
 -- the same first step, and what continues the same way
-alike : {A B : Type 0} (o : Outcome A) (f g : A → Parser B) → ((x : A) (ts : Tokens) → f x ts ≡ g x ts) → and_then o f ≡ and_then o g
+pub alike : {A B : Type 0} (o : Outcome A) (f g : A → Parser B) → ((x : A) (ts : Tokens) → f x ts ≡ g x ts) → and_then o f ≡ and_then o g
 alike (Ok x) f g same = same x.0 x.1
 alike (Err e) f g same = refl
 
@@ -152,14 +152,6 @@ case_is inner ts =
     alike (expression ts) (λ x. case_body inner >>= (λ inside. pure (s.Case x inside.0 inside.1)))
     (λ x. expect mark.Of >> (branches inner >>= (λ found. others inner >>= (λ other. finished mark.EndCase (s.Case x found other)))))
     (case_body_is inner)
-
-pub repeat_is : (inner : Parser Stmt) (ts : Tokens)
-    → repeat_statement inner ts ≡ (block inner >>= (λ body. then_read body mark.Until expression >>= (λ both. expect mark.EndRepeat >> (expect mark.Semicolon >> pure (s.Repeat both.0 both.1))))) ts
-unfolding repeat_statement
-repeat_is inner ts =
-    alike (block inner ts) (λ body. expect mark.Until >> (expression >>= (λ x. expect mark.EndRepeat >> (expect mark.Semicolon >> pure (s.Repeat body x)))))
-    (λ body. then_read body mark.Until expression >>= (λ both. expect mark.EndRepeat >> (expect mark.Semicolon >> pure (s.Repeat both.0 both.1))))
-    (λ body mid. after_then body mark.Until expression (λ all x. expect mark.EndRepeat >> (expect mark.Semicolon >> pure (s.Repeat all x))) mid)
 
 -- a statement that begins with none of the three marks
 pub simple_is : (ts a b c : Tokens) → sees mark.Semicolon ts ≡ false → after mark.Semicolon ts ≡ a → sees mark.Exit a ≡ false → after mark.Exit a ≡ b

@@ -5,7 +5,7 @@ ghost use Rattle.fb_read.specs.Charts as spec;
 
 use crate::cursor::Cursor;
 use crate::fault::ParseFault;
-use crate::rule::{Rule, added, ended, listed, many_after, pair, section, then_read};
+use crate::rule::{Rule, added, ended, listed, many_after, optional, pair, section, then_read};
 use crate::statement::body;
 use crate::token::Mark;
 use fb_types::{Action, Algorithm, Body, Condition, Expr, Items, Name, State, Transition};
@@ -13,23 +13,14 @@ use fb_types::{Action, Algorithm, Body, Condition, Expr, Items, Name, State, Tra
 impl Rule for Action {
     ghost parser = { spec.action };
 
-    #[tactic(auto, unfolding(crate::specs::Charts::action))]
+    #[tactic(auto, unfolding(crate::specs::Charts::action, crate::specs::Parser::optional))]
     fn read(cursor: &mut Cursor<'_>) -> Result<Action, ParseFault> {
         let algorithm = cursor.name_if()?;
-        if cursor.eat(Mark::Arrow) {
-            let output = Name::read(cursor)?;
-            Ok(Action {
-                algorithm,
-                output: Some(output),
-            })
-        } else if algorithm.is_none() {
-            Err(ParseFault::Syntax)
-        } else {
-            Ok(Action {
-                algorithm,
-                output: None,
-            })
+        let output = optional::<Name>(cursor, Mark::Arrow)?;
+        if algorithm.is_none() && output.is_none() {
+            return Err(ParseFault::Syntax);
         }
+        Ok(Action { algorithm, output })
     }
 }
 

@@ -209,12 +209,14 @@ impl<F: Fn(&mut Cursor<'_>, u32) -> Result<Stmt, ParseFault>> StatementRules<F> 
     }
 
     /// What follows REPEAT.
+    #[tactic(auto, unfolding(crate::specs::Statements::repeat_statement))]
     fn repeat_statement(&self, cursor: &mut Cursor<'_>) -> Result<Stmt, ParseFault>
         requires { StatementNests self.now.below (F.pre self.now.inner) (F.post self.now.inner) }
         ensures { Reads (spec.repeat_statement (spec.nested_statement self.now.below) cursor.old) result cursor.new }
     {
         let body = self.block(cursor)?;
-        let (body, condition) = then_read::<Items<Stmt>, Expr>(cursor, body, Mark::Until)?;
+        cursor.expect(Mark::Until)?;
+        let condition = Expr::read(cursor)?;
         finished(cursor, Mark::EndRepeat, Stmt::Repeat(body, condition))
     }
 
