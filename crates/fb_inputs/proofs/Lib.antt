@@ -16,3 +16,4 @@ pub mod DeployLaws
 pub mod ReadOn
 pub mod Nearest
 pub mod Keywords
+pub mod Limited

@@ -21,7 +21,7 @@ use Rattle.fb_inputs.proofs.Each.{nothing_before, regroup_at}
 use Rattle.fb_inputs.specs.Rows.{Row}
 use Rattle.fb_inputs.specs.Words.{Text}
 use Rattle.fb_inputs.specs.Stimuli.{stimulus, stimulus_at, stimuli_from, stimuli, stimuli_in, stimuli_of, is_head, most_bytes}
-use Rattle.fb_inputs.specs.Readers.{HasOtherHead, Opens, rows_from}
+use Rattle.fb_inputs.specs.Readers.{HasOtherHead, rows_from}
 
 abbrev found_all : List Stimulus → Located (List Stimulus)
 found_all all = Ok all
@@ -68,7 +68,7 @@ pub unheaded : (bytes : Text) (head : Row) (rows : List Row) → length bytes �
 unfolding stimuli
 unheaded bytes head rows le all no_head = opened bytes (head ∷ rows) le all ∙ rw no_head refl
 
-pub no_heading : (bytes : Text) (e : StimuliFault) → length bytes ≤ most_bytes → Opens bytes (Err e) → IfSome (place_of e) (λ n. stimuli_in bytes ≡ Err n)
+pub no_heading : (bytes : Text) (e : StimuliFault) → length bytes ≤ most_bytes → IfSome (place_of e) (λ p. (p ≡ Heading) × HasOtherHead bytes) → IfSome (place_of e) (λ n. stimuli_in bytes ≡ Err n)
 no_heading bytes e le h = by (place_of e) h
   where
     by : (o : Option StimuliLocation) → IfSome o (λ n. (n ≡ Heading) × HasOtherHead bytes) → IfSome o (λ n. stimuli_in bytes ≡ Err n)

@@ -1,5 +1,5 @@
 -- What a reader returns next, appended to what was found.
-use Rattle.std.proofs.Common.{◌≡◌, ℕ, Bool, true, false, List, length, Some, Result, Ok, Err, Bor, refl, sym, ◌∙◌, ap}
+use Rattle.std.proofs.Common.{◌≡◌, ℕ, Bool, true, false, List, length, Some, Result, Ok, Err, Bor, refl, sym, ◌∙◌}
 use Rattle.std.specs.Option.{IfSome}
 use Rattle.std.proofs.lemmas.Option.{same_Some}
 use Rattle.csv.specs.Reading.{FlexibleStep, RowStep, strip_bom}
@@ -9,13 +9,12 @@ use Rattle.csv.specs.declared.iter.ByteRecordsIntoIter.{ByteRecordsIntoIter}
 use Rattle.csv.specs.declared.record.ByteRecord.{ByteRecord}
 use Rattle.fb_types.specs.declared.deploy.Stimulus.{Stimulus}
 use Rattle.fb_inputs.specs.declared.location.StimuliFault.{StimuliFault}
-use Rattle.fb_inputs.specs.declared.location.StimuliFault.TheVariants.{Memory, At}
-use Rattle.fb_inputs.specs.declared.location.StimuliLocation.TheVariants.{Heading}
+use Rattle.fb_inputs.specs.declared.location.StimuliFault.TheVariants.{Memory}
 use Rattle.fb_inputs.specs.Places.{place_of}
 use Rattle.fb_inputs.specs.Words.{Text}
 use Rattle.fb_inputs.specs.Stimuli.{is_head, stimuli_from}
 use Rattle.fb_inputs.specs.Lists.{all_after}
-use Rattle.fb_inputs.specs.Readers.{IsAdded, IsAt, IsOpened, IsRead, Opens, kept_of, known, rows_from}
+use Rattle.fb_inputs.specs.Readers.{IsAdded, IsAt, IsOpened, IsRead, Opens, heading_of, known, rows_from}
 use Rattle.fb_inputs.proofs.Records.{at_more}
 use Rattle.fb_inputs.proofs.Rows.{next_found, next_refused, start_read}
 
@@ -46,25 +45,16 @@ turn_refused a b z front following (Err x) e here step flexible added = let memo
 
 -- ---- The heading
 
--- the result, once the first record was tested
-abbrev pub heading_of : Result Bool StimuliFault → Result Bool StimuliFault
-heading_of (Ok true) = Ok true
-heading_of (Ok false) = Err (At Heading)
-heading_of (Err e) = Err e
-
 pub heading_found :
     (bytes : Text) (a b : Rest) (r : Result ByteRecord Error) (answer : Result Bool StimuliFault) → IsOpened a (strip_bom bytes) → RowStep known a.rdr b.rdr b.left (Some r)
-    → FlexibleStep a.rdr b.rdr (Some r) → IsRead r answer → Opens bytes (kept_of b (heading_of answer))
+    → FlexibleStep a.rdr b.rdr (Some r) → IsRead r answer → Opens bytes b answer
 heading_found bytes a b (Ok row) answer opened step flexible is =
     let (here, start) = opened in
     let (y, there, rows) = at_more a b (strip_bom bytes) (fields_of row) here step.0 step.1 step.2 flexible in
     let read = start_read bytes a.rdr.state _ start rows in
     rw is
-    ((elim (is_head (fields_of row)) as (λ t. is_head (fields_of row) ≡ t → Opens bytes (kept_of b (heading_of (Ok t)))) [
+    ((elim (is_head (fields_of row)) as (λ t. is_head (fields_of row) ≡ t → Opens bytes b (heading_of t)) [
       | true ↦ λ e. record { left = y; here = there; head = fields_of row; headed = e; read = read }
       | false ↦ λ e. (refl, record { first = fields_of row; rows = rows_from b.rdr.state y; read = read; other = e })
     ]) refl)
 heading_found bytes a b (Err e) answer opened step flexible is = rw is tt
-
-pub ok_by : (r : Result Bool StimuliFault) (x b : Bool) → r ≡ Ok x → x ≡ b → r ≡ Ok b
-ok_by r x b is same = is ∙ ap (λ t. Ok t) same

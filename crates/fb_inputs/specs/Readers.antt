@@ -12,7 +12,7 @@ use Rattle.csv.specs.declared.reader.Trim.TheVariants as trim
 use Rattle.csv.specs.declared.record.ByteRecord.{ByteRecord}
 use Rattle.fb_types.specs.declared.deploy.Stimulus.{Stimulus}
 use Rattle.fb_inputs.specs.declared.location.StimuliFault.{StimuliFault}
-use Rattle.fb_inputs.specs.declared.location.StimuliFault.TheVariants.{Memory}
+use Rattle.fb_inputs.specs.declared.location.StimuliFault.TheVariants.{Memory, At}
 use Rattle.fb_inputs.specs.declared.location.StimuliLocation.TheVariants.{Heading}
 use Rattle.fb_inputs.specs.Places.{place_of}
 use Rattle.fb_inputs.specs.Rows.{Row}
@@ -69,21 +69,20 @@ pub record HasOtherHead (bytes : Text) : Type 0 where
   pub other : is_head first ≡ false
 
 -- where a reader is that has read a heading, if there is any record, or why there is none
-abbrev pub Opens : Text → Result (Option (ByteRecordsIntoIter (Bor (List ℕ)))) StimuliFault → Type 0
-Opens bytes (Ok None) = records default_config (strip_bom bytes) ≡ []
-Opens bytes (Ok (Some it)) = IsHeaded bytes it
-Opens bytes (Err e) = IfSome (place_of e) (λ p. (p ≡ Heading) × HasOtherHead bytes)
+abbrev pub Opens : Text → ByteRecordsIntoIter (Bor (List ℕ)) → Result Bool StimuliFault → Type 0
+Opens bytes it (Ok false) = records default_config (strip_bom bytes) ≡ []
+Opens bytes it (Ok true) = IsHeaded bytes it
+Opens bytes it (Err e) = IfSome (place_of e) (λ p. (p ≡ Heading) × HasOtherHead bytes)
 
--- whether what was read is a heading: the only error is out of memory
+-- what a test of the first record says: that it is the heading, or where that should be
+abbrev pub heading_of : Bool → Result Bool StimuliFault
+heading_of true = Ok true
+heading_of false = Err (At Heading)
+
+-- the first record was tested: the only other error is out of memory
 abbrev pub IsRead : Result ByteRecord Error → Result Bool StimuliFault → Type 0
-IsRead (Ok row) answer = answer ≡ Ok (is_head (fields_of row))
+IsRead (Ok row) answer = answer ≡ heading_of (is_head (fields_of row))
 IsRead (Err e) answer = answer ≡ Err Memory
-
--- a value, if a test was passed
-abbrev pub kept_of : {A : Type 0} → A → Result Bool StimuliFault → Result (Option A) StimuliFault
-kept_of x (Ok true) = Ok (Some x)
-kept_of x (Ok false) = Ok None
-kept_of x (Err e) = Err e
 
 -- the stimulus of what was read follows the others, unless it is refused or memory runs out
 abbrev pub IsAdded : Result ByteRecord Error → List Stimulus → List Stimulus → Result (Unit {0}) StimuliFault → Type 0

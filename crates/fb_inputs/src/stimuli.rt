@@ -1,9 +1,9 @@
 //! Stimuli.
 
-ghost use Rattle.std.specs.Prelude.{◌≡◌, [], ◌∷◌, length, IfErr, IfOk, MatchOption, nat_le, not, ◌^◌, option_map};
+ghost use Rattle.std.specs.Prelude.{◌≡◌, ◌≤◌, [], ◌∷◌, length, IfErr, IfOk, MatchOption, nat_le, not, ◌^◌, option_map};
 ghost use Rattle.csv.specs.Reading.{error_kind, strip_bom};
 ghost use Rattle.csv.specs.Records.{fields_of};
-ghost use Rattle.fb_inputs.specs.Readers.{IsAdded, IsAt, IsOpened, IsRead, Opens, kept_of, rows_from};
+ghost use Rattle.fb_inputs.specs.Readers.{IsAdded, IsAt, IsOpened, IsRead, Opens, rows_from};
 ghost use Rattle.fb_inputs.specs.Faults.{AreTaken, IsRefusedAt};
 ghost use Rattle.fb_inputs.specs.Lists.{all_after};
 ghost use Rattle.fb_inputs.specs.Places.{AnswersAt, AnswersInRow, place_of};
@@ -52,7 +52,6 @@ fn is_late(tick: u128) -> bool
 }
 
 /// The stimulus of a row of three fields, after this number of rows.
-#[tactic(auto, unfolding(crate::specs::Stimuli::stimulus, crate::specs::Stimuli::three))]
 fn stimulus_of(
     alloc: Global,
     before: usize,
@@ -134,13 +133,21 @@ pub fn records_of(alloc: Global, bytes: &[u8]) -> ByteRecordsIntoIter<&[u8]>
     reader.into_byte_records()
 }
 
-/// Whether the record is the heading.
+/// Tests the first record: `true` if it is the heading, or else where that should be.
 fn is_headed(read: Result<ByteRecord, Error>) -> Result<bool, StimuliFault>
     requires { IfErr read (λ e. spec.IsOfReading (error_kind e)) }
     ensures { IsRead read result }
 {
     match read {
-        Ok(row) => Ok(is_head(&row)),
+        Ok(row) => {
+            let found = is_head(&row);
+            drop(row);
+            if found {
+                Ok(true)
+            } else {
+                Err(StimuliFault::At(StimuliLocation::Heading))
+            }
+        }
         Err(error) => Err(refusal(error)),
     }
 }
@@ -148,36 +155,12 @@ fn is_headed(read: Result<ByteRecord, Error>) -> Result<bool, StimuliFault>
 /// Reads the heading, and returns whether there is any record.
 fn take_heading(rows: &mut ByteRecordsIntoIter<&[u8]>) -> Result<bool, StimuliFault>
     requires { (left : Text) × IsOpened rows.old left }
-    ensures { (bytes : Text) → IsOpened rows.old (strip_bom bytes) → Opens bytes (kept_of rows.new result) }
+    ensures { (bytes : Text) → IsOpened rows.old (strip_bom bytes) → Opens bytes rows.new result }
 {
-    let Some(first) = rows.next() else {
-        return Ok(false);
-    };
-    if is_headed(first)? {
-        Ok(true)
-    } else {
-        Err(StimuliFault::At(StimuliLocation::Heading))
+    match rows.next() {
+        Some(first) => is_headed(first),
+        None => Ok(false),
     }
-}
-
-/// The value, if a test was passed. A value of a type parameter is dropped by one call; the parts of a reader would be
-/// many.
-fn kept<T: Drop>(value: T, test: Result<bool, StimuliFault>) -> Result<Option<T>, StimuliFault>
-    ensures { result ≡ kept_of value test }
-{
-    if test? { Ok(Some(value)) } else { Ok(None) }
-}
-
-/// The reader of the records after the heading `tick,event,values`, if there is any record.
-fn rows_after_heading(
-    alloc: Global,
-    bytes: &[u8],
-) -> Result<Option<ByteRecordsIntoIter<&[u8]>>, StimuliFault>
-    ensures { Opens bytes.now result }
-{
-    let mut rows = records_of(alloc, bytes);
-    let has_heading = take_heading(&mut rows);
-    kept(rows, has_heading)
 }
 
 /// Appends the stimulus of a record.
@@ -213,6 +196,23 @@ fn add_all(
     Ok(())
 }
 
+/// Reads the heading, and appends the stimuli of the records after it, if there is any record.
+fn add_after_heading(
+    alloc: Global,
+    rows: &mut ByteRecordsIntoIter<&[u8]>,
+    found: &mut Items<Stimulus>,
+) -> Result<(), StimuliFault>
+    requires opened { (bytes : Text) × IsOpened rows.old (strip_bom bytes) }
+    requires none { found.old ≡ [] }
+    ensures { (bytes : Text) → length bytes ≤ spec.most_bytes → IsOpened rows.old (strip_bom bytes) → AnswersAt (λ u. found.new) (spec.stimuli_in bytes) result }
+{
+    if take_heading(rows)? {
+        add_all(alloc, rows, found)
+    } else {
+        Ok(())
+    }
+}
+
 /// Reads stimuli in CSV as [`read_stimuli`] does.
 ///
 /// # Errors
@@ -225,15 +225,12 @@ pub fn locate_stimuli(alloc: Global, bytes: &[u8]) -> Result<Vec<Stimulus>, Stim
     if bytes.len() > MOST_STIMULI_BYTES {
         return Err(StimuliFault::At(StimuliLocation::Bytes));
     }
-    let opened = rows_after_heading(alloc, bytes)?;
-    let Some(mut rows) = opened else {
-        return Ok(Vec::new(alloc));
-    };
+    let mut rows = records_of(alloc, bytes);
     let mut found = Items::new(alloc);
-    let added = add_all(alloc, &mut rows, &mut found);
+    let read = add_after_heading(alloc, &mut rows, &mut found);
     // Drops with one call. Each exit would drop each part of the reader.
     drop(rows);
-    added?;
+    read?;
     Ok(found.into_vec())
 }
 
