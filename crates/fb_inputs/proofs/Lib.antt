@@ -16,4 +16,5 @@ pub mod DeployLaws
 pub mod ReadOn
 pub mod Nearest
 pub mod Keywords
+pub mod Drafts
 pub mod Limited

@@ -201,15 +201,14 @@ fn constant(alloc: Global, value: &Value) -> Result<Items<LatencyDraft>, TableEr
 fn table_of(alloc: Global, keys: &Table) -> Result<Items<LatencyDraft>, TableError>
     ensures { AnswersInTable (λ t. t) (spec.table_of (places.value_at (table_view keys.now) DeployKey.Latency) (places.value_at (table_view keys.now) DeployKey.Latencies)) result }
 {
-    match value_at(keys, DeployKey::Latency) {
-        Some(ticks) => match value_at(keys, DeployKey::Latencies) {
-            Some(_) => Err(TableError::At(TableFault::Both)),
-            None => constant(alloc, ticks),
-        },
-        None => match value_at(keys, DeployKey::Latencies) {
-            Some(table) => array::<LatencyDraft>(alloc, table, DeployKey::Latencies),
-            None => Err(TableError::At(TableFault::Missing(DeployKey::Latency))),
-        },
+    match (
+        value_at(keys, DeployKey::Latency),
+        value_at(keys, DeployKey::Latencies),
+    ) {
+        (Some(ticks), None) => constant(alloc, ticks),
+        (None, Some(table)) => array::<LatencyDraft>(alloc, table, DeployKey::Latencies),
+        (Some(_), Some(_)) => Err(TableError::At(TableFault::Both)),
+        (None, None) => Err(TableError::At(TableFault::Missing(DeployKey::Latency))),
     }
 }
 
@@ -282,16 +281,6 @@ fn tables<T: Entry>(alloc: Global, value: &Value, key: DeployKey) -> Result<Item
     }
 }
 
-/// The resources of a document.
-fn resources_at(alloc: Global, keys: &Table) -> Result<Items<ResourceEntry>, DeployFault>
-    ensures { AnswersInDocument (λ t. t) (spec.resources_in (places.value_at (table_view keys.now) DeployKey.Resource)) result }
-{
-    match value_at(keys, DeployKey::Resource) {
-        Some(resources) => tables::<ResourceEntry>(alloc, resources, DeployKey::Resource),
-        None => Err(at_top(TableFault::Missing(DeployKey::Resource))),
-    }
-}
-
 /// The links of a document, if any.
 fn links_at(alloc: Global, keys: &Table) -> Result<Items<LinkDraft>, DeployFault>
     ensures { AnswersInDocument (λ t. t) (spec.links_in (places.value_at (table_view keys.now) DeployKey.Link)) result }
@@ -313,12 +302,14 @@ fn known_keys(keys: &Table) -> usize
 }
 
 /// The resources and links of a document.
-#[tactic(auto, unfolding(crate::specs::Documents::draft))]
 pub fn draft_of(alloc: Global, keys: &Table) -> Result<PlanDraft, DeployFault>
     ensures value { AnswersInDocument (λ d. d) (spec.draft (table_view keys.now)) result }
     ensures some { IfOk result (λ d. 1 ≤ length d.resources) }
 {
-    let resources = resources_at(alloc, keys)?;
+    let Some(resources) = value_at(keys, DeployKey::Resource) else {
+        return Err(at_top(TableFault::Missing(DeployKey::Resource)));
+    };
+    let resources = tables::<ResourceEntry>(alloc, resources, DeployKey::Resource)?;
     let links = links_at(alloc, keys)?;
     if count_of(keys) != known_keys(keys) {
         return Err(at_top(TableFault::Further));
