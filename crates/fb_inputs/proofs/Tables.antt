@@ -2,7 +2,7 @@
 use Rattle.std.proofs.Common.{◌≡◌, ◌==◌, ℕ, zero, suc, ◌+◌, ◌^◌, ◌<◌, ◌≤◌, nat_le, nat_lt, ℤ, pos, negsuc, unsigned_abs, Bool, true, false, cond, ltb, List, [], ◌∷◌, ◌++◌, map, length, get_or, Option, Some, None, Ok, refl, sym, ap, ◌∙◌, append_assoc, append-nil, subst, Contains, arith}
 use Rattle.std.specs.List.{All, slice_get}
 use Rattle.std.specs.List.Sorted.{IsStrictlyIncreasing}
-use Rattle.std.proofs.lemmas.Bool.{and_parts, false≢true, true≢false, leb-true, ltb-true, ltb-false, eqb-true}
+use Rattle.std.proofs.lemmas.Bool.{and_parts, false≢true, true≢false, le-ltb, leb-true, lt-ltb, ltb-true, ltb-false, eqb-true}
 use Rattle.std.specs.Prelude.{Result, option_map}
 use Rattle.std.proofs.lemmas.List.{length-map}
 use Rattle.std.proofs.lemmas.List.Elements.{All-nil, All-cons, All-contains}
@@ -205,3 +205,18 @@ none_of_three None None c h = (refl, refl, h)
 
 pub no_fault : (n : ℕ) (ds : List LinkDraft) → fault_in n ds ≡ None → (among_links latency_of_link 0 ds ≡ None) × (among_links start_of_link 0 ds ≡ None) × (excess n ds ≡ None)
 no_fault n ds h = none_of_three (among_links latency_of_link 0 ds) (among_links start_of_link 0 ds) (excess n ds) h
+
+-- ---- The counts, where no table is at fault
+
+module _ (n : ℕ) (ds : List LinkDraft) where
+  pub counts_last : (o : Option DeployLocation) → None ≡ among_links latency_of_link 0 ds → None ≡ among_links start_of_link 0 ds → o ≡ excess n ds → o ≡ fault_in n ds
+  counts_last o latencies starts is = is ∙ (λ i. either (latencies i) (either (starts i) (excess n ds)))
+
+  pub many_resources : 256 < n → Some location.Resources ≡ excess n ds
+  many_resources more = rw (lt-ltb 256 n more) refl
+
+  pub many_links : n ≤ 256 → 1024 < length ds → Some location.Links ≡ excess n ds
+  many_links few more = rw (le-ltb 256 n few, lt-ltb 1024 (length ds) more) refl
+
+  pub within_counts : n ≤ 256 → length ds ≤ 1024 → among_links entries_of_link 0 ds ≡ excess n ds
+  within_counts few few_links = rw (le-ltb 256 n few, le-ltb 1024 (length ds) few_links) refl

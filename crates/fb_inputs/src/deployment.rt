@@ -16,19 +16,6 @@ use fb_types::{Deploy, MOST_BYTES, MOST_LINKS, MOST_RESOURCES, Plan};
 use std::alloc::{AllocError, Global};
 use toml::Table;
 
-/// Where there are too many resources, links or entries of a link.
-fn excess(resources: usize, links: &[LinkDraft]) -> Option<DeployLocation>
-    ensures { result ≡ spec.excess resources links.now }
-{
-    if resources > MOST_RESOURCES {
-        return Some(DeployLocation::Resources);
-    }
-    if links.len() > MOST_LINKS {
-        return Some(DeployLocation::Links);
-    }
-    fault_among(TableTest::Entries, links)
-}
-
 /// Where the numbers of a deployment are refused.
 fn fault_in(resources: usize, links: &[LinkDraft]) -> Option<DeployLocation>
     ensures { result ≡ spec.fault_in resources links.now }
@@ -39,7 +26,13 @@ fn fault_in(resources: usize, links: &[LinkDraft]) -> Option<DeployLocation>
     if let Some(location) = fault_among(TableTest::Starts, links) {
         return Some(location);
     }
-    excess(resources, links)
+    if resources > MOST_RESOURCES {
+        return Some(DeployLocation::Resources);
+    }
+    if links.len() > MOST_LINKS {
+        return Some(DeployLocation::Links);
+    }
+    fault_among(TableTest::Entries, links)
 }
 
 /// The deployment, if its numbers are within their limits.

@@ -1,6 +1,6 @@
 //! Tables of latencies.
 
-ghost use Rattle.std.specs.Prelude.{◌≡◌, ◌==◌, length, map, false, true, None, IfOk, unsigned_abs};
+ghost use Rattle.std.specs.Prelude.{◌≡◌, map, None, IfOk, unsigned_abs};
 ghost use Rattle.fb_inputs.specs.Deployments as spec;
 
 use crate::deploy_location::DeployLocation;
@@ -71,28 +71,6 @@ fn wrong_start(table: &[LatencyDraft]) -> Option<usize>
     None
 }
 
-/// Where the ticks of a link do not begin at 0 or do not rise.
-fn start_of_link(link: usize, draft: &LinkDraft) -> Option<DeployLocation>
-    ensures { result ≡ spec.start_of_link link draft.now }
-{
-    if draft.table.len() == 0 {
-        return Some(DeployLocation::NoEntry { link });
-    }
-    let entry = wrong_start(draft.table.as_slice())?;
-    Some(DeployLocation::Entry { link, entry })
-}
-
-/// Where a link has too many entries.
-fn entries_of_link(link: usize, draft: &LinkDraft) -> Option<DeployLocation>
-    ensures { result ≡ spec.entries_of_link link draft.now }
-{
-    if draft.table.len() <= MOST_ENTRIES {
-        None
-    } else {
-        Some(DeployLocation::Entries { link })
-    }
-}
-
 /// What the table of a link is tested for.
 #[derive(Clone, Copy)]
 pub(crate) enum TableTest {
@@ -113,8 +91,20 @@ fn fault_of_link(test: TableTest, link: usize, draft: &LinkDraft) -> Option<Depl
             let entry = wrong_latency(draft.table.as_slice())?;
             Some(DeployLocation::Latency { link, entry })
         }
-        TableTest::Starts => start_of_link(link, draft),
-        TableTest::Entries => entries_of_link(link, draft),
+        TableTest::Starts => {
+            if draft.table.len() == 0 {
+                return Some(DeployLocation::NoEntry { link });
+            }
+            let entry = wrong_start(draft.table.as_slice())?;
+            Some(DeployLocation::Entry { link, entry })
+        }
+        TableTest::Entries => {
+            if draft.table.len() <= MOST_ENTRIES {
+                None
+            } else {
+                Some(DeployLocation::Entries { link })
+            }
+        }
     }
 }
 
@@ -149,18 +139,6 @@ fn entries_of(alloc: Global, table: &[LatencyDraft]) -> Result<Items<Entry>, All
     Ok(Items::from_vec(entries))
 }
 
-/// The latency of a table that was checked.
-fn latency_of(alloc: Global, table: &[LatencyDraft]) -> Result<Latency, AllocError>
-    requires latencies { spec.first_failing spec.has_latency 0 table.now ≡ None }
-    requires some { (length table.now == 0) ≡ false }
-    requires rising { spec.out_of_order None 0 table.now ≡ None }
-    requires short { spec.is_short table.now ≡ true }
-    ensures { IfOk result (λ l. l ≡ map spec.entry table.now) }
-{
-    let entries = entries_of(alloc, table)?;
-    Ok(Latency::new(entries))
-}
-
 /// The links whose tables were checked.
 pub(crate) fn links_of(alloc: Global, drafts: Items<LinkDraft>) -> Result<Items<Link>, AllocError>
     requires latencies { spec.among_links spec.latency_of_link 0 drafts ≡ None }
@@ -171,7 +149,8 @@ pub(crate) fn links_of(alloc: Global, drafts: Items<LinkDraft>) -> Result<Items<
     let mut found = Items::new(alloc);
     for draft in drafts.into_vec() {
         let LinkDraft { start, end, table } = draft;
-        let latency = latency_of(alloc, table.as_slice())?;
+        let entries = entries_of(alloc, table.as_slice())?;
+        let latency = Latency::new(entries);
         found.push(Link {
             from: start,
             to: end,

@@ -1,6 +1,7 @@
 use Rattle.std.proofs.Common.{Option, sym, ap, ◌∙◌}
 use Rattle.fb_inputs.specs.declared.deploy_location.DeployLocation.{DeployLocation}
 use Rattle.fb_inputs.specs.Deployments.{among_links, either, excess, start_of_link}
+use Rattle.fb_inputs.proofs.Tables.{counts_last, many_links, many_resources, within_counts}
 use Rattle.fb_inputs.proofs.deployment.fault_in.Goals as goal
 
 pub returns-in-Some : goal.returns-in-Some
@@ -13,8 +14,17 @@ returns-in-Some-fault_among c =
     λ i. either ((sym c.in_default.is ∙ c.fault_among.ensures) i)
     (either ((sym c.in-Some-fault_among.is ∙ c.fault_among-2.ensures) i) (excess c.args.resources c.args.links.now))
 
+pub returns-then-resources-gt-MOST_RESOURCES : goal.returns-then-resources-gt-MOST_RESOURCES
+returns-then-resources-gt-MOST_RESOURCES c =
+    counts_last c.args.resources c.args.links.now _ (sym c.in_default.is ∙ c.fault_among.ensures) (sym c.in_default-fault_among.is ∙ c.fault_among-2.ensures)
+    (many_resources c.args.resources c.args.links.now c.if-resources-gt-MOST_RESOURCES.true)
+
+pub returns-then-links-gt-MOST_LINKS : goal.returns-then-links-gt-MOST_LINKS
+returns-then-links-gt-MOST_LINKS c =
+    counts_last c.args.resources c.args.links.now _ (sym c.in_default.is ∙ c.fault_among.ensures) (sym c.in_default-fault_among.is ∙ c.fault_among-2.ensures)
+    (many_links c.args.resources c.args.links.now c.if-resources-gt-MOST_RESOURCES.false c.if-links-gt-MOST_LINKS.true)
+
 pub returns : goal.returns
 returns c =
-    c.excess.ensures
-    ∙ (λ i. either ((sym c.in_default.is ∙ c.fault_among.ensures) i)
-    (either ((sym c.in_default-fault_among.is ∙ c.fault_among-2.ensures) i) (excess c.args.resources c.args.links.now)))
+    counts_last c.args.resources c.args.links.now c.fault_among-3.result (sym c.in_default.is ∙ c.fault_among.ensures) (sym c.in_default-fault_among.is ∙ c.fault_among-2.ensures)
+    (c.fault_among-3.ensures ∙ within_counts c.args.resources c.args.links.now c.if-resources-gt-MOST_RESOURCES.false c.if-links-gt-MOST_LINKS.false)
