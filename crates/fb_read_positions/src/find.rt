@@ -9,12 +9,11 @@ ghost use Rattle.fb_read.specs.Refusals.{IsNext};
 ghost use Rattle.fb_read.specs.Tokens.{after_mark};
 ghost use Rattle.fb_read.specs.Whole.{most_bytes};
 ghost use Rattle.fb_read_positions.specs.Places.{IsAt, IsNamed};
-ghost use Rattle.fb_read_positions.specs.Resumed.{IsReached, IsStop};
-ghost use Rattle.fb_read_positions.specs.Walks.{to_position};
+ghost use Rattle.fb_read_positions.specs.Resumed.{IsReached};
 
 use crate::names::name_at;
 use crate::position::Position;
-use crate::resume::{Reached, Stop, beginning, reach};
+use crate::resume::{Reached, beginning, reach};
 use fb_read::front::front;
 use fb_read::read::span_before;
 use fb_read::token::{Located, Span, Token};
@@ -84,27 +83,6 @@ pub(crate) struct Found {
     pub reached: Reached,
 }
 
-/// The bytes at a stop, if the token there is the name that the library has at the position.
-fn span_at_stop(
-    alloc: Global,
-    text: &[u8],
-    tokens: &[Located],
-    library: &Library,
-    position: Position,
-    stop: Stop,
-) -> Result<Option<Span>, AllocError>
-    requires located { AreLocated text.now tokens.now (after_mark text.now) }
-    requires stop { IsStop tokens.now (to_position position) stop }
-    ensures { IfOk result (λ o. IfSome o (IsAt text.now library.now position)) }
-{
-    let span = span_before(alloc, text, tokens, stop.left)?;
-    if is_named(alloc, text, span, name_at(position, library))? {
-        Ok(Some(span))
-    } else {
-        Ok(None)
-    }
-}
-
 /// The bytes of the token at a position of a declaration, from the tokens of the text that declares this library, and
 /// from where they were read before. Positions that follow the order of the block types are found by one walk.
 ///
@@ -131,11 +109,19 @@ pub(crate) fn span_from(
             reached,
         });
     };
-    let span = span_at_stop(alloc, text, tokens, library, position, stop)?;
-    Ok(Found {
-        span,
-        reached: stop.reached,
-    })
+    let reached = stop.reached;
+    let span = span_before(alloc, text, tokens, stop.left)?;
+    if is_named(alloc, text, span, name_at(position, library))? {
+        Ok(Found {
+            span: Some(span),
+            reached,
+        })
+    } else {
+        Ok(Found {
+            span: None,
+            reached,
+        })
+    }
 }
 
 /// The bytes of the token at a position of a declaration, in the text that declares this library. `None` if there is no
