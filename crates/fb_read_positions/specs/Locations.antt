@@ -1,14 +1,11 @@
 -- Locations in a text, with their lines and columns (this project's own).
-use Rattle.std.specs.Prelude.{◌≡◌, ◌≤◌, ℕ, List, Option, Some, None, IfSome, ◌+◌, ◌==◌, not, length, take, count_by}
+use Rattle.std.specs.Prelude.{◌≡◌, ◌≤◌, ℕ, Option, Some, None, IfSome, ◌+◌, ◌==◌, not, length, take, count_by}
 use Rattle.std.specs.List.{suffix_len}
 use Rattle.fb_read.specs.Blank.{Text}
 use Rattle.fb_read.specs.Tokens.{after_mark}
-use Rattle.fb_read.specs.declared.token.Located.{Located}
 use Rattle.fb_read.specs.declared.token.Span.{Span}
 use Rattle.fb_types.specs.declared.library.Library.{Library}
 use Rattle.fb_read_positions.specs.Places.{IsAt}
-use Rattle.fb_read_positions.specs.Resumed.{IsReached}
-use Rattle.fb_read_positions.specs.declared.place.FoundPlace.{FoundPlace}
 use Rattle.fb_read_positions.specs.declared.position.Position.{Position}
 use Rattle.fb_read_positions.specs.declared.text_locations.Counted.{Counted}
 use Rattle.fb_read_positions.specs.declared.text_locations.TextLocation.{TextLocation}
@@ -57,8 +54,3 @@ pub record IsPlaceAt (text : Text) (library : Library) (position : Position) (pl
 abbrev pub IsPlaceFor : Text → Library → Option Position → Option TextLocation → Type 0
 IsPlaceFor text library None place = place ≡ None
 IsPlaceFor text library (Some position) place = IfSome place (IsPlaceAt text library position)
-
--- A place in the text, if there is one, and how far the tokens were read for it.
-pub record IsFound (text : Text) (tokens : List Located) (f : FoundPlace) : Type 0 where
-  pub place : IfSome f.place (IsLocation text)
-  pub reached : IsReached tokens f.reached

@@ -1,27 +1,38 @@
-use Rattle.std.proofs.Common.{List, Option, subst, arith}
+use Rattle.std.proofs.Common.{List, Option, Some, None, subst, refl, sym, ◌∙◌, arith}
 use Rattle.std.specs.List.{AllZip}
 use Rattle.std.proofs.lemmas.List.{take_all}
 use Rattle.fb_check_names.proofs.Repeating.{same_within}
 use Rattle.fb_read_positions.specs.Locations.{IsPlaceFor}
 use Rattle.fb_read_positions.specs.declared.position.Position.{Position}
-use Rattle.fb_read_positions.proofs.Placed.{one_placed}
+use Rattle.fb_read_positions.proofs.Placed.{found_at, one_placed}
 use Rattle.fb_read_positions.proofs.place.places_among.Goals as goal
 
-pub push_reserved-requires : goal.push_reserved-requires
-push_reserved-requires c =
-    let inv = c.loop-position.invariant in
-    let within = c.loop-position-test.true in
-    omega (arith, inv.len, inv.room, within)
+pub loop-position-preserved-in_default : goal.loop-position-preserved-in_default
+loop-position-preserved-in_default c =
+    let l = c.loop-position in
+    let inv = l.invariant in
+    let one = c.push_reserved.ensures in
+    let here = sym c.in_default.is ∙ same_within c.args.positions.now l.position-index _ None c.loop-position-test.true in
+    record {
+      placed = one_placed c.args.declaration.now c.args.library.now c.args.positions.now l.position-index l.places.items c.push_reserved.new.self.items None None c.loop-position-test.true here one.items inv.placed refl;
+      earlier = inv.earlier;
+      reached = inv.reached;
+      len = omega (arith, inv.len, one.len);
+      room = omega (arith, inv.room, one.capacity);
+    }
 
 pub loop-position-preserved : goal.loop-position-preserved
 loop-position-preserved c =
     let l = c.loop-position in
     let inv = l.invariant in
-    let one = c.push_reserved.ensures in
+    let one = c.push_reserved-in-loop-position.ensures in
+    let p = c.in-Some.position in
+    let here = sym c.in-Some.is ∙ same_within c.args.positions.now l.position-index _ (Some p) c.loop-position-test.true in
+    let place = c.place_of-earlier.ensures p c.args.library.now c.in_ok-found.ensures.found in
     record {
-      placed = one_placed c.args.declaration.now c.args.library.now c.args.positions.now l.position-index l.places.items c.push_reserved.new.self.items _ c.in_ok-found.found.place c.loop-position-test.true
-          (same_within c.args.positions.now l.position-index _ _ c.loop-position-test.true) one.items inv.placed c.in_ok-found.ensures.place;
-      found = c.in_ok-found.ensures.found;
+      placed = one_placed c.args.declaration.now c.args.library.now c.args.positions.now l.position-index l.places.items c.push_reserved-in-loop-position.new.self.items (Some p) c.place_of-earlier.result c.loop-position-test.true here one.items inv.placed place;
+      earlier = found_at c.args.declaration.now c.args.library.now p c.place_of-earlier.result place;
+      reached = c.in_ok-found.ensures.reached;
       len = omega (arith, inv.len, one.len);
       room = omega (arith, inv.room, one.capacity);
     }
