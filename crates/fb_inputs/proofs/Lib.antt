@@ -16,5 +16,6 @@ pub mod DeployLaws
 pub mod ReadOn
 pub mod Nearest
 pub mod Keywords
+pub mod Digits
 pub mod Drafts
 pub mod Limited

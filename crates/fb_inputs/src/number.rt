@@ -9,7 +9,6 @@ use fb_types::Value;
 const MOST_BELOW: u128 = 170_141_183_460_469_231_731_687_303_715_884_105_728;
 
 /// The number of decimal digits, or one more than the greatest number if it is greater.
-#[tactic(auto, unfolding(crate::specs::Numbers::natural))]
 pub fn natural(text: &[u8], most: u128) -> Option<u128>
     requires low { 9 ≤ most }
     requires high { most < 2 ^ 128 - 1 }
