@@ -1,6 +1,7 @@
 -- The numbers of the refusals, one after another.
 use Rattle.std.proofs.Common.{◌≡◌, ◌≢◌, ℕ, ◌+◌, ◌<◌, ◌≤◌, Bool, true, false, nat_eq, List, [], Result, Ok, Err, length, refl, sym, ap, ◌∙◌, subst, inl, inr, ⊎_elim, arith}
 use Rattle.std.specs.Prelude.{◌↔◌, IfErr, IfOk, IsTrue}
+use Rattle.std.specs.Result.{IsErrAnd}
 use Rattle.std.proofs.lemmas.Bool.{cases_lt, eqb-true, true≢false}
 use Rattle.std.proofs.lemmas.List.{nil_from_length}
 use Rattle.fb_types.specs.Accepted.{Applies, IsLeastFault, IsAccepted, BadStimulus, OverLimit}
@@ -63,6 +64,13 @@ pub stopped_so :
     → IfErr r (λ s. (s ≡ Refused refusal) × (b ≡ false)) → IfErr r (IsStop i)
 stopped_so {T} (Ok x) i refusal b says h = tt
 stopped_so {T} (Err s) i refusal b says h = subst (λ (s : Stop). IsStop i s) (sym h.0) (says h.1)
+
+-- the same, if the stop is passed on
+pub passed_on :
+    {T : Type 0} (r : Result T Stop) (e : Stop) (i : Inputs) (refusal : Refusal) (b : Bool) → (b ≡ false → IsRefusal i refusal)
+    → IsErrAnd r (λ s. s ≡ e) → (e ≡ Refused refusal) × (b ≡ false) → IfErr r (IsStop i)
+passed_on {T} (Ok x) e i refusal b says is h = absurd is
+passed_on {T} (Err s) e i refusal b says is h = subst (λ (s : Stop). IsStop i s) (sym (is ∙ h.0)) (says h.1)
 
 pub first : (lib : Library) (plan : Plan) (stimuli : List Stimulus) → Passes 20 lib plan stimuli
 first lib plan stimuli n h a = applies_cases n lib plan stimuli a

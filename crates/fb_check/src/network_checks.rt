@@ -43,18 +43,7 @@ fn judge_ranges(alloc: Global, case: &Case, resolved: &Resolved) -> Result<(), S
     passed(is_right, Refusal::OutOfRange(found), ())
 }
 
-/// E24: one source for each port.
-fn judge_sources(alloc: Global, case: &Case) -> Result<(), Stop>
-    requires passed { HasPassed 24 case.now }
-    ensures ok { IfOk result (λ _. HasPassed 25 case.now) }
-    ensures refused { IfErr result (IsStop (inputs_in case.now)) }
-{
-    let found = joined_locations(alloc, case.library)?;
-    let is_right = found.is_empty();
-    passed(is_right, Refusal::TwoSources(found), ())
-}
-
-/// The checks from E22 to E24, and E25: composites of a height up to 16.
+/// The checks from E22 to E25: those above, one source for each port, and composites of a height up to 16.
 pub fn judge_networks(
     alloc: Global,
     case: &Case,
@@ -68,7 +57,9 @@ pub fn judge_networks(
 {
     judge_kinds(alloc, case, catalog, resolved)?;
     judge_ranges(alloc, case, resolved)?;
-    judge_sources(alloc, case)?;
+    let joined = joined_locations(alloc, case.library)?;
+    let are_single = joined.is_empty();
+    passed(are_single, Refusal::TwoSources(joined), ())?;
     match too_high_location(alloc, resolved)? {
         Some(location) => Err(Stop::Refused(Refusal::TooHigh(location))),
         None => Ok(()),
