@@ -2,8 +2,7 @@
 
 ghost use Rattle.std.specs.Prelude.{◌≡◌, IfOk, IfErr};
 ghost use Rattle.fb_types.specs.Headline.{AreAccepted, inputs};
-ghost use Rattle.fb_system.specs.Systems.{IsGiven};
-ghost use Rattle.fb_check.specs.Refusals.{IsRightly, inputs_in};
+ghost use Rattle.fb_check.specs.Refusals.{IsRightly};
 
 use crate::case::{Case, Judged};
 use crate::error::CheckError;
@@ -11,27 +10,6 @@ use crate::judgement::judged;
 use fb_system::{Given, System, interfaces_of};
 use fb_types::{Deploy, Library, Stimulus};
 use std::alloc::Global;
-
-/// Inputs by number, if they are accepted.
-fn elaborate(alloc: Global, case: &Case) -> Result<Given, CheckError>
-    ensures accepted { IfOk result (λ _. AreAccepted (inputs_in case.now)) }
-    ensures given { IfOk result (IsGiven (inputs_in case.now)) }
-    ensures refused { IfErr result (IsRightly (inputs_in case.now)) }
-{
-    let Judged {
-        catalog,
-        numbers,
-        holders,
-        rows,
-    } = judged(alloc, case)?;
-    let interfaces = interfaces_of(alloc, case.library, &catalog)?;
-    Ok(Given {
-        numbers,
-        holders,
-        interfaces,
-        rows,
-    })
-}
 
 /// The system of a declaration, a deployment and stimuli.
 ///
@@ -73,7 +51,20 @@ pub fn accept(
         plan: deploy.plan(),
         stimuli: stimuli.as_slice(),
     };
-    let given = elaborate(alloc, &case)?;
+    let Judged {
+        catalog,
+        numbers,
+        holders,
+        rows,
+    } = judged(alloc, &case)?;
+    let interfaces = interfaces_of(alloc, &library, &catalog)?;
+    drop(catalog);
+    let given = Given {
+        numbers,
+        holders,
+        interfaces,
+        rows,
+    };
     let system = System::of(alloc, library, deploy, stimuli, given)?;
     Ok(system)
 }
