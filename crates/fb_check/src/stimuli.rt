@@ -1,12 +1,11 @@
 //! The stimuli by number, if the application can take them (E29).
 
-ghost use Rattle.std.specs.Prelude.{◌≡◌, ◌↔◌, ◌++◌, [], All, map, IfOk, IsTrue};
+ghost use Rattle.std.specs.Prelude.{◌≡◌, ◌↔◌, [], All, IfOk, IsTrue};
 ghost use Rattle.fb_types.specs.Accepted.{set_names};
 ghost use Rattle.fb_types.specs.Repeated.{Twice};
 ghost use Rattle.fb_types.specs.Unknown.{NameUnknown};
 ghost use Rattle.fb_types.specs.declared.deploy.Plan.{Plan};
 ghost use Rattle.fb_check_names.specs.Catalog.{IsCatalog};
-ghost use Rattle.fb_check_names.specs.Indexes.{names_in};
 ghost use Rattle.fb_check.specs.Directory.{IsDirectory, AreTaken, held_slot, input_in, slot_of};
 ghost use Rattle.fb_check.specs.Stimuli.{AreAllBad, AreSlotsOr, IsAdded, IsBadAt, IsRowOr};
 
@@ -14,28 +13,16 @@ use crate::directory::{Directory, inputs_at};
 use crate::directory_making::{TypeInputs, inputs_of_each, targets_of};
 use crate::location::{StimulusFault, StimulusLocation};
 use crate::types::there::push_one;
-use fb_check_names::{Catalog, index_of_name, indexes_of};
+use fb_check_names::{Catalog, index_of_name, indexes};
 use fb_system::{SlotValue, StimulusRow};
 use fb_types::{Items, Library, Name, Setting, Stimulus, Value, all_ports};
 use std::alloc::{AllocError, Global};
-
-/// Adds the names of the variables that are set.
-fn push_names<'a>(names: &mut Vec<&'a Name>, settings: &'a [Setting]) -> Result<(), AllocError>
-    ensures { IfOk result (λ _. names_in names.new.items ≡ names_in names.old.items ++ map (λ x. x.variable) settings.now) }
-{
-    for setting in settings {
-        names.push(&setting.variable)?;
-    }
-    Ok(())
-}
 
 /// Whether a stimulus sets a variable twice.
 fn has_setting_twice(alloc: Global, stimulus: &Stimulus) -> Result<bool, AllocError>
     ensures { IfOk result (λ b. IsTrue b ↔ Twice (set_names stimulus.now)) }
 {
-    let mut names = Vec::new(alloc);
-    push_names(&mut names, stimulus.settings.as_slice())?;
-    Ok(indexes_of(alloc, names.as_slice())?.is_none())
+    Ok(indexes(alloc, stimulus.settings.as_slice())?.is_none())
 }
 
 /// The slot of a data input with its value, if the type contains the value.

@@ -6,7 +6,8 @@ ghost use Rattle.fb_types.specs.Repeated.{Twice};
 
 use crate::placing::{Indexes, indexes_of};
 use fb_types::{
-    Algorithm, BlockType, EventPort, Instance, Name, Parameter, ResourceEntry, State, Variable,
+    Algorithm, BlockType, EventPort, Instance, Name, Parameter, ResourceEntry, Setting, State,
+    Variable,
 };
 use std::alloc::{AllocError, Global};
 
@@ -74,6 +75,14 @@ impl Named for Parameter {
 
     fn name(&self) -> &Name {
         &self.name
+    }
+}
+
+impl Named for Setting {
+    ghost called = { λ s. s.variable };
+
+    fn name(&self) -> &Name {
+        &self.variable
     }
 }
 
