@@ -104,7 +104,7 @@ fn shown_of(alloc: Global, system: &System, only: &[Name]) -> Result<Vec<bool>, 
     Ok(shown)
 }
 
-/// No steps were made in any of so many resources.
+/// That none of this many resources has used steps yet.
 fn steps_of(alloc: Global, resources: usize) -> Result<Vec<TickSteps>, AllocError>
     ensures { IfOk result (λ all. AreUnused resources all.items) }
 {
