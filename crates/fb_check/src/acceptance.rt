@@ -20,7 +20,7 @@ use std::alloc::Global;
 ///
 /// # Example
 ///
-/// The test `an_application_is_accepted` of `fb_parts_tests`:
+/// The test `an_application_is_accepted` of `fb_tests`:
 ///
 /// ```
 /// let declaration = b"APPLICATION A\n\

@@ -117,7 +117,7 @@ impl Tree {
     ///
     /// # Example
     ///
-    /// The test `a_tree_takes_a_timer` of `fb_parts_tests`, whose function `built` gives the blocks of a resource:
+    /// The test `a_tree_takes_a_timer` of `fb_tests`, whose function `built` gives the blocks of a resource:
     ///
     /// ```
     /// let declaration = "APPLICATION A FBS S : E_RESTART; END_FBS END_APPLICATION";

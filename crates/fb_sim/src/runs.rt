@@ -153,7 +153,7 @@ fn run_workers<R: Threads + Wait + Sync, W: Write, P: Gate, C: Clock + CpuClock>
 ///
 /// # Example
 ///
-/// The test `a_cycle_runs_for_eight_ticks` of `fb_sim_tests`:
+/// The test `a_cycle_runs_for_eight_ticks` of `fb_tests`:
 ///
 /// ```
 /// let inputs = Inputs {

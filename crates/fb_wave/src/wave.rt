@@ -28,7 +28,7 @@ use std::io::{BufRead, Write};
 ///
 /// # Example
 ///
-/// The test `a_trace_is_shown_as_waves` of `fb_parts_tests`:
+/// The test `a_trace_is_shown_as_waves` of `fb_tests`:
 ///
 /// ```
 /// let declaration = "APPLICATION A FBS S : E_RESTART; END_FBS END_APPLICATION";

@@ -72,7 +72,7 @@ impl Resource {
     ///
     /// # Example
     ///
-    /// The test `a_resource_runs_below_a_tick` of `fb_parts_tests`:
+    /// The test `a_resource_runs_below_a_tick` of `fb_tests`:
     ///
     /// ```
     /// let declaration = "APPLICATION A\n\

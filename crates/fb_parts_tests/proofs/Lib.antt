@@ -1,3 +1,0 @@
-mod Again
-mod Handed
-mod Unheard

@@ -1,7 +1,0 @@
-use Rattle.std.proofs.Common.{All, take}
-use Rattle.fb_types.specs.Headline.{system_of}
-use Rattle.fb_system.specs.Lines.{BelongsTo}
-use Rattle.fb_parts_tests.proofs.tests.belonging.all_belong.Given as goal
-
-abbrev pub invariant-loop-line : goal.invariant-loop-line
-invariant-loop-line l = All (BelongsTo (system_of l.system)) (take l.line-index l.lines)

@@ -1,2 +1,0 @@
-mod Coming
-mod Zips

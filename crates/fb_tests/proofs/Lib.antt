@@ -1,0 +1,5 @@
+mod Again
+mod Coming
+mod Handed
+mod Unheard
+mod Zips

@@ -1,0 +1,12 @@
+use Rattle.std.proofs.Common.{[]}
+use Rattle.fb_sim.proofs.WindowIs.{walk_keeps}
+use Rattle.fb_tests.proofs.tests.jobs.expect_texts.Goals as goal
+
+pub first_round-finals-requires-clause-system : goal.first_round-finals-requires-clause-system
+first_round-finals-requires-clause-system g c = (c.opened-core.ensures c.args.run.now.horizon).of.inputs
+
+pub first_round-finals-requires-clause-clocks : goal.first_round-finals-requires-clause-clocks
+first_round-finals-requires-clause-clocks g c =
+    let run = c.args.run.now in
+    walk_keeps c.system_of-system.result run.steps run.horizon c.opened-core.result [] (c.opened-core.ensures run.horizon)
+    (record { accepted = c.facts.ensures.accepted; limits = c.facts.ensures.limits })

@@ -1,0 +1,7 @@
+use Rattle.std.proofs.Common.{All, take}
+use Rattle.fb_types.specs.Headline.{system_of}
+use Rattle.fb_system.specs.Lines.{BelongsTo}
+use Rattle.fb_tests.proofs.tests.parts.belonging.all_belong.Given as goal
+
+abbrev pub invariant-loop-line : goal.invariant-loop-line
+invariant-loop-line l = All (BelongsTo (system_of l.system)) (take l.line-index l.lines)
