@@ -14,8 +14,8 @@ the traces of TRACED. Without ./gate and without words it uses the program that 
 memory is 101 if it answers that as a failure, or if it ends itself and says so (GAVE_UP), which an assertion that fails does not.
 ./gate runs this for the tests in TESTS, for single calls; by hand:
 
-    (cd crates/fb_parts_tests && ../../tools/rt test)
-    tools/refuse.py --memory 101 crates/fb_parts_tests/out/fb_parts_tests_tests tests::messages::messages_come_after_out_of_memory
+    (cd crates/fb_tests && ../../tools/rt test)
+    tools/refuse.py --memory 101 crates/fb_tests/out/fb_tests_tests tests::parts::messages::messages_come_after_out_of_memory
 
 (The kit's `rt try --fail-alloc N` does the same for one N, with an unproved program that it builds again each time.)"""
 
@@ -39,8 +39,8 @@ GAVE_UP = re.compile(rb"(memory|written|no (library|deployment|stimuli|system))\
 STOPPED = re.compile(rb"\ntest stopped at \S+\n")
 # The tests that are written for this, by their crates: each checks what the calls after one that ran out of memory do.
 TESTS = {
-    "fb_parts_tests": ["tests::messages::messages_come_after_out_of_memory"],
-    "fb_sim_tests": [
+    "fb_tests": [
+        "tests::parts::messages::messages_come_after_out_of_memory",
         *(f"tests::advances::{it}_of_{by}_fails_for_good" for it in ("a_cycle", "an_arrival", "a_stop") for by in ("one_worker", "two_workers")),
         *(f"tests::rounds::rounds_of_{it}_write_what_has_become_final" for it in ("one_worker", "two_workers", "64_workers")),
     ],
