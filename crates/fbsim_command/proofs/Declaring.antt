@@ -8,9 +8,9 @@ use Rattle.fbsim_command.specs.Outcomes.{End, Held}
 use Rattle.fbsim_command.specs.OwnLines.{EndsIn}
 use Rattle.fbsim_command.specs.Reading.{Reading, AreRead, IsUnread}
 use Rattle.fbsim_command.specs.Showing.{Opening}
-use Rattle.fbsim_command.specs.declared.bench_line.Expect.{Expect}
+use Rattle.fbsim_line.specs.declared.bench_line.Expect.{Expect}
 use Rattle.fbsim_command.specs.declared.failure.Failure.{Failure}
-use Rattle.fbsim_command.specs.declared.line.Task.{Task}
+use Rattle.fbsim_line.specs.declared.line.Task.{Task}
 use Rattle.fbsim_command.specs.declared.sources.SourceFault.{SourceFault}
 use Rattle.fbsim_command.specs.declared.texts.Part.{Part}
 

@@ -26,7 +26,7 @@ use Rattle.fbsim_command.specs.InsideNotes.{SaysLine}
 use Rattle.fbsim_command.specs.Notes.{NotesOf}
 use Rattle.fbsim_command.specs.Outcomes.{End, Held}
 use Rattle.fbsim_command.specs.Showing.{Opening}
-use Rattle.fbsim_command.specs.declared.coverage_line.Coverage.{Coverage}
+use Rattle.fbsim_line.specs.declared.coverage_line.Coverage.{Coverage}
 use Rattle.fbsim_command.specs.declared.coverage.Gleaned.{Gleaned}
 use Rattle.fbsim_command.specs.declared.failure.Failure.{Failure}
 use Rattle.fbsim_command.specs.declared.failure.Failure.TheVariants.{Refused, RefusedTrace, File, Write, Memory, Line, BadOption}

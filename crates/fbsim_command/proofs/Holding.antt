@@ -16,7 +16,7 @@ use Rattle.fbsim_command.specs.Expecting.{AreHeld, AreRules, AreUnheld, ComesTo,
 use Rattle.fbsim_command.specs.Failures.{IsPartWritten, WritesPart, failure_of_source}
 use Rattle.fbsim_command.specs.Outcomes.{End, Held}
 use Rattle.fbsim_command.specs.Showing.{Opening}
-use Rattle.fbsim_command.specs.declared.bench_line.Expect.{Expect}
+use Rattle.fbsim_line.specs.declared.bench_line.Expect.{Expect}
 use Rattle.fbsim_command.specs.declared.failure.Failure.{Failure}
 use Rattle.fbsim_command.specs.declared.failure.Failure.TheVariants.{Refused, RefusedTrace, File, Write, Memory, Line, BadOption}
 use Rattle.fbsim_command.specs.declared.sources.SourceFault.{SourceFault}

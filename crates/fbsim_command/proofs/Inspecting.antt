@@ -25,8 +25,8 @@ use Rattle.fbsim_command.specs.OwnLines.{EndsIn}
 use Rattle.fbsim_command.specs.Reading.{Reading, AreRead, IsUnread}
 use Rattle.fbsim_command.specs.Showing.{Opening}
 use Rattle.fbsim_command.specs.declared.failure.Failure.{Failure}
-use Rattle.fbsim_command.specs.declared.inspect_line.Inspect.{Inspect}
-use Rattle.fbsim_command.specs.declared.line.Task.{Task}
+use Rattle.fbsim_line.specs.declared.inspect_line.Inspect.{Inspect}
+use Rattle.fbsim_line.specs.declared.line.Task.{Task}
 use Rattle.fbsim_command.specs.declared.sources.SourceFault.{SourceFault}
 use Rattle.fbsim_command.specs.declared.texts.Part.{Part}
 

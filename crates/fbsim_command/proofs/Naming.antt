@@ -21,7 +21,7 @@ use Rattle.fbsim_command.specs.Expecting.{AreRules, Holds, IsUnnamed, Names, Ref
 use Rattle.fbsim_command.specs.Failures.{failure_of, failure_of_rules, numbered_input}
 use Rattle.fbsim_command.specs.Outcomes.{Held, IsRefused}
 use Rattle.fbsim_command.specs.Showing.{Opening}
-use Rattle.fbsim_command.specs.declared.bench_line.Expect.{Expect}
+use Rattle.fbsim_line.specs.declared.bench_line.Expect.{Expect}
 use Rattle.fbsim_command.specs.declared.failure.Failure.{Failure}
 use Rattle.fbsim_command.specs.declared.failure.Failure.TheVariants.{Refused, RefusedTrace, File, Write, Memory, Line, BadOption}
 use Rattle.fbsim_command.specs.declared.failure.RefusalLine.TheVariants.{Numbered}

@@ -18,7 +18,7 @@ use Rattle.fbsim_command.specs.Notes.{NotesOf}
 use Rattle.fbsim_command.specs.Outcomes.{End, Held}
 use Rattle.fbsim_command.specs.Showing.{NotesAs, files_of}
 use Rattle.fbsim_command.specs.declared.failure.Failure.{Failure}
-use Rattle.fbsim_command.specs.declared.line.Wave.{Wave}
+use Rattle.fbsim_line.specs.declared.line.Wave.{Wave}
 
 -- a note of a check, or of a line
 pub noted_in :

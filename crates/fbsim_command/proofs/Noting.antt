@@ -6,7 +6,7 @@ use Rattle.std.proofs.lemmas.List.{append-nil, take_more}
 use Rattle.fb_sim.specs.Given.{Given}
 use Rattle.fbsim_command.specs.Expecting.{IsNoteAt, NotesRules, input_names_of, own_of, types_of}
 use Rattle.fbsim_command.specs.Texts.{given_of, lines_of, may_lines_of}
-use Rattle.fbsim_command.specs.declared.bench_line.Expect.{Expect}
+use Rattle.fbsim_line.specs.declared.bench_line.Expect.{Expect}
 use Rattle.fbsim_command.specs.declared.texts.Texts.{Texts}
 use Rattle.fbsim_command.specs.Notes.{AreNotesFrom, AreNotesOf, IsNote, IsNoteBy, IsNoteIn, IsNoteOfFindings, IsNoteOfNumber, Notes, number_of, on_line}
 use Rattle.fbsim_command.specs.InputNotes.{FileNames, IsNoteThere, IsNoteWith}

@@ -13,7 +13,7 @@ use Rattle.fbsim_command.specs.Comparing.{AreUnopened, Compares, Differs, IsRepo
 use Rattle.fbsim_command.specs.Failures.{WritesPart, failure_of_source, failure_of_trace}
 use Rattle.fbsim_command.specs.Outcomes.{End, Held}
 use Rattle.fbsim_command.specs.Showing.{Opening}
-use Rattle.fbsim_command.specs.declared.bench_line.Diff.{Diff}
+use Rattle.fbsim_line.specs.declared.bench_line.Diff.{Diff}
 use Rattle.fbsim_command.specs.declared.failure.Failure.{Failure}
 use Rattle.fbsim_command.specs.declared.failure.Failure.TheVariants.{Refused, RefusedTrace, File, Write, Memory, Line, BadOption}
 use Rattle.fbsim_command.specs.declared.sources.SourceFault.{SourceFault}

@@ -4,7 +4,7 @@ use Rattle.std.specs.Prelude.{IsTrue, IfErr, IfOk, OnOk, Result, Ok, Err}
 use Rattle.std.specs.Io.KnownBytes.{Appends}
 use Rattle.std.proofs.KnownBytes.{Appends-nil, Appends-trans}
 use Rattle.clap.specs.Words.{Text}
-use Rattle.fbsim_command.specs.Line.{AskHelp}
+use Rattle.fbsim_line.specs.Line.{AskHelp}
 use Rattle.fb_read.specs.declared.error.ReadError.{ReadError}
 use Rattle.fb_read.specs.declared.error.ReadError.TheVariants as read
 use Rattle.fb_check.specs.Refusals as check

@@ -18,8 +18,8 @@ use Rattle.fb_wave.specs.declared.error.WaveError.TheVariants as wave
 use Rattle.fb_wave.specs.declared.truncation.Cut.{Cut}
 use Rattle.fb_wave.specs.declared.truncation.Cut.TheVariants as cut
 use Rattle.clap.specs.Words.{Text}
-use Rattle.fbsim_command.specs.declared.line.Task.{Task}
-use Rattle.fbsim_command.specs.declared.line.Wave.{Wave}
+use Rattle.fbsim_line.specs.declared.line.Task.{Task}
+use Rattle.fbsim_line.specs.declared.line.Wave.{Wave}
 use Rattle.fbsim_command.specs.Failures.{failure_of, failure_of_source, failure_of_wave, numbered_input}
 use Rattle.fbsim_command.specs.declared.failure.Failure.{Failure}
 use Rattle.fbsim_command.specs.Outcomes.{End, Held}

@@ -19,7 +19,7 @@ use Rattle.fb_sim.specs.declared.outcome.RunError.{RunError}
 use Rattle.fb_sim.specs.Reports.{AreReports}
 use Rattle.fb_why.specs.Explained.{explained}
 use Rattle.fb_why.specs.declared.table.Explanation.{Explanation}
-use Rattle.fbsim_command.specs.Line.{AreCall, AreNoCall, AskHelp, IsTaken}
+use Rattle.fbsim_line.specs.Line.{AreCall, AreNoCall, AskHelp, IsTaken}
 use Rattle.fbsim_command.specs.Failures.{IsPartWritten, explained_text, failure_of, failure_of_source, no_refusal}
 use Rattle.fbsim_command.specs.Notes.{IsFileNote, Notes, NotesOf}
 use Rattle.fbsim_command.specs.Outcomes.{End, Held, IsRefused}
@@ -33,17 +33,17 @@ use Rattle.fbsim_command.specs.Covering.{ReportsCoverage}
 use Rattle.fbsim_command.specs.Drawing.{Draws}
 use Rattle.fbsim_command.specs.Expecting.{Expects}
 use Rattle.fbsim_command.specs.Inspecting.{ShowsInsides}
-use Rattle.fbsim_command.specs.declared.bench_line.Diff.{Diff}
-use Rattle.fbsim_command.specs.declared.bench_line.Expect.{Expect}
-use Rattle.fbsim_command.specs.declared.coverage_line.Coverage.{Coverage}
-use Rattle.fbsim_command.specs.declared.draw_line.Draw.{Draw}
-use Rattle.fbsim_command.specs.declared.inspect_line.Inspect.{Inspect}
+use Rattle.fbsim_line.specs.declared.bench_line.Diff.{Diff}
+use Rattle.fbsim_line.specs.declared.bench_line.Expect.{Expect}
+use Rattle.fbsim_line.specs.declared.coverage_line.Coverage.{Coverage}
+use Rattle.fbsim_line.specs.declared.draw_line.Draw.{Draw}
+use Rattle.fbsim_line.specs.declared.inspect_line.Inspect.{Inspect}
 use Rattle.fbsim_command.specs.declared.failure.Failure.TheVariants.{Refused, RefusedTrace, File, Write, Memory, Line, BadOption}
-use Rattle.fbsim_command.specs.declared.line.Task.{Task}
-use Rattle.fbsim_command.specs.declared.line.Action.{Action}
-use Rattle.fbsim_command.specs.declared.line.Action.TheVariants.{Check, Run}
-use Rattle.fbsim_command.specs.declared.line.Call.TheVariants as call
-use Rattle.fbsim_command.specs.declared.line.Wave.{Wave}
+use Rattle.fbsim_line.specs.declared.line.Task.{Task}
+use Rattle.fbsim_line.specs.declared.line.Action.{Action}
+use Rattle.fbsim_line.specs.declared.line.Action.TheVariants.{Check, Run}
+use Rattle.fbsim_line.specs.declared.line.Call.TheVariants as call
+use Rattle.fbsim_line.specs.declared.line.Wave.{Wave}
 use Rattle.fbsim_command.specs.declared.sources.SourceFault.{SourceFault}
 use Rattle.fbsim_command.specs.declared.statuses.Done.{Done}
 use Rattle.fbsim_command.specs.declared.statuses.Done.TheVariants.{Helped, Explained, Accepted, Shown, Ended, Stopped, Met, Unmet, Same, Different}

@@ -1,4 +1,3 @@
-pub mod Line
 pub mod Files
 pub mod Joining
 pub mod Failures

@@ -1,6 +1,6 @@
 -- What is reported after the line of a failure (this project's own).
 use Rattle.std.specs.Prelude.{◌≡◌, ◌≢◌, ℕ, List, [], ◌∷◌, ◌++◌, All, Bool, true, false, IsTrue, Option, Some, None, Ok, Err, option_map, slice_get, codes, string_bytes}
-use Rattle.fbsim_command.specs.declared.line.Task.{Task}
+use Rattle.fbsim_line.specs.declared.line.Task.{Task}
 use Rattle.fb_sim.specs.Given.{Given}
 use Rattle.fb_why.specs.InputPlaces.{IsPlaceOf}
 use Rattle.fb_why.specs.Listings.{AreFound}

@@ -6,8 +6,8 @@ use Rattle.fb_read.specs.Whole.{most_bytes}
 use Rattle.fb_inputs.specs.Stimuli as stimuli
 use Rattle.fb_sim.specs.Given.{Given}
 use Rattle.fbsim_command.specs.Joining.{line_count, text_of}
-use Rattle.fbsim_command.specs.declared.line.Action.TheVariants.{Check}
-use Rattle.fbsim_command.specs.declared.line.Task.{Task}
+use Rattle.fbsim_line.specs.declared.line.Action.TheVariants.{Check}
+use Rattle.fbsim_line.specs.declared.line.Task.{Task}
 use Rattle.fbsim_command.specs.declared.sources.SourceFault.{SourceFault}
 use Rattle.fbsim_command.specs.declared.sources.SourceFault.TheVariants as source
 use Rattle.fbsim_command.specs.declared.texts.Part.{Part}

@@ -8,8 +8,8 @@ use Rattle.fb_wave.specs.CutOff.{BlamesShown, FailsShown, IsShown}
 use Rattle.fb_wave.specs.Waves.{WritesFront}
 use Rattle.fb_wave.specs.declared.error.WaveError.TheVariants as wave
 use Rattle.fb_wave.specs.declared.truncation.Cut.{Cut}
-use Rattle.fbsim_command.specs.declared.line.Task.{Task}
-use Rattle.fbsim_command.specs.declared.line.Wave.{Wave}
+use Rattle.fbsim_line.specs.declared.line.Task.{Task}
+use Rattle.fbsim_line.specs.declared.line.Wave.{Wave}
 use Rattle.fbsim_command.specs.Failures.{failure_of_source}
 use Rattle.fbsim_command.specs.InsideNotes.{NotesInside}
 use Rattle.fbsim_command.specs.LineNotes.{NotesLine}

@@ -15,9 +15,9 @@ use Rattle.fb_read_positions.specs.Locations.{IsLocation, IsStretch}
 use Rattle.fb_read_positions.specs.declared.text_locations.TextLocation.{TextLocation}
 use Rattle.fbsim_command.specs.Outcomes.{End}
 use Rattle.fbsim_command.specs.OwnLines.{IsPlaced}
-use Rattle.fbsim_command.specs.declared.line.Action.{Action}
-use Rattle.fbsim_command.specs.declared.line.Action.TheVariants.{Check, Run}
-use Rattle.fbsim_command.specs.declared.line.Task.{Task}
+use Rattle.fbsim_line.specs.declared.line.Action.{Action}
+use Rattle.fbsim_line.specs.declared.line.Action.TheVariants.{Check, Run}
+use Rattle.fbsim_line.specs.declared.line.Task.{Task}
 use Rattle.fbsim_command.specs.declared.statuses.Done.TheVariants.{Stopped}
 
 -- The place is that of the operator of the operation at which the simulation stops.

@@ -19,7 +19,7 @@ use Rattle.fb_sim.specs.Serial.{Declares}
 use Rattle.fbsim_command.specs.Joining.{IsLineOf, name_at}
 use Rattle.fbsim_command.specs.OwnLines.{IsInNone}
 use Rattle.fbsim_command.specs.Outcomes.{End}
-use Rattle.fbsim_command.specs.declared.line.Task.{Task}
+use Rattle.fbsim_line.specs.declared.line.Task.{Task}
 use Rattle.fbsim_command.specs.declared.call_names.Naming as code
 
 -- The names that a call gives to its files, and how many lines each file of the declaration has, if there are several.

@@ -5,7 +5,6 @@ ghost use Rattle.fbsim_command.specs.declared.coverage.Gleaned.{Gleaned};
 ghost use Rattle.fbsim_command.specs.Covering as spec;
 ghost use Rattle.fbsim_command.specs.Covering.{AreGoneThrough, AreStopped, GoesThrough, IsStopped, NotesTrace, RefusesAt, ReportsCoverage, WritesReport, are_several, coverage_text, cut_line, note_front};
 
-use crate::Coverage;
 use crate::expect::refused_trace;
 use crate::failure::{Failure, RefusalLine};
 use crate::inside_notes::note_of_inside;
@@ -20,6 +19,7 @@ use fb_coverage::{Marks, report_of};
 use fb_inspect::{Covered, Extent, InspectError, RefusedLine, Terms, cover};
 use fb_sim::{Inputs, discard, open};
 use fb_system::System;
+use fbsim_line::Coverage;
 use std::alloc::{AllocError, Global};
 use std::io::Write;
 

@@ -4,7 +4,6 @@ ghost use Rattle.std.specs.Prelude.{◌≡◌, IfOk, false, map, option_map};
 ghost use Rattle.fb_types.specs.Headline.{inputs};
 ghost use Rattle.fbsim_command.specs.Drawing.{Draws, WritesGraph, graph_of};
 
-use crate::Draw;
 use crate::failure::{Failure, RefusalLine};
 use crate::output::write_text;
 use crate::own_lines::end_with;
@@ -14,6 +13,7 @@ use crate::texts::{files_of, read_files};
 use fb_inputs::name;
 use fb_sim::{Inputs, discard, open};
 use fb_system::System;
+use fbsim_line::Draw;
 use std::alloc::{AllocError, Global};
 use std::io::Write;
 

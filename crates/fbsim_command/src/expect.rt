@@ -14,13 +14,13 @@ use crate::rules_notes::{note_of_names, note_of_rules, note_to_rules};
 use crate::sources::{Source, Streams};
 use crate::statuses::Done;
 use crate::texts::{Texts, Unread, files_of, lines_in, read_files};
-use crate::{Diff, Expect};
 use fb_expect::{
     Cut, Judged, Of, Rule, TraceError, UNKNOWN_NAME, are_well, difference_text, judge, part, plan,
     put_points, read_rules,
 };
 use fb_sim::{discard, open};
 use fb_types::Items;
+use fbsim_line::{Diff, Expect};
 use std::alloc::Global;
 use std::io::{BufRead, Write};
 

@@ -5,7 +5,6 @@ ghost use Rattle.fb_inspect.specs.OfSystem.{IsShownBy, ShowsFront};
 ghost use Rattle.fbsim_command.specs.InsideNotes.{NotesInside};
 ghost use Rattle.fbsim_command.specs.Inspecting.{Inspects, ShowsInsides, cut_of, paths_of, upper};
 
-use crate::Inspect;
 use crate::failure::Failure;
 use crate::inside_notes::{note_of_gone, note_of_open};
 use crate::line_notes::note_of_wave;
@@ -18,6 +17,7 @@ use fb_inspect::{InspectError, Inspection, RefusedLine, Terms};
 use fb_sim::{Inputs, discard, open};
 use fb_system::System;
 use fb_types::Name;
+use fbsim_line::Inspect;
 use std::alloc::{AllocError, Global};
 use std::io::{BufRead, Write};
 

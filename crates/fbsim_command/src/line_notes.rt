@@ -6,7 +6,6 @@ ghost use Rattle.fbsim_command.specs.Notes.{NotesOf};
 ghost use Rattle.fbsim_command.specs.Texts.{given_of, lines_of};
 ghost use Rattle.fbsim_command.specs.OfSystem.{SaysFault};
 
-use crate::Task;
 use crate::failure::Failure;
 use crate::program::note_to;
 use crate::statuses::Done;
@@ -14,6 +13,7 @@ use crate::texts::Texts;
 use fb_inspect::{fault_of, line_message};
 use fb_system::System;
 use fb_wave::{CurrentLine, WaveError};
+use fbsim_line::Task;
 use std::alloc::Global;
 
 /// The note to the line of this number. Without memory for it there is none.

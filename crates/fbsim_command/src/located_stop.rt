@@ -11,12 +11,12 @@ use crate::lint::report_lines;
 use crate::own_lines::note_at;
 use crate::statuses::Done;
 use crate::texts::Texts;
-use crate::{Action, Task};
 use fb_read_positions::{TextLocation, excerpt, location_at, place_at};
 use fb_sim::{discard, open};
 use fb_stop::{FoundStop, Shown, find_stop, position_of, shown_of, spent_words, words_of};
 use fb_system::System;
 use fb_types::{LATEST_TICK, MOST_STEPS};
+use fbsim_line::{Action, Task};
 use std::alloc::{AllocError, Global};
 use std::io::Write;
 

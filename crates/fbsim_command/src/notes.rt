@@ -7,7 +7,6 @@ ghost use Rattle.fbsim_command.specs.InputNotes.{IsNoteThere, names_of, types_in
 ghost use Rattle.fbsim_command.specs.OwnLines.{IsPlaced};
 ghost use Rattle.fbsim_command.specs.Texts.{given_of, lines_of};
 
-use crate::Task;
 use crate::failure::{Failure, RefusalLine};
 use crate::input_notes::{InputNames, RefusedInputs, note_there};
 use crate::own_lines::note_at;
@@ -15,6 +14,7 @@ use crate::sources::SourceFault;
 use crate::texts::{Part, Texts, Unread};
 use fb_read_positions::{TextLocation, excerpt};
 use fb_why::{Findings, Place, PlacedFinding, discard_findings, findings_of, places_in_inputs};
+use fbsim_line::Task;
 use std::alloc::{AllocError, Global};
 
 /// The number of a fault of the grammar, whose line says where it is also.

@@ -4,7 +4,7 @@ ghost use Rattle.std.specs.Io.KnownBytes.{Appends};
 ghost use Rattle.std.specs.Prelude.{◌≡◌, ◌++◌, ℕ, List, [], Option, None, false, true, map, option_map, Result, IfOk, IfErr, IsTrue, OnOk, string_bytes};
 ghost use Rattle.fb_sim.specs.Reports.{Hears};
 ghost use Rattle.fbsim_command.specs.Command.{Checks, Does, Explains, ExplainsRefusal, IsDoneOf, IsEndOf, Meets, Performs, Reports, ReportsOn, Runs};
-ghost use Rattle.fbsim_command.specs.Line.{AreCall, AreNoCall, AskHelp, IsFault, IsHelp, IsTaken};
+ghost use Rattle.fbsim_line.specs.Line.{AreCall, AreNoCall, AskHelp, IsFault, IsHelp, IsTaken};
 ghost use Rattle.fbsim_command.specs.Notes.{NotesOf};
 ghost use Rattle.fbsim_command.specs.WarningLines.{naming_of};
 ghost use Rattle.fbsim_command.specs.Texts.{given_of, lines_of};
@@ -28,13 +28,13 @@ use crate::sources::{Source, Streams};
 use crate::statuses::{Done, ExitStatus, status};
 use crate::texts::{Texts, read_files};
 use crate::wave::show;
-use crate::{Action, Call, LineFault, Task, parse};
 use fb_phase::OpenGate;
 use fb_sim::{
     Inputs, NoClock, Options, Outcome, ReportedRun, RunError, check, run_serial, run_with_clock,
     run_with_progress,
 };
 use fb_why::{Explanation, explain};
+use fbsim_line::{Action, Call, LineFault, Task, parse};
 use std::alloc::{AllocError, Global};
 use std::io;
 use std::io::Write;

@@ -9,7 +9,6 @@ ghost use Rattle.fbsim_command.specs.Notes.{IsNoteOfNumber, Notes};
 ghost use Rattle.fbsim_command.specs.Texts.{given_of, lines_of, may_lines_of};
 ghost use Rattle.fbsim_command.specs.OfSystem.{IsUnknownAt};
 
-use crate::Expect;
 use crate::expect::own_name;
 use crate::failure::Failure;
 use crate::input_notes::InputNames;
@@ -21,6 +20,7 @@ use crate::texts::{Texts, Unread, files_of};
 use fb_expect::{Rule, RuleKey, UNKNOWN_NAME, read_rules, rules_location};
 use fb_sim::{discard, open};
 use fb_why::{rules_message, unknown_key_message};
+use fbsim_line::Expect;
 use std::alloc::Global;
 
 /// The first number of a refusal of rules. Those below are of declarations, deployments and stimuli.

@@ -9,9 +9,9 @@ ghost use Rattle.fbsim_command.specs.declared.texts.Part.TheVariants.{BlockTypes
 
 use crate::join::{line_counts, text_of};
 use crate::sources::{Source, SourceFault};
-use crate::{Action, Task};
 use fb_sim::Inputs;
 use fb_wave::Cut;
+use fbsim_line::{Action, Task};
 use std::alloc::{AllocError, Global};
 
 /// One byte more than a declaration or a deployment may have, so that one that is too long shows.

@@ -4,7 +4,6 @@ ghost use Rattle.std.specs.Prelude.{map, option_map, string_bytes};
 ghost use Rattle.fbsim_command.specs.Notes.{Notes};
 ghost use Rattle.fbsim_command.specs.Showing.{DumpsAs, IsTraceFileNote, NotesAs, Shows, cut_of};
 
-use crate::Wave;
 use crate::failure::Failure;
 use crate::line_notes::{note_of_trace_line, note_of_wave};
 use crate::notes::{note_of_file, note_of_name};
@@ -16,6 +15,7 @@ use crate::texts::{cut_of, files_of, read_files};
 use fb_inspect::Terms;
 use fb_sim::{Inputs, discard, open};
 use fb_wave::{CurrentLine, write_wave_with};
+use fbsim_line::Wave;
 use std::alloc::Global;
 use std::io::{BufRead, Write};
 

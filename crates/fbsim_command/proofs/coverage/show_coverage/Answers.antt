@@ -2,7 +2,7 @@ use Rattle.std.proofs.Common.{◌≡◌, ◌⊎◌, map, option_map, refl, strin
 use Rattle.fb_sim.specs.Given.{Given}
 use Rattle.fbsim_command.specs.Covering.{WritesReport}
 use Rattle.fbsim_command.specs.Notes.{IsFileNote, Notes, NotesOf}
-use Rattle.fbsim_command.specs.declared.line.Task.{Task}
+use Rattle.fbsim_line.specs.declared.line.Task.{Task}
 use Rattle.fbsim_command.specs.Reading.{AreRead, IsUnread}
 use Rattle.fbsim_command.specs.Texts.{given_of, lines_of}
 use Rattle.fbsim_command.proofs.Gleaning.{noted-trace, reported-failure}

@@ -1,7 +1,7 @@
 use Rattle.std.proofs.Common.{Bor, List, Option, map, option_map, string_bytes, inl, inr, refl, subst}
 use Rattle.clap.specs.Words.{Text}
-use Rattle.fbsim_command.specs.Line.{AreCall}
-use Rattle.fbsim_command.specs.declared.line.Call.{Call}
+use Rattle.fbsim_line.specs.Line.{AreCall}
+use Rattle.fbsim_line.specs.declared.line.Call.{Call}
 use Rattle.fbsim_command.specs.Command.{Does, Performs}
 use Rattle.fbsim_command.specs.Drawing.{Draws}
 use Rattle.fbsim_command.specs.Covering.{ReportsCoverage}

@@ -1,7 +1,0 @@
-use Rattle.fbsim_command.proofs.line.run.Goals as goal
-
-pub returns-clause-app : goal.returns-clause-app
-returns-clause-app c = c.deployed.ensures.app
-
-pub returns-clause-globals : goal.returns-clause-globals
-returns-clause-globals c = c.deployed.ensures.globals

@@ -1,6 +1,0 @@
-use Rattle.fbsim_command.specs.Line.{kinds, program}
-use Rattle.fbsim_command.proofs.BuildLaws.{Joins}
-use Rattle.fbsim_command.proofs.line.simulator.Given as goal
-
-abbrev pub invariant-loop-kind : goal.invariant-loop-kind
-invariant-loop-kind l = Joins l.forms program kinds l.kind-index l.command
