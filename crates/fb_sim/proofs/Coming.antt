@@ -12,7 +12,7 @@ use Rattle.fb_laws.specs.Sound.{AreGood}
 use Rattle.fb_laws.proofs.Accepting.{sound_of}
 use Rattle.fb_laws.proofs.Existence.{there_is}
 use Rattle.fb_types.proofs.SimulationLaws.{one-simulation}
-use Rattle.fb_sim.proofs.Joined.{lines_of-append}
+use Rattle.fb_sim_machine.proofs.Joined.{lines_of-append}
 use Rattle.fb_trace.specs.Progress.{IsPartWritten, bounded}
 use Rattle.fb_sim.specs.Advances.{IsNext, stop_line}
 use Rattle.fb_sim.specs.Sessions.{Session}

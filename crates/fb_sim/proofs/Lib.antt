@@ -1,22 +1,16 @@
 pub mod AdvanceIs
-pub mod AgendaIs
 mod Coming
 mod CrewCrossing
 pub mod Crossing
 pub mod Cutting
-pub mod DeliverIs
 pub mod Edges
 mod Ending
 pub mod FirstRounds
 pub mod Fronts
-pub mod Joined
-pub mod Nexts
 pub mod OneAgendaIs
 mod OnePhase
 mod Onward
-pub mod OpenIs
 pub mod Outcomes
-pub mod ReadyIs
 pub mod Refused
 pub mod Rising
 pub mod RoundIs
@@ -24,7 +18,6 @@ pub mod RunIs
 pub mod Seen
 pub mod SessionIs
 mod Simulations
-pub mod TakenIs
 pub mod Texts
 pub mod WindowIs
 pub mod Weaving

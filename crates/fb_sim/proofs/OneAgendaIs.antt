@@ -9,13 +9,13 @@ use Rattle.fb_types.specs.States.{Config, Line}
 use Rattle.fb_types.specs.declared.run.StopMark.{StopMark}
 use Rattle.fb_laws.specs.Sound.{AreGood}
 use Rattle.fb_laws.proofs.Accepting.{sound_of}
-use Rattle.fb_sim.specs.Completions.{Completes, Reaches, ending_at}
-use Rattle.fb_sim.specs.Machines.{IsAt}
-use Rattle.fb_sim.specs.Pauses.{Pauses}
-use Rattle.fb_sim.specs.declared.one_agenda.machine.Machine.{Machine}
-use Rattle.fb_sim.specs.declared.one_agenda.pause.Pause.{Pause}
-use Rattle.fb_sim.specs.declared.one_agenda.pause.Pause.TheVariants.{Lines, Horizon, Stop}
-use Rattle.fb_sim.proofs.Joined.{reaches_after, reaches_none, joins, lines_of-append}
+use Rattle.fb_sim_machine.specs.Completions.{Completes, Reaches, ending_at}
+use Rattle.fb_sim_machine.specs.Machines.{IsAt}
+use Rattle.fb_sim_machine.specs.Pauses.{Pauses}
+use Rattle.fb_sim_machine.specs.declared.machine.Machine.{Machine}
+use Rattle.fb_sim_machine.specs.declared.pause.Pause.{Pause}
+use Rattle.fb_sim_machine.specs.declared.pause.Pause.TheVariants.{Lines, Horizon, Stop}
+use Rattle.fb_sim_machine.proofs.Joined.{reaches_after, reaches_none, joins, lines_of-append}
 use Rattle.fb_laws.proofs.Bridge.{all_each}
 use Rattle.fb_laws.proofs.Existence.{there_is}
 use Rattle.fb_trace.specs.Progress.{IsPartWritten, bounded}

@@ -1,11 +1,5 @@
 pub mod Given
-pub mod Completions
-pub mod Counts
-pub mod Machines
 pub mod OneAgenda
-pub mod Openings
-pub mod Pauses
-pub mod Runs
 pub mod Serial
 pub mod Rounds
 pub mod Sessions

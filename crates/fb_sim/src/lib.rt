@@ -5,16 +5,16 @@
 //! also reports the progress of a run. This crate has no rule about simulation.
 //!
 //! Read in this order: `options` and `outcome`; `reading`, the steps before a run; `serial` with `one_agenda`, a run on
-//! one thread, whose `Machine` `fb_stop` uses event by event. A run with workers: `runs` with `trial`, `drive` and
-//! `rounds`; `pace`, `progress`, `tally`, `work`, `held`, `marked`, `joining`, `printing` and `weave`. Then `simulation`
-//! and `state`; `with_progress`, a run that reports its progress.
+//! one thread. A run with workers: `runs` with `trial`, `drive` and `rounds`; `pace`, `progress`, `tally`, `work`,
+//! `held`, `marked`, `joining`, `printing` and `weave`. Then `simulation` and `state`; `with_progress`, a run that reports
+//! its progress.
 #![tactic(auto)]
 
 mod drive;
 mod held;
 mod joining;
 mod marked;
-pub mod one_agenda;
+mod one_agenda;
 pub mod options;
 pub mod outcome;
 pub mod pace;
@@ -34,7 +34,6 @@ mod work;
 
 pub use fb_trace::Outcome;
 pub use fb_types::run::Form;
-pub use one_agenda::machine::Machine;
 pub use options::{Inputs, Options};
 pub use outcome::{Refusal, RunError};
 pub use pace::NoClock;

@@ -1,16 +1,10 @@
-//! A run on one thread: one agenda of all resources, of which the least event is always taken. The lines are written as
-//! the run goes on.
-//!
-//! `run_serial` uses it, and so does `run` with one worker. `fb_stop` uses its `Machine`. What one taking does is
-//! `fb_resource`'s; here are the loop over it and the delivery of messages to the one agenda.
-//!
-//! Read in this order: `machine` and `pause`, the state and the taking of events; `deliver`, messages; `open`, the
-//! beginning; then the run itself, below.
+//! A run on one thread: one agenda of all resources, of which the least event is always taken (`fb_sim_machine`). The
+//! lines are written as the run goes on. `run_serial` uses it, and so does `run` with one worker.
 
 ghost use Rattle.std.specs.Prelude.{◌≡◌, [], IfOk, IfErr, Err};
 ghost use Rattle.fb_types.specs.Headline.{stimuli_of};
 ghost use Rattle.fb_types.specs.OfSystem.{opening_agenda, opening_state};
-ghost use Rattle.fb_sim.specs.Machines.{IsAt, IsReady};
+ghost use Rattle.fb_sim_machine.specs.Machines.{IsAt, IsReady};
 ghost use Rattle.fb_trace.specs.End.{ending_of};
 ghost use Rattle.fb_trace.specs.OfSystem.{EndsIn};
 ghost use Rattle.fb_sim.specs.Given.{Given};
@@ -18,19 +12,13 @@ ghost use Rattle.fb_sim.specs.OneAgenda.{RunsThrough};
 ghost use Rattle.fb_sim.specs.Rounds.{FailsRun, RunsOn};
 ghost use Rattle.fb_sim.specs.Serial.{AreWithin, Declares, Writes};
 
-mod deliver;
-pub mod machine;
-mod open;
-mod pause;
-
 use crate::drive::later;
-use crate::one_agenda::machine::Machine;
-use crate::one_agenda::pause::Pause;
 use crate::options::Options;
 use crate::outcome::RunError;
 use crate::pace::{AgendaTrial, Pace, Verdict};
 use crate::rounds::hand_out;
 use crate::runs::close;
+use fb_sim_machine::{Machine, Pause};
 use fb_system::System;
 use fb_trace::Outcome;
 use std::alloc::{AllocError, Global};

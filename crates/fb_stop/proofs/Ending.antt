@@ -11,7 +11,7 @@ use Rattle.fb_types.specs.declared.run.Event.{Event}
 use Rattle.fb_agenda.specs.Agendas.{Contents, waiting}
 use Rattle.fb_net.specs.Events.{event_of}
 use Rattle.fb_resource.specs.Waiting.{meaning}
-use Rattle.fb_sim.specs.Completions.{Reaches}
+use Rattle.fb_sim_machine.specs.Completions.{Reaches}
 use Rattle.fb_stop.specs.Copies.{HasStopped}
 use Rattle.fb_stop.specs.Found.{IsSite, IsStop, NeverStops}
 use Rattle.fb_stop.specs.declared.found.FoundStop.{FoundStop}

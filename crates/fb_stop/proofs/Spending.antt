@@ -19,10 +19,10 @@ use Rattle.fb_agenda.specs.Agendas.{Contents, waiting}
 use Rattle.fb_net.specs.Events.{event_of}
 use Rattle.fb_resource.specs.Counts.{meter_of}
 use Rattle.fb_resource.specs.Waiting.{meaning}
-use Rattle.fb_sim.specs.Completions.{Reaches}
+use Rattle.fb_sim_machine.specs.Completions.{Reaches}
 use Rattle.fb_resource.specs.declared.tick_counts.TickCounts.{TickCounts}
-use Rattle.fb_sim.specs.Machines.{IsAt, IsReady, IsTaken}
-use Rattle.fb_sim.specs.declared.one_agenda.machine.Machine.{Machine}
+use Rattle.fb_sim_machine.specs.Machines.{IsAt, IsReady, IsTaken}
+use Rattle.fb_sim_machine.specs.declared.machine.Machine.{Machine}
 use Rattle.fb_stop.specs.Found.{ArrivesAt, instance_of}
 use Rattle.fb_stop.specs.Spent.{AreSpent, Charges, ChargesAll, ChargesIf, ChargesTaken, HasSpent, is_of, used}
 use Rattle.fb_stop.specs.declared.found.EventSite.{EventSite}

@@ -31,8 +31,8 @@ use Rattle.fb_resource.specs.Takings.{IsHere}
 use Rattle.fb_resource.specs.declared.tick_counts.TickCounts.{TickCounts}
 use Rattle.fb_resource.proofs.Lists.{set_apart, set_here}
 use Rattle.fb_system.specs.Ports.{IsTarget, events_at}
-use Rattle.fb_sim.specs.Machines.{IsAt, IsTaken}
-use Rattle.fb_sim.specs.declared.one_agenda.machine.Machine.{Machine}
+use Rattle.fb_sim_machine.specs.Machines.{IsAt, IsTaken}
+use Rattle.fb_sim_machine.specs.declared.machine.Machine.{Machine}
 use Rattle.fb_stop.specs.Copies.{AreAllCopies, FollowsAt, HasLocated, HasStepped, IsCopy, IsFollowed, IsLocated, IsSiteBy, Stopping, begins_at}
 use Rattle.fb_stop.specs.Found.{ArrivesAt, IsSite, StopsInBlock, port_in, start_at}
 use Rattle.fb_stop.specs.declared.found.EventSite.{EventSite}

@@ -17,8 +17,8 @@ use Rattle.fb_ecc.specs.Indexes.{IsBlockOf, index, sampled}
 use Rattle.fb_ecc.specs.Sound.{IsSound}
 use Rattle.fb_ecc.specs.declared.state.BasicState.{BasicState}
 use Rattle.fb_net.specs.Worlds.{BasicRepresents}
-use Rattle.fb_sim.specs.Machines.{IsTaken}
-use Rattle.fb_sim.specs.declared.one_agenda.machine.Machine.{Machine}
+use Rattle.fb_sim_machine.specs.Machines.{IsTaken}
+use Rattle.fb_sim_machine.specs.declared.machine.Machine.{Machine}
 use Rattle.fb_stop.specs.Found.{IsSite, ArrivesAt}
 use Rattle.fb_stop.specs.Links.{HasReacted}
 use Rattle.fb_stop.specs.declared.found.EventSite.{EventSite}

@@ -14,7 +14,7 @@ use Rattle.fb_types.specs.declared.key.Key.{Key}
 use Rattle.fb_types.specs.declared.library.BasicType.{BasicType}
 use Rattle.fb_types.specs.declared.value.Reason.{Reason}
 use Rattle.fb_system.specs.Ports.{IsTarget}
-use Rattle.fb_sim.specs.Completions.{Reaches}
+use Rattle.fb_sim_machine.specs.Completions.{Reaches}
 use Rattle.fb_stop.specs.Sites.{ReactionStops}
 use Rattle.fb_stop.specs.declared.found.EventSite.{EventSite}
 use Rattle.fb_stop.specs.declared.found.EventSite.TheVariants.{Timer, Port as AtPort}

@@ -8,9 +8,9 @@ use Rattle.fb_types.specs.Systems.{System}
 use Rattle.fb_types.specs.Takes.{begun}
 use Rattle.fb_types.specs.declared.key.Key.{Key}
 use Rattle.fb_types.specs.declared.value.Reason.{Reason}
-use Rattle.fb_sim.specs.Completions.{Reaches}
-use Rattle.fb_sim.specs.Machines.{IsTaken}
-use Rattle.fb_sim.specs.declared.one_agenda.machine.Machine.{Machine}
+use Rattle.fb_sim_machine.specs.Completions.{Reaches}
+use Rattle.fb_sim_machine.specs.Machines.{IsTaken}
+use Rattle.fb_sim_machine.specs.declared.machine.Machine.{Machine}
 use Rattle.fb_stop.specs.Found.{ArrivesAt, instance_of}
 use Rattle.fb_stop.specs.declared.found.EventSite.{EventSite}
 use Rattle.fb_stop.specs.declared.spent.Moment.{Moment}

@@ -10,15 +10,15 @@ ghost use Rattle.fb_types.specs.OfSystem.{IsResource, instance_count, opening_ag
 ghost use Rattle.fb_laws.specs.OfSystem.{IsTypedEvent};
 ghost use Rattle.fb_net.specs.Events.{IsEventIn, IsKeyOf, event_of};
 ghost use Rattle.fb_resource.specs.Counts.{meter_of};
-ghost use Rattle.fb_sim.specs.Machines.{IsAt, IsReady};
-ghost use Rattle.fb_sim.specs.Runs.{IsSpent};
+ghost use Rattle.fb_sim_machine.specs.Machines.{IsAt, IsReady};
+ghost use Rattle.fb_sim_machine.specs.Runs.{IsSpent};
 ghost use Rattle.fb_stop.specs.Spent.{AreSpent, Charges, HasSpent, IsMost, is_of};
 
 use crate::found::instance_of;
 use crate::replay::site_of;
 use fb_agenda::Least;
 use fb_resource::TickCounts;
-use fb_sim::Machine;
+use fb_sim_machine::Machine;
 use fb_system::System;
 use fb_types::{Key, Reason};
 use std::alloc::{AllocError, Global};

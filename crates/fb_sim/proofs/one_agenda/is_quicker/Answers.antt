@@ -1,7 +1,7 @@
 use Rattle.std.proofs.Common.{subst}
 use Rattle.fb_types.specs.Headline.{stimuli_of, system_of}
 use Rattle.fb_types.specs.Simulation.{opening}
-use Rattle.fb_sim.specs.Pauses.{Pauses}
+use Rattle.fb_sim_machine.specs.Pauses.{Pauses}
 use Rattle.fb_sim.proofs.one_agenda.is_quicker.Goals as goal
 
 pub loop-machine-init : goal.loop-machine-init

@@ -2,9 +2,9 @@ use Rattle.std.proofs.Common.{ℕ, List}
 use Rattle.fb_types.specs.Headline.{system_of, stimuli_of}
 use Rattle.fb_types.specs.Simulation.{Taken, opening}
 use Rattle.fb_types.specs.States.{Config}
-use Rattle.fb_sim.specs.Completions.{Reaches}
-use Rattle.fb_sim.specs.Counts.{fuel_of_all}
-use Rattle.fb_sim.specs.Machines.{IsAt, IsReady}
+use Rattle.fb_sim_machine.specs.Completions.{Reaches}
+use Rattle.fb_sim_machine.specs.Counts.{fuel_of_all}
+use Rattle.fb_sim_machine.specs.Machines.{IsAt, IsReady}
 use Rattle.fb_stop.specs.Copies.{AreAllCopies}
 use Rattle.fb_stop.proofs.replay.Replay.go_on.Given as goal
 

@@ -1,5 +1,0 @@
-use Rattle.fb_sim.specs.Openings.{AreOpened}
-use Rattle.fb_sim.proofs.one_agenda.open.open_trees.Given as goal
-
-abbrev pub invariant-loop-resource : goal.invariant-loop-resource
-invariant-loop-resource l = AreOpened l.system l.resource l.trees.items

@@ -1,0 +1,265 @@
+use Rattle.std.proofs.Common.{◌<◌, Bool, [], ◌∷◌, ◌++◌, map, sym, ap, subst, ◌∙◌, append-nil, arith}
+use Rattle.fb_types.specs.Headline.{system_of}
+use Rattle.fb_types.specs.Keys.{without}
+use Rattle.fb_types.specs.declared.key.Key.{Key}
+use Rattle.fb_types.specs.Numbers.{line_of}
+use Rattle.fb_types.specs.Simulation.{Taken, after}
+use Rattle.fb_net.specs.Events.{event_of}
+use Rattle.fb_resource.specs.Takings.{Finds, with_next}
+use Rattle.fb_resource.proofs.Finding.{finds_taken}
+use Rattle.fb_resource.proofs.Lone.{due_next}
+use Rattle.fb_sim_machine.specs.Pauses.{Pauses}
+use Rattle.fb_sim_machine.specs.declared.pause.Pause.TheVariants.{Stop}
+use Rattle.fb_sim_machine.proofs.Joined.{completes_after, reaches_more, reaches_none, lines_more}
+use Rattle.fb_sim_machine.proofs.AgendaIs.{all_falls, at_left, completes_rest, completes_stop, machine_left, takes_least}
+use Rattle.fb_sim_machine.proofs.Nexts.{at_alike, machine_alike, on_agenda}
+use Rattle.fb_sim_machine.proofs.machine.Machine.go_on.Goals as goal
+
+-- The first event was looked for on the agenda of the beginning.
+pub events-init : goal.events-init
+events-init c =
+    let is = c.take_least_into-found.ensures in
+    let slot = c.take_least_into-found.new.slot in
+    let was = c.args.self.now.queues.agenda in
+    record {
+      was = was;
+      finds = finds_taken c.args.horizon was c.take_least_into-found.new.self c.take_least_into-found.result slot.key slot.event is.found is.below is.least is.left is.none is.kept;
+      due = is.due;
+      ready = c.requires.ready;
+      represents = c.requires.represents;
+      comes = λ start at. (
+        start,
+        [],
+        at,
+        reaches_none c.args.system.now c.args.horizon c.args.limit start,
+        sym (append-nil (map (line_of (system_of c.args.system.now)) c.args.self.now.queues.outbox.lines.items)),
+      );
+      left = omega arith;
+    }
+
+-- ---- The event in the slot
+
+pub take-requires-clause-ready : goal.take-requires-clause-ready
+take-requires-clause-ready c =
+    let i = c.args.system.now in
+    let inv = c.events.invariant in
+    let k = c.events.least.key in
+    let e = c.events.least.event in
+    let was = on_agenda inv.was c.events.self in
+    let finds = subst (λ (b : Bool). Finds c.args.horizon inv.was b k e c.events.self.queues.agenda) c.events-test.true inv.finds in
+    machine_left i c.args.limit inv.ready.0 k e was c.events.self.queues.agenda inv.ready.1 finds.left finds.found finds.least inv.due
+
+pub take-requires-clause-represents : goal.take-requires-clause-represents
+take-requires-clause-represents c =
+    let i = c.args.system.now in
+    let inv = c.events.invariant in
+    let k = c.events.least.key in
+    let e = c.events.least.event in
+    let was = on_agenda inv.was c.events.self in
+    let finds = subst (λ (b : Bool). Finds c.args.horizon inv.was b k e c.events.self.queues.agenda) c.events-test.true inv.finds in
+    let represents = inv.represents in
+    (represents.0.state, without k represents.0.agenda, at_left i k represents.0 was c.events.self.queues.agenda represents.1 finds.left)
+
+pub take-requires-clause-event : goal.take-requires-clause-event
+take-requires-clause-event c =
+    let i = c.args.system.now in
+    let inv = c.events.invariant in
+    let k = c.events.least.key in
+    let e = c.events.least.event in
+    let was = on_agenda inv.was c.events.self in
+    let finds = subst (λ (b : Bool). Finds c.args.horizon inv.was b k e c.events.self.queues.agenda) c.events-test.true inv.finds in
+    (inv.ready.1.queues.order.waits k e finds.found).event
+
+pub take-requires-clause-own : goal.take-requires-clause-own
+take-requires-clause-own c =
+    let i = c.args.system.now in
+    let inv = c.events.invariant in
+    let k = c.events.least.key in
+    let e = c.events.least.event in
+    let was = on_agenda inv.was c.events.self in
+    let finds = subst (λ (b : Bool). Finds c.args.horizon inv.was b k e c.events.self.queues.agenda) c.events-test.true inv.finds in
+    (inv.ready.1.queues.order.waits k e finds.found).own
+
+pub take-requires-clause-typed : goal.take-requires-clause-typed
+take-requires-clause-typed c =
+    let i = c.args.system.now in
+    let inv = c.events.invariant in
+    let k = c.events.least.key in
+    let e = c.events.least.event in
+    let was = on_agenda inv.was c.events.self in
+    let finds = subst (λ (b : Bool). Finds c.args.horizon inv.was b k e c.events.self.queues.agenda) c.events-test.true inv.finds in
+    (inv.ready.1.queues.order.waits k e finds.found).typed
+
+pub take-requires-clause-named : goal.take-requires-clause-named
+take-requires-clause-named c =
+    let i = c.args.system.now in
+    let inv = c.events.invariant in
+    let k = c.events.least.key in
+    let e = c.events.least.event in
+    let was = on_agenda inv.was c.events.self in
+    let finds = subst (λ (b : Bool). Finds c.args.horizon inv.was b k e c.events.self.queues.agenda) c.events-test.true inv.finds in
+    (inv.ready.1.queues.order.waits k e finds.found).resource
+
+-- ---- A stop
+
+pub returns-in-Some-clause-pauses : goal.returns-in-Some-clause-pauses
+returns-in-Some-clause-pauses c start is =
+    let i = c.args.system.now in
+    let inv = c.events.invariant in
+    let k = c.events.least.key in
+    let e = c.events.least.event in
+    let was = on_agenda inv.was c.events.self in
+    let finds = subst (λ (b : Bool). Finds c.args.horizon inv.was b k e c.events.self.queues.agenda) c.events-test.true inv.finds in
+    let comes = inv.comes start is in
+    let d = comes.0 in
+    let taken = c.in_ok-taken.ensures.taken d.state d.agenda (at_left i k d was c.events.self.queues.agenda comes.2 finds.left) in
+    let least = takes_least i c.args.limit d k e _ inv.was _ _ comes.2.agenda finds.found finds.least taken in
+    let z = c.put_next.new.least in
+    let new = on_agenda c.put_next.new.agenda c.take.new.self in
+    let moment = c.in_ok-taken.ensures.moment in
+    let tick = ap (λ (j : Key). j.tick) c.put_next.ensures.key ∙ moment.0 in
+    let resource = ap (λ (j : Key). j.resource) c.put_next.ensures.key ∙ moment.1 in
+    subst (λ n. Pauses i c.args.horizon c.args.limit start c.args.self.now new (Stop (record { tick = n; resource = z.key.resource; reason = c.in-Some.reason }))) (sym tick)
+    (subst (λ n. Pauses i c.args.horizon c.args.limit start c.args.self.now new (Stop (record { tick = k.tick; resource = n; reason = c.in-Some.reason }))) (sym resource) (
+      (inv.ready.1.queues.order.waits k e finds.found).resource,
+      completes_after i c.args.horizon c.args.limit start d comes.1 _ c.events.self.queues.outbox.lines.items _ _ comes.3 comes.4
+          (completes_stop i c.args.horizon c.args.limit d _ c.in-Some.reason _ _ least (taken.stops ∙ c.in-Some.is) finds.below taken.lines),
+    ))
+
+pub returns-in-Some-clause-ready : goal.returns-in-Some-clause-ready
+returns-in-Some-clause-ready c =
+    let i = c.args.system.now in
+    let inv = c.events.invariant in
+    let k = c.events.least.key in
+    let e = c.events.least.event in
+    let was = on_agenda inv.was c.events.self in
+    let finds = subst (λ (b : Bool). Finds c.args.horizon inv.was b k e c.events.self.queues.agenda) c.events-test.true inv.finds in
+    let t = c.take.new.self in
+    let raised = c.in_ok-taken.taken.raised in
+    let z = c.take.new.least in
+    (k.tick, machine_alike i t (with_next raised z.key z.event t.queues.agenda) c.put_next.new.agenda c.in_ok-put_next.ensures.put c.args.limit k.tick (c.put_next.ensures.due ∙ sym (due_next raised z.key z.event t.queues.agenda)) c.in_ok-taken.ensures.ready)
+
+-- ---- Many lines
+
+pub returns-then-len-many-clause-pauses : goal.returns-then-len-many-clause-pauses
+returns-then-len-many-clause-pauses c start is =
+    let i = c.args.system.now in
+    let inv = c.events.invariant in
+    let k = c.events.least.key in
+    let e = c.events.least.event in
+    let was = on_agenda inv.was c.events.self in
+    let finds = subst (λ (b : Bool). Finds c.args.horizon inv.was b k e c.events.self.queues.agenda) c.events-test.true inv.finds in
+    let machine = c.take.new.self in
+    let raised = c.in_ok-taken.taken.raised in
+    let z = c.take.new.least in
+    let comes = inv.comes start is in
+    let d = comes.0 in
+    let taken = c.in_ok-taken.ensures.taken d.state d.agenda (at_left i k d was c.events.self.queues.agenda comes.2 finds.left) in
+    let least = takes_least i c.args.limit d k e _ inv.was _ _ comes.2.agenda finds.found finds.least taken in
+    let t : Taken = record { key = k; event = event_of i e; effect = taken.effect } in (
+      after d t,
+      comes.1 ++ t ∷ [],
+      at_alike i machine (with_next raised z.key z.event machine.queues.agenda) c.put_next-then-len-many.new.agenda c.in_ok-put_next-2.ensures.put (after d t).state (after d t).agenda taken.at,
+      reaches_more i c.args.horizon c.args.limit start d comes.1 t comes.3 least (taken.stops ∙ c.in_default.is) finds.below,
+      lines_more comes.1 t _ _ _ comes.4 taken.lines,
+    )
+
+pub returns-then-len-many-clause-ready : goal.returns-then-len-many-clause-ready
+returns-then-len-many-clause-ready c =
+    let i = c.args.system.now in
+    let inv = c.events.invariant in
+    let k = c.events.least.key in
+    let e = c.events.least.event in
+    let was = on_agenda inv.was c.events.self in
+    let finds = subst (λ (b : Bool). Finds c.args.horizon inv.was b k e c.events.self.queues.agenda) c.events-test.true inv.finds in
+    let t = c.take.new.self in
+    let raised = c.in_ok-taken.taken.raised in
+    let z = c.take.new.least in
+    (k.tick, machine_alike i t (with_next raised z.key z.event t.queues.agenda) c.put_next-then-len-many.new.agenda c.in_ok-put_next-2.ensures.put c.args.limit k.tick (c.put_next-then-len-many.ensures.due ∙ sym (due_next raised z.key z.event t.queues.agenda)) c.in_ok-taken.ensures.ready)
+
+pub returns-then-len-many-clause-sooner : goal.returns-then-len-many-clause-sooner
+returns-then-len-many-clause-sooner c =
+    let i = c.args.system.now in
+    let inv = c.events.invariant in
+    let k = c.events.least.key in
+    let e = c.events.least.event in
+    let was = on_agenda inv.was c.events.self in
+    let finds = subst (λ (b : Bool). Finds c.args.horizon inv.was b k e c.events.self.queues.agenda) c.events-test.true inv.finds in
+    let spent = c.in_ok-taken.ensures.spent c.in_default.is in
+    let past = inv.ready.1.past k.resource spent.before spent.was in
+    let later = (inv.ready.1.queues.order.waits k e finds.found).later in
+    let falls = all_falls c.args.horizon c.args.limit k c.events.self.meters.items c.take.new.self.meters.items spent (omega (arith, past, later)) finds.below in
+    let left = inv.left in
+    omega (arith, falls, left)
+
+-- ---- One event more
+
+pub events-smaller : goal.events-smaller
+events-smaller c =
+    let i = c.args.system.now in
+    let inv = c.events.invariant in
+    let k = c.events.least.key in
+    let e = c.events.least.event in
+    let was = on_agenda inv.was c.events.self in
+    let finds = subst (λ (b : Bool). Finds c.args.horizon inv.was b k e c.events.self.queues.agenda) c.events-test.true inv.finds in
+    let spent = c.in_ok-taken.ensures.spent c.in_default.is in
+    let past = inv.ready.1.past k.resource spent.before spent.was in
+    let later = (inv.ready.1.queues.order.waits k e finds.found).later in
+    let falls = all_falls c.args.horizon c.args.limit k c.events.self.meters.items c.take.new.self.meters.items spent (omega (arith, past, later)) finds.below in
+    falls
+
+pub events-preserved : goal.events-preserved
+events-preserved c =
+    let i = c.args.system.now in
+    let inv = c.events.invariant in
+    let k = c.events.least.key in
+    let e = c.events.least.event in
+    let was = on_agenda inv.was c.events.self in
+    let finds = subst (λ (b : Bool). Finds c.args.horizon inv.was b k e c.events.self.queues.agenda) c.events-test.true inv.finds in
+    let spent = c.in_ok-taken.ensures.spent c.in_default.is in
+    let past = inv.ready.1.past k.resource spent.before spent.was in
+    let later = (inv.ready.1.queues.order.waits k e finds.found).later in
+    let falls = all_falls c.args.horizon c.args.limit k c.events.self.meters.items c.take.new.self.meters.items spent (omega (arith, past, later)) finds.below in
+    let left = inv.left in
+    let going = c.in_default.is in
+    let machine = c.take.new.self in
+    let raised = c.in_ok-taken.taken.raised in
+    let z = c.take.new.least in
+    let s = inv.represents.0 in
+    let standing = c.in_ok-taken.ensures.taken s.state s.agenda (at_left i k s was c.events.self.queues.agenda inv.represents.1 finds.left) in
+    record {
+      was = with_next raised z.key z.event machine.queues.agenda;
+      finds = c.in_ok-found.ensures.finds;
+      due = c.in_ok-found.ensures.due ∙ sym (due_next raised z.key z.event machine.queues.agenda);
+      ready = (k.tick, c.in_ok-taken.ensures.ready);
+      represents = (after s (record { key = k; event = event_of i e; effect = standing.effect }), standing.at);
+      comes = λ start is.
+          let comes = inv.comes start is in
+          let d = comes.0 in
+          let taken = c.in_ok-taken.ensures.taken d.state d.agenda (at_left i k d was c.events.self.queues.agenda comes.2 finds.left) in
+          let least = takes_least i c.args.limit d k e _ inv.was _ _ comes.2.agenda finds.found finds.least taken in
+          let t : Taken = record { key = k; event = event_of i e; effect = taken.effect } in (
+            after d t,
+            comes.1 ++ t ∷ [],
+            taken.at,
+            reaches_more i c.args.horizon c.args.limit start d comes.1 t comes.3 least (taken.stops ∙ going) finds.below,
+            lines_more comes.1 t _ _ _ comes.4 taken.lines,
+          );
+      left = omega (arith, falls, left);
+    }
+
+-- ---- Nothing waits below the horizon
+
+pub returns-clause-pauses : goal.returns-clause-pauses
+returns-clause-pauses c start is =
+    let inv = c.events.invariant in
+    let comes = inv.comes start is in
+    let finds = subst (λ (b : Bool). Finds c.args.horizon inv.was b c.events.least.key c.events.least.event c.events.self.queues.agenda) c.events-test.false inv.finds in
+    completes_after c.args.system.now c.args.horizon c.args.limit start comes.0 comes.1 _ c.events.self.queues.outbox.lines.items _ _ comes.3 comes.4
+    (completes_rest c.args.system.now c.args.horizon c.args.limit comes.0 inv.was c.events.self.queues.outbox.lines.items comes.2.agenda finds.none)
+
+pub returns-clause-ready : goal.returns-clause-ready
+returns-clause-ready c =
+    let inv = c.events.invariant in
+    let finds = subst (λ (b : Bool). Finds c.args.horizon inv.was b c.events.least.key c.events.least.event c.events.self.queues.agenda) c.events-test.false inv.finds in
+    (inv.ready.0, machine_alike c.args.system.now c.events.self inv.was c.events.self.queues.agenda finds.kept c.args.limit inv.ready.0 inv.due inv.ready.1)
