@@ -89,12 +89,12 @@ fn run_rounds<R: Threads + Wait + Sync, W: Write, P: Gate, C: Clock + CpuClock>(
     if let Some(pace) = pace {
         // Where one agenda is quicker than the first rounds, it runs from the opening.
         if is_quicker(alloc, system, options, pace, clock)? {
-            // The resources are not needed any more: the run makes its own.
+            // Neither the resources nor the text are needed any more: the run makes its own.
             drop(leg);
+            drop(text);
             return run_one_agenda(alloc, system, options, out);
         }
     }
-    let text = text.as_slice();
     let (finish, written) = run_rest(rt, alloc, system, leg, begun, text, fewer, out, hands)?;
     let end = outcome_of(finish, options.horizon);
     close(out, system, end, written.bytes)?;

@@ -153,25 +153,28 @@ pub(crate) fn run_first<R: Threads + Wait + Sync, P: Gate, C: Clock>(
     unreachable!()
 }
 
-/// Writes the text of the first rounds, and makes the others.
+/// Writes the text of the first rounds, and makes the others. The text may have several megabytes, so it is dropped
+/// before them.
 pub(crate) fn run_rest<R: Threads + Wait + Sync, W: Write, P: Gate>(
     rt: &R,
     alloc: Global,
     system: &System,
     leg: Leg,
     begun: Written,
-    text: &[u8],
+    text: Vec<u8>,
     options: Options,
     out: &mut W,
     hands: &Hands<'_, P>,
 ) -> Result<(Finish, Written), RunError>
     requires options { AreWithin options }
-    requires leg { IsLeg system.now options leg begun text.now }
+    requires leg { IsLeg system.now options leg begun text.items }
     ensures { RunsOn system.now options [] (W.contents out.old) (W.contents out.new) result }
 {
     system.facts();
-    let count = write_front(out, text);
-    if count < text.len() {
+    let length = text.len();
+    let count = write_front(out, text.as_slice());
+    drop(text);
+    if count < length {
         return Err(later(0, RunError::Write(count as u128)));
     }
     match leg {
