@@ -2,7 +2,7 @@
 """Builds the program and its libraries, several at a time. `./simulate` calls it if the program is missing or old.
 
 A library that has not changed is not built again, so you can interrupt a build. If the kit caches on the machine what the gate
-proved, that is used, in other clones too. Progress goes to standard error. The crates of tests are left out."""
+proved, that is used, in other clones too. Progress goes to standard error. `fb_tests` is left out."""
 
 import copy
 import os
