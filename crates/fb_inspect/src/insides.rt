@@ -104,7 +104,7 @@ fn shown_of(alloc: Global, system: &System, only: &[Name]) -> Result<Vec<bool>, 
     Ok(shown)
 }
 
-/// That none of this many resources has used steps yet.
+/// The steps that each of this many resources has used at the beginning: none.
 fn steps_of(alloc: Global, resources: usize) -> Result<Vec<TickSteps>, AllocError>
     ensures { IfOk result (λ all. AreUnused resources all.items) }
 {

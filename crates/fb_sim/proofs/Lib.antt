@@ -10,7 +10,6 @@ pub mod Fronts
 pub mod OneAgendaIs
 mod OnePhase
 mod Onward
-pub mod Outcomes
 pub mod Refused
 pub mod Rising
 pub mod RoundIs

@@ -1,6 +1,6 @@
 //! Rounds, one after another, up to the end.
 
-ghost use Rattle.std.specs.Prelude.{◌≡◌, ◌≤◌, All, List, IfErr, IfOk};
+ghost use Rattle.std.specs.Prelude.{◌≡◌, All, List, IfErr, IfOk};
 ghost use Rattle.fb_types.specs.States as model;
 ghost use Rattle.fb_system.specs.OfSystem.{BelongsTo};
 ghost use Rattle.fb_sim.specs.Serial.{AreWithin};

@@ -5,7 +5,7 @@ ghost use Rattle.std.specs.List.{AllZip};
 ghost use Rattle.fb_types.specs.Headline.{Inputs};
 ghost use Rattle.fb_types.specs.declared.run.Form.{Form};
 ghost use Rattle.fb_types.specs.declared.run.Line.{Line};
-ghost use Rattle.fb_trace.specs.Fronts.{late, tick_at};
+ghost use Rattle.fb_trace.specs.Fronts.{tick_at};
 ghost use Rattle.fb_trace.specs.Marks.{AreMarked, IsMarkedText};
 ghost use Rattle.fb_sim.specs.Joining.{ArePut, IsCut, IsPassed, IsPut, IsRest, past_at};
 ghost use Rattle.fb_sim.specs.Weaving.{IsWovenText};

@@ -6,8 +6,8 @@
 //!
 //! Read in this order: `options` and `outcome`; `reading`, the steps before a run; `serial` with `one_agenda`, a run on
 //! one thread. A run with workers: `runs` with `trial`, `drive` and `rounds`; `pace`, `progress`, `tally`, `work`,
-//! `held`, `marked`, `joining`, `printing` and `weave`. Then `simulation` and `state`; `with_progress`, a run that reports
-//! its progress.
+//! `held`, `marked`, `joining`, `printing` and `weave`. Then `simulation` and `state`; `with_progress`, a run that
+//! reports its progress.
 #![tactic(auto)]
 
 mod drive;

@@ -7,7 +7,7 @@ ghost use Rattle.fb_system.specs.OfSystem.{BelongsTo};
 ghost use Rattle.fb_trace.specs.Fronts as fronts;
 ghost use Rattle.fb_trace.specs.Fronts.{IsLeast, all_early, all_late, early, joint, late, tick_at};
 ghost use Rattle.fb_trace.specs.Merging.{Rises, tick_of};
-ghost use Rattle.fb_sim.specs.Weaving.{AreDivided, IsWoven, IsWovenText, until};
+ghost use Rattle.fb_sim.specs.Weaving.{AreDivided, IsWovenText, until};
 
 use fb_system::System;
 use fb_trace::write_parts;

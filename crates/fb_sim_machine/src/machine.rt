@@ -1,6 +1,6 @@
 //! The state of a run of all resources, and taking one event after another.
 
-ghost use Rattle.std.specs.Prelude.{◌≡◌, ◌^◌, ◌≤◌, ℕ, [], All, IfOk, IfSome, None, OnOk};
+ghost use Rattle.std.specs.Prelude.{◌≡◌, ◌^◌, ◌≤◌, ℕ, [], IfOk, None, OnOk};
 ghost use Rattle.std.specs.Bool.{OnTrue};
 ghost use Rattle.fb_types.specs.Headline.{Inputs};
 ghost use Rattle.fb_types.specs.Keys.{without};
@@ -8,10 +8,8 @@ ghost use Rattle.fb_types.specs.States.{Config, State};
 ghost use Rattle.fb_types.specs.States as model;
 ghost use Rattle.fb_types.specs.OfSystem.{IsResource};
 ghost use Rattle.fb_laws.specs.OfSystem.{IsTypedEvent};
-ghost use Rattle.fb_system.specs.OfSystem.{BelongsTo};
 ghost use Rattle.fb_net.specs.Events.{IsEventIn, IsKeyOf, event_of};
 ghost use Rattle.fb_resource.specs.Takings.{IsRaised};
-ghost use Rattle.fb_sim_machine.specs.Completions.{Completes};
 ghost use Rattle.fb_sim_machine.specs.Machines.{IsAt, IsReady, IsTaken, with_raised};
 ghost use Rattle.fb_sim_machine.specs.Pauses.{IsSooner, Pauses};
 ghost use Rattle.fb_sim_machine.specs.Runs.{IsSpent};

@@ -14,9 +14,9 @@
 //! Read in this order: `fault`, a reason and its statement, and `number`, how statements are counted; `part`, what
 //! statements do that hold no statements, `running`, the runs of statements, and `body`. Then `site`, a place in a
 //! chart, and `before` and `reaction`, which find it; `found`, a stop; `copies` and `replay`, the copies that react to
-//! the events of a run (`fb_sim_machine`'s `Machine`); `find`; `spent`, the steps of a tick. Last `operation` and `statement`,
-//! the operation that has no value; `place`, `shown` and `words`, how a stop is shown. All of this runs only after a
-//! stop.
+//! the events of a run (`fb_sim_machine`'s `Machine`); `find`; `spent`, the steps of a tick. Last `operation` and
+//! `statement`, the operation that has no value; `place`, `shown` and `words`, how a stop is shown. All of this runs only
+//! after a stop.
 #![tactic(auto)]
 
 mod before;

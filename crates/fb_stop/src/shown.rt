@@ -1,10 +1,9 @@
 //! Where the operation of a stop is in the text of the declaration.
 
-ghost use Rattle.std.specs.Prelude.{◌≡◌, ◌≤◌, ◌<◌, ◌-◌, ◌+◌, IfOk, IfSome, drop, length, slice_get, Some};
+ghost use Rattle.std.specs.Prelude.{◌≡◌, ◌<◌, ◌-◌, ◌+◌, IfOk, IfSome, drop, Some};
 ghost use Rattle.fb_read.specs.Located.{AreLocated};
 ghost use Rattle.fb_read.specs.Refusals.{IsNext};
 ghost use Rattle.fb_read.specs.Tokens.{after_mark};
-ghost use Rattle.fb_read.specs.declared.token.Located.{Located as Token};
 ghost use Rattle.fb_stop.specs.Shown as spec;
 ghost use Rattle.fb_stop.specs.Shown.{IsShownAmong, IsStopShown, IsTokenAt};
 

@@ -1,8 +1,8 @@
-//! One call of the program: its words, its files, what it does with them, and how it ends.
+//! One call of the program: its files, what it does with them, and how it ends.
 //!
 //! Guarantees to callers: `command` says for every way in which a call can end: its status, what was read, what was
-//! written, and what was reported of a failure. `fbsim_line` reads the words. `Files` reads the first bytes of a file, at
-//! most as many as are asked for, and standard input once.
+//! written, and what was reported of a failure. `fbsim_line` reads the words. `Files` reads the first bytes of a file,
+//! at most as many as are asked for, and standard input once.
 //!
 //! Read in this order: `sources`, where files come from; `files`, those of the machine; `program`, the call;
 //! `texts`, what is read, with `join`, a declaration in several files, and `own_lines`, how its refusals name a file

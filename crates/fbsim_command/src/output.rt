@@ -1,6 +1,6 @@
 //! Texts that are written, with a count of their bytes where the writer fails.
 
-ghost use Rattle.std.specs.Prelude.{◌≡◌, OnOk, IfErr};
+ghost use Rattle.std.specs.Prelude.{OnOk, IfErr};
 ghost use Rattle.std.specs.Io.KnownBytes.{Appends};
 ghost use Rattle.fbsim_command.specs.Failures.{WritesPart};
 

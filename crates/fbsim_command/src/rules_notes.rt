@@ -1,6 +1,6 @@
 //! What is reported after the line of a call that holds rules against traces and fails: its location.
 
-ghost use Rattle.std.specs.Prelude.{◌≡◌, ℕ, IfOk, IfSome, Some, option_map, string_bytes};
+ghost use Rattle.std.specs.Prelude.{ℕ, IfOk, IfSome, Some, option_map, string_bytes};
 ghost use Rattle.fb_types.specs.Headline.{Inputs};
 ghost use Rattle.fb_expect.specs.declared.location.RuleKey.{RuleKey};
 ghost use Rattle.fb_sim.specs.Serial.{Declares};

@@ -1,5 +1,5 @@
 //! Jobs that are numbers, to be squared by several workers.
-ghost use Rattle.std.specs.Prelude.{◌≡◌, ◌*◌, ◌≤◌};
+ghost use Rattle.std.specs.Prelude.{◌≡◌, ◌*◌};
 
 use fb_board::{Deal, MAX_JOBS, MAX_SEATS};
 use fb_phase::{Crew, Gate, Work, run_all};

@@ -1,6 +1,6 @@
 //! Whether lines and ends belong to a system, which is what may be written.
 
-ghost use Rattle.std.specs.Prelude.{◌↔◌, All, IsTrue};
+ghost use Rattle.std.specs.Prelude.{All, IsTrue};
 ghost use Rattle.fb_system.specs.OfSystem.{BelongsTo};
 ghost use Rattle.fb_trace.specs.OfSystem.{EndsIn};
 

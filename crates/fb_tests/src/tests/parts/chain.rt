@@ -1,6 +1,6 @@
 //! Resources of accepted systems, and the calls on them, each with what the next one asks for.
 
-ghost use Rattle.std.specs.Prelude.{◌≡◌, ◌<◌, ℕ, All, IsTrue, None};
+ghost use Rattle.std.specs.Prelude.{◌≡◌, ◌<◌, All, IsTrue, None};
 ghost use Rattle.fb_types.specs.Reactions.{World};
 ghost use Rattle.fb_types.specs.declared.key.Key.{Key};
 ghost use Rattle.fb_types.specs.OfSystem.{IsResource};

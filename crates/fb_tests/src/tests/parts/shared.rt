@@ -2,7 +2,6 @@
 
 use fb_types::{Boxed, Items, Key, Name, Reference, compare};
 use std::alloc::Global;
-use std::cmp::Ordering;
 use std::mem::ManuallyDrop;
 use std::process::Abort;
 

@@ -1,1 +1,0 @@
--- What follows from what holds of a success.
