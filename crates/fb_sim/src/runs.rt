@@ -29,7 +29,7 @@ use std::thread::{Threads, join_mut};
 use std::time::{Clock, CpuClock};
 
 /// This many bytes are as many as a round with workers frees on one thread, and more.
-const FREED: usize = 4_194_304;
+const FREED: usize = 2_097_152;
 
 /// Lets the C library keep what a round frees for the next one. It gives freed memory back to the system, which clears
 /// each page that it hands out again, unless it is less than twice the largest block that was freed.
