@@ -1,17 +1,17 @@
 #!/usr/bin/env python3
 """tools/documents.py: checks that everything that the documents name exists.
 
-- docs/ARCHITECTURE.md has each crate of crates.txt in one table row, with all its modules. A row for a module such as
+- docs/maintain/ARCHITECTURE.md has each crate of crates.txt in one table row, with all its modules. A row for a module such as
   `fb_check::types` has all modules of that module.
-- docs/PROOFS.md has each crate, except those of tests, in a row for each promise, and names only functions, clauses and definitions
+- docs/maintain/PROOFS.md has each crate, except those of tests, in a row for each promise, and names only functions, clauses and definitions
   that exist.
-- Each block of docs/READING.md is word for word in the file named before it.
-- docs/DEFINITIONS.md has every file of definitions, and names only clauses that its functions have.
+- Each block of docs/maintain/READING.md is word for word in the file named before it.
+- docs/maintain/DEFINITIONS.md has every file of definitions, and names only clauses that its functions have.
 - The example in the comment of a public item is the body of the test that it names.
 - Every function like `fb_sim::run::run` and every file like `docs/FORMATS.md` that a page names exists, and so does every type or
   definition like `HasTaken`. If a page says in which file a definition is, it is there.
 - So does every name like `module::item` in the comments of sources.
-- README.md has at most 1,800 words, each entry of docs/DECISIONS.md at most 80, each row of docs/PROOFS.md at most 100.
+- README.md has at most 1,800 words, each entry of docs/DECISIONS.md at most 80, each row of docs/maintain/PROOFS.md at most 100.
 
 It prints what is wrong and then ends with status 1. ./gate runs it."""
 
@@ -64,8 +64,8 @@ def has_all(page, required, may_repeat=False):
 
 
 def module_faults():
-    """Returns the faults of the modules that docs/ARCHITECTURE.md names for each crate, in the last of three cells."""
-    page, faults = "docs/ARCHITECTURE.md", []
+    """Returns the faults of the modules that docs/maintain/ARCHITECTURE.md names for each crate, in the last of three cells."""
+    page, faults = "docs/maintain/ARCHITECTURE.md", []
     for crate, cells in rows(page):
         folder, _, module = crate.partition("::")
         found = {os.path.basename(it)[:-3] for it in glob.glob(f"{TOP}/crates/{folder}/src/{module}/*.rt")} - {"lib", "tests"}
@@ -84,8 +84,8 @@ def is_item(crate, path):
 
 
 def proof_faults():
-    """Returns the functions, clauses and definitions that docs/PROOFS.md names and that do not exist."""
-    page, faults = "docs/PROOFS.md", []
+    """Returns the functions, clauses and definitions that docs/maintain/PROOFS.md names and that do not exist."""
+    page, faults = "docs/maintain/PROOFS.md", []
     for crate, cells in rows(page):
         code, specs = sources(crate, "src"), sources(crate, "specs") + sources("fb_types", "specs") + sources("fb_check_names", "specs")
         for it in TEXTS.findall(cells[-1]):
@@ -104,8 +104,8 @@ def proof_faults():
 
 
 def definition_faults():
-    """Returns the faults of docs/DEFINITIONS.md, which names each file of definitions with its folder, or only the folder."""
-    page, faults = "docs/DEFINITIONS.md", []
+    """Returns the faults of docs/maintain/DEFINITIONS.md, which names each file of definitions with its folder, or only the folder."""
+    page, faults = "docs/maintain/DEFINITIONS.md", []
     whole, words = text_of(page), set(re.findall(r"\w+", text_of(page)))
     of_modules = [os.path.relpath(it, f"{TOP}/crates") for it in sorted(glob.glob(f"{TOP}/crates/*/specs/*/"))]
     for folder in [*(f"{it}/specs" for it in crates()), *(it for it in of_modules if not it.endswith("/formers"))]:
@@ -175,8 +175,8 @@ def comment_faults():
 
 
 def block_faults():
-    """Returns the blocks of docs/READING.md that are not in the file of crates/ that was named last."""
-    page, named, faults = "docs/READING.md", None, []
+    """Returns the blocks of docs/maintain/READING.md that are not in the file of crates/ that was named last."""
+    page, named, faults = "docs/maintain/READING.md", None, []
     for place, part in enumerate(text_of(page).split("```\n")):
         if place % 2 == 0:
             named = ([it for it in TEXTS.findall(part) if it.startswith("crates/")] or [named])[-1]
@@ -213,22 +213,22 @@ def example_faults():
 
 
 def length_faults():
-    """Returns the faults of README.md, docs/DECISIONS.md and docs/PROOFS.md if they have more words than they may."""
+    """Returns the faults of README.md, docs/DECISIONS.md and docs/maintain/PROOFS.md if they have more words than they may."""
     page, entries = "docs/DECISIONS.md", re.split(r"\n(?=- \*\*|## )", text_of("docs/DECISIONS.md"))
     words = len(text_of("README.md").split())
     faults = [f"README.md: {words} words are more than {MOST_WORDS}"] if words > MOST_WORDS else []
     long = [it for it in entries if it.startswith("- **") and len(it.split()) > MOST_WORDS_OF_AN_ENTRY]
     faults += [f"{page}: {len(it.split())} words are more than {MOST_WORDS_OF_AN_ENTRY}: {it.splitlines()[0]}" for it in long]
-    wide = [it for it in text_of("docs/PROOFS.md").splitlines() if it.startswith("|") and len(it.split()) > MOST_WORDS_OF_A_ROW]
-    return faults + [f"docs/PROOFS.md: {len(it.split())} words are more than {MOST_WORDS_OF_A_ROW}: {it[:60]}" for it in wide]
+    wide = [it for it in text_of("docs/maintain/PROOFS.md").splitlines() if it.startswith("|") and len(it.split()) > MOST_WORDS_OF_A_ROW]
+    return faults + [f"docs/maintain/PROOFS.md: {len(it.split())} words are more than {MOST_WORDS_OF_A_ROW}: {it[:60]}" for it in wide]
 
 
 def main():
     """Checks the documents and returns the status."""
-    pages = ["README.md", "CONTRIBUTING.md", "CHANGELOG.md", *[f"docs/{it}" for it in sorted(os.listdir(f"{TOP}/docs")) if it.endswith(".md")], "bench/README.md", "examples/README.md"]
+    pages = ["README.md", "CONTRIBUTING.md", "CHANGELOG.md", *[f"{folder}/{it}" for folder in ("docs", "docs/maintain", "docs/notes") for it in sorted(os.listdir(f"{TOP}/{folder}")) if it.endswith(".md")], "bench/README.md", "examples/README.md"]
     proved = [it for it in crates() if it != "fbsim" and not it.endswith("_tests")]
-    faults = has_all("docs/ARCHITECTURE.md", crates()) + has_all("docs/PROOFS.md", proved, may_repeat=True)
-    faults += module_faults() + proof_faults() + definition_faults() + clause_faults("docs/DEFINITIONS.md")
+    faults = has_all("docs/maintain/ARCHITECTURE.md", crates()) + has_all("docs/maintain/PROOFS.md", proved, may_repeat=True)
+    faults += module_faults() + proof_faults() + definition_faults() + clause_faults("docs/maintain/DEFINITIONS.md")
     faults += comment_faults() + block_faults() + example_faults() + length_faults()
     places = [it for kind in ("src/**/*.rt", "specs/**/*.antt", "proofs/**/*.antt") for it in glob.glob(f"{TOP}/crates/*/{kind}", recursive=True)]
     known = {word for it in places for word in re.findall(r"[A-Z]\w+", text_of(os.path.relpath(it, TOP)))}

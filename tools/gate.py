@@ -196,7 +196,7 @@ class Times:
         print(row.format(f"all {len(names)} crates", *[f"{it:.0f}" for it in sums], most))
         for name in names:
             if (name, "alone") in found:
-                print(f"{name}: {found[name, 'alone']:.0f} s of them for edits that were tried alone (docs/PROOF_COST.md)")
+                print(f"{name}: {found[name, 'alone']:.0f} s of them for edits that were tried alone (docs/notes/PROOF_COST.md)")
         used, minutes = used_by_children() / 60, (time.time() - self.start) / 60
         print(f"{used:.0f} processor minutes in {minutes:.0f} minutes on {rt.processors()} processors", flush=True)
 
