@@ -10,7 +10,7 @@ Without a crate it is the whole gate. In order:
   tools/must_fail_test.py)
 - proofs, from scratch: every crate and its tests are proved, and every wrong implementation in crates/*/must-fail is refused
 - tests and programs
-- calls of the program: each status (tools/calls.py), the commands of docs/FIRST_APPLICATION.md (tools/first_application.py),
+- calls of the program: each status (tools/calls.py), the commands that pages of docs/ show (tools/pages.py),
   ./simulate (tools/launcher.py), waveforms of the examples (tools/waves.py), graphs of declarations (tools/graphs.py), what
   happens inside traces (tools/insides.py), waveforms with it (tools/state_waves.py), texts that are no traces (tools/traces.py), the stored
   cases of cases/ (tools/cases.py), rings of resources (tools/rings.py), random systems (tools/drawn.py), random types
@@ -48,13 +48,13 @@ import drawn_types
 import editors
 import expected
 import explained
-import first_application
 import graphs
 import hostile
 import insides
 import interpreter
 import launcher
 import narrow
+import pages
 import refuse
 import rings
 import state_waves
@@ -213,7 +213,7 @@ def call_after_each_run():
     run = rt.run
 
     def tries(made):
-        yield first_application.main(made) == 0
+        yield pages.main(made) == 0
         yield launcher.main(made) == 0
         yield waves.make_all(made)
         yield graphs.make_all(made)
@@ -330,8 +330,8 @@ def main(words):
     if any(it.startswith("-") for it in words):
         print(__doc__, file=sys.stderr)
         return 2
-    pages = explained.main([]) or documents.main() or bottling.main() or interpreter.main([]) or editors.main()
-    if subprocess.run(["examples/check"]).returncode or pages or cases_test.main():
+    failed = explained.main([]) or documents.main() or bottling.main() or interpreter.main([]) or editors.main()
+    if subprocess.run(["examples/check"]).returncode or failed or cases_test.main():
         print("0 passed, 1 failed")
         return 1
     with tempfile.TemporaryDirectory(prefix="gate-") as room:

@@ -77,6 +77,10 @@ class Room:
 
     def call(self, words, given=b"", settings=(), seconds=SECONDS):
         """Calls the program with these arguments, with settings NAME=VALUE in its environment, and returns the process that has ended."""
+        return self.run([self.program, *words], given, settings, seconds)
+
+    def run(self, command, given=b"", settings=(), seconds=SECONDS):
+        """Runs any command in the folder as `call` does the program."""
         try:
             lane = self.idle.get_nowait()
         except queue.Empty:
@@ -84,7 +88,7 @@ class Room:
             self.lanes.append(lane)
         try:
             settings = dict(it.split("=", 1) for it in settings)
-            return lane.call([self.program, *words], settings, {"input": given, "cwd": self.folder, "timeout": seconds})
+            return lane.call(command, settings, {"input": given, "cwd": self.folder, "timeout": seconds})
         finally:
             self.idle.put(lane)
 
