@@ -3,8 +3,8 @@
 
 The tokens of all examples, and of texts with literals and comments at their limits, are coloured by Vim itself (`vim -es`) and by the
 TextMate grammar. For that grammar this has its own reader, which matches with Python's `re`, and also with Oniguruma, as VS Code does:
-the grammar uses only what both know. Vim and Oniguruma are left out if they are not on the machine. ./gate runs this before anything
-is built."""
+the grammar uses only what both know. A machine without Vim or Oniguruma is a fault: tools/system_packages.py installs both. ./gate runs
+this before anything is built."""
 
 import ctypes
 import ctypes.util
@@ -12,13 +12,13 @@ import glob
 import json
 import os
 import re
-import shutil
 import subprocess
 import sys
 import tempfile
 
 from declaration import TOKEN
 from interpreter import BLOCKS, TOP, content
+from system_packages import lacks
 
 GRAMMAR = f"{TOP}/editors/vscode/syntaxes/fbsim.tmLanguage.json"
 VIM = f"{TOP}/editors/vim"
@@ -197,13 +197,17 @@ def differences(name, editor, text, due, colours):
 
 def main():
     """Checks all texts and returns the status."""
-    grammar, given = json.loads(content(GRAMMAR)), [*texts()]
-    ways = {"TextMate by Python's re": lambda text: textmate(Expressions, grammar, text)}
-    if name := ctypes.util.find_library("onig"):
-        onig = Oniguruma(name)
-        ways["TextMate by Oniguruma"] = lambda text: textmate(onig, grammar, text)
-    if shutil.which("vim"):
-        ways["Vim"] = vim
+    library = ctypes.util.find_library("onig")
+    if not library:
+        print("Oniguruma is missing: install the system package libonig5 (tools/system_packages.py)")
+    if lacks("vim", "vim") or not library:
+        return 1
+    grammar, onig, given = json.loads(content(GRAMMAR)), Oniguruma(library), [*texts()]
+    ways = {
+        "TextMate by Python's re": lambda text: textmate(Expressions, grammar, text),
+        "TextMate by Oniguruma": lambda text: textmate(onig, grammar, text),
+        "Vim": vim,
+    }
     faults = [fault for place, text, due in given for editor, way in ways.items() for fault in differences(place, editor, text, due, way(text))]
     for it in faults:
         print(f"editors: {it}", file=sys.stderr)

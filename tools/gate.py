@@ -1,7 +1,8 @@
 #!/usr/bin/env python3
 """./gate [--jobs N] [CRATE..]: the test command and merge gate of this repository.
 
-Without a crate it is the whole gate. In order:
+First it installs the system packages of tools/system_packages.txt that are missing, or prints the command for it and ends
+(tools/system_packages.py). Without a crate it is the whole gate. In order:
 
 - pages: each example's page explains its trace, docs/FORMATS.md shows the explanations of the refusals, and what the documents name
   exists (tools/documents.py); the traces of the examples are those of a second simulator (tools/interpreter.py) and keep the rules of
@@ -59,6 +60,7 @@ import refuse
 import rings
 import state_waves
 import stops
+import system_packages
 import traces
 import waves
 import wide
@@ -330,6 +332,9 @@ def main(words):
     if any(it.startswith("-") for it in words):
         print(__doc__, file=sys.stderr)
         return 2
+    if not system_packages.set_up():
+        print("0 passed, 1 failed")
+        return 1
     failed = explained.main([]) or documents.main() or bottling.main() or interpreter.main([]) or editors.main()
     if subprocess.run(["examples/check"]).returncode or failed or cases_test.main():
         print("0 passed, 1 failed")

@@ -6,14 +6,12 @@ program draws the application and each declared type. Each instance, connection,
 in its graph once, and nothing else: names, ends, conditions, actions, resources and latencies are compared with those read here.
 graphviz must accept each graph without a warning, and find the same numbers of nodes, edges and clusters in it.
 
-If `dot` is missing, this installs the package graphviz of the system. If that fails, the graphs are read by this tool alone: the last
-line says so, and the status 0 is for the comparisons that were made. ./gate installs nothing."""
+A machine without `dot` is a fault: tools/system_packages.py installs the package graphviz."""
 
 import glob
 import json
 import os
 import re
-import shutil
 import subprocess
 import sys
 import tomllib
@@ -24,9 +22,9 @@ from drawn_types import Writer
 from interpreter import event_block
 from kit import TOP
 from program import Room
+from system_packages import lacks
 
 PROGRAM = f"{TOP}/crates/fbsim/out/fbsim"
-PACKAGE = "graphviz"
 RANDOM = 25
 
 OWN = b"""FUNCTION_BLOCK CHART
@@ -243,7 +241,7 @@ def drawn(room, declaration, plan, kind=None):
     return ran.stdout.decode("ascii")
 
 
-def faults_of(room, declaration, plan, with_graphviz):
+def faults_of(room, declaration, plan):
     """What is wrong with the graphs of a declaration, and their number."""
     types, application = Reader(declaration.decode("utf-8-sig")).library()
     table = tomllib.loads(plan.decode()) if plan else None
@@ -259,7 +257,7 @@ def faults_of(room, declaration, plan, with_graphviz):
         except (ValueError, AttributeError) as fault:
             found.append(f"{name or 'application'}: {fault}")
             continue
-        wrong = [*look(graph), *(faults_by_graphviz(text, graph) if with_graphviz else ())]
+        wrong = [*look(graph), *faults_by_graphviz(text, graph)]
         if name and graph.name != name:
             wrong.append(f"is called {graph.name}")
         found += [f"{name or 'application'}: {it}" for it in wrong]
@@ -268,33 +266,23 @@ def faults_of(room, declaration, plan, with_graphviz):
 
 def make_all(program, says=print):
     """Compares all graphs, and returns whether all agree with the declarations."""
-    with_graphviz = shutil.which("dot") is not None
+    if lacks("dot", "graphviz"):
+        return False
     wrong, count = [], 0
     with Room(program) as room:
         for name, declaration, plan in cases():
-            found, graphs = faults_of(room, declaration, plan, with_graphviz)
+            found, graphs = faults_of(room, declaration, plan)
             wrong += [f"{name}: {it}" for it in found]
             count += graphs
     for it in wrong:
         says(f"graphs: {it}")
-    by = "read by this tool and by graphviz" if with_graphviz else "read by this tool alone: graphviz is not installed"
-    says(f"graphs: {len(wrong)} faults in {count} graphs, {by}", flush=True)
+    says(f"graphs: {len(wrong)} faults in {count} graphs, read by this tool and by graphviz", flush=True)
     return not wrong
-
-
-def install():
-    """Installs graphviz from the packages of the system."""
-    get = ["apt-get", "install", "-y", PACKAGE]
-    for words in (get, ["apt-get", "update"], get):
-        if shutil.which("dot") or not shutil.which("apt-get"):
-            return
-        subprocess.run(words, stdout=subprocess.DEVNULL, stderr=subprocess.DEVNULL, stdin=subprocess.DEVNULL)
 
 
 def main(program=PROGRAM):
     if not os.path.exists(program):
         sys.exit(f"{program} is not built: ./simulate builds it")
-    install()
     return 0 if make_all(program) else 1
 
 

@@ -7,8 +7,7 @@ alone. What its dump has of the inside of blocks is to be that, to the byte, at 
 it are to be in the scopes of the blocks. Without these lines the dump is to be the one that `wave` makes. `--steps` is given where the
 trace stops for its steps, and where it must not matter. Of traces in which one emission was changed or left out, the program is to
 refuse the first line that shows it. Of each trace several fronts are given with `--cut`, and what changes inside blocks is to be that of
-the events whose lines are all there. Where GTKWave's own reader is on this machine, it must find the same states and values in the dump
-as tools/vcd.py."""
+the events whose lines are all there. GTKWave's own reader must find the same states and values in the dump as tools/vcd.py."""
 
 import os
 import re
@@ -132,7 +131,7 @@ def cut_faults(room, system, words, limit, trace):
         yield from (f"{len(front)} bytes: {it}" for it in found)
 
 
-def faults_of(room, number, case, with_gtkwave):
+def faults_of(room, number, case):
     """What is wrong with the dumps of a case."""
     name, declaration, plan, stimuli, horizon, steps = case
     wrong = []
@@ -154,8 +153,7 @@ def faults_of(room, number, case, with_gtkwave):
             continue
         wrong += [f"{place}: {it}" for it in faults_of_dump(system, len(system.lines), dump.stdout.decode(), plain.stdout.decode())]
         wrong += [f"{place}, cut: {it}" for it in cut_faults(room, system, words, limit, trace)]
-        if with_gtkwave:
-            wrong += [f"{place}: {it}" for it in faults_by_gtkwave(dump.stdout.decode())]
+        wrong += [f"{place}: {it}" for it in faults_by_gtkwave(dump.stdout.decode())]
         for text, line in insides.spoiled(system, trace):
             ran = room.call([*stated, "-"], text.encode())
             if (ran.returncode, ran.stderr) != (2, f"refused trace line {line}\n".encode()):
@@ -165,9 +163,11 @@ def faults_of(room, number, case, with_gtkwave):
 
 def make_all(program):
     """Returns whether each dump is as it is to be."""
-    cases, with_gtkwave = [*insides.examples(), *insides.systems()], waves.have_readers()
+    if waves.lacks_gtkwave():
+        return False
+    cases = [*insides.examples(), *insides.systems()]
     with Room(program) as room:
-        wrong = [it for found in side_by_side(lambda it: faults_of(room, *it, with_gtkwave), [*enumerate(cases)]) for it in found]
+        wrong = [it for found in side_by_side(lambda it: faults_of(room, *it), [*enumerate(cases)]) for it in found]
     print("\n".join(wrong[:SHOWN]), end="\n" * bool(wrong))
     print(f"state_waves: {len(wrong)} faults in the dumps of {len(cases)} systems", flush=True)
     return not wrong

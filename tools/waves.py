@@ -11,14 +11,11 @@ and fst2vcd prints the contents of the database. Both are compared with the trac
   declaration;
 - the last time is that of the last line, and a stop has its comment.
 
-If vcd2fst is missing, this installs the system's package gtkwave. If that fails, for example without a network, it says so, and only
-tools/vcd.py reads the dumps. Then status 0 means that these comparisons succeeded, and the last line says that GTKWave's reader read
-nothing. ./gate installs nothing."""
+A machine without vcd2fst is a fault: tools/system_packages.py installs the package gtkwave."""
 
 import glob
 import os
 import re
-import shutil
 import subprocess
 import sys
 import tempfile
@@ -30,10 +27,9 @@ import interpreter
 import vcd
 from kit import TOP
 from program import Room
+from system_packages import lacks
 
 PROGRAM = f"{TOP}/crates/fbsim/out/fbsim"
-READERS = ("vcd2fst", "fst2vcd")
-PACKAGE = "gtkwave"
 BITS = 64
 COUNT = "_count"
 
@@ -275,61 +271,51 @@ def dump_of(room, case, trace):
     return ran.stdout
 
 
-def faults_of(room, case, with_gtkwave):
+def faults_of(room, case):
     """What is wrong with the dumps of a case."""
     try:
         first, *others = [dump_of(room, case, trace) for trace in case.forms]
     except vcd.Fault as fault:
         return [str(fault)]
     found = ["the dumps of the two forms differ"] if any(it != first for it in others) else []
-    return found + faults(case, first, with_gtkwave)
+    return found + faults(case, first, True)
 
 
-def unseen(room, case, with_gtkwave):
+def unseen(room, case):
     """The changes of a dump that can be removed, or moved to twice their time, without a fault here. There must be none."""
     lines = dump_of(room, case, case.forms[0]).splitlines(keepends=True)
     for place in range(lines.index(b"$end\n") + 1, len(lines)):
         if not faults(case, b"".join(lines[:place] + lines[place + 1 :]), False):
             yield f"that the line {lines[place].decode().strip()} is gone is not seen"
-    if with_gtkwave:
-        late = re.sub(rb"^#5$", b"#4", b"".join(lines), flags=re.M)
-        if not any(it.startswith("by GTKWave") for it in faults(case, late, True)):
-            yield "that GTKWave reads another time is not seen"
+    late = re.sub(rb"^#5$", b"#4", b"".join(lines), flags=re.M)
+    if not any(it.startswith("by GTKWave") for it in faults(case, late, True)):
+        yield "that GTKWave reads another time is not seen"
 
 
-def have_readers():
-    return all(shutil.which(it) for it in READERS)
+def lacks_gtkwave():
+    """Whether GTKWave's reader is missing. Then this prints the package that has it."""
+    return lacks("vcd2fst", "gtkwave") or lacks("fst2vcd", "gtkwave")
 
 
 def make_all(program, says=print):
-    """Compares the dumps of all cases, with GTKWave's reader too if it is on this machine. Returns whether all agree with the traces."""
-    with_gtkwave = have_readers()
+    """Compares the dumps of all cases. Returns whether all agree with the traces."""
+    if lacks_gtkwave():
+        return False
     with Room(program) as room:
         made, wrong = cases(room)
         for case in made:
-            wrong += [f"{case.name}: {it}" for it in faults_of(room, case, with_gtkwave)]
+            wrong += [f"{case.name}: {it}" for it in faults_of(room, case)]
         if not wrong:
-            wrong = [*unseen(room, next(it for it in made if it.name == "switch"), with_gtkwave)]
+            wrong = [*unseen(room, next(it for it in made if it.name == "switch"))]
     for it in wrong:
         says(f"waves: {it}")
-    by = "read by GTKWave's vcd2fst and by tools/vcd.py" if with_gtkwave else "read by tools/vcd.py alone: GTKWave's vcd2fst is not here, and read nothing"
-    says(f"waves: {len(wrong)} faults in the dumps of {len(made)} traces, {by}", flush=True)
+    says(f"waves: {len(wrong)} faults in the dumps of {len(made)} traces, read by GTKWave's vcd2fst and by tools/vcd.py", flush=True)
     return not wrong
-
-
-def install():
-    """Installs GTKWave from the packages of the system."""
-    get = ["apt-get", "install", "-y", PACKAGE]
-    for words in (get, ["apt-get", "update"], get):
-        if have_readers() or not shutil.which("apt-get"):
-            return
-        subprocess.run(words, stdout=subprocess.DEVNULL, stderr=subprocess.DEVNULL, stdin=subprocess.DEVNULL)
 
 
 def main(program=PROGRAM):
     if not os.path.exists(program):
         sys.exit(f"{program} is not built: ./simulate builds it")
-    install()
     return 0 if make_all(program) else 1
 
 
