@@ -1,8 +1,8 @@
 #!/usr/bin/env python3
 """tools/documents.py: checks that everything that the documents name exists.
 
-- docs/maintain/ARCHITECTURE.md has each crate of crates.txt in one table row, with all its modules. A row for a module such as
-  `fb_check::types` has all modules of that module.
+- docs/maintain/ARCHITECTURE.md has each crate of crates.txt in one table row.
+- The comment at the head of each crate's src/lib.rt, or of the file that has them, names all modules after "Read in this order".
 - docs/maintain/PROOFS.md has each crate, except those of tests, in a row for each promise, and names only functions, clauses and definitions
   that exist.
 - Each block of docs/maintain/READING.md is word for word in the file named before it.
@@ -63,16 +63,24 @@ def has_all(page, required, may_repeat=False):
     return [f"{page}: {it} is in {named.count(it)} rows" for it in sorted(counts) if counts[it] != (it in required)]
 
 
+def reading_order(text):
+    """Returns what the comment at the head of a source names after "Read in this order", with `..` at the beginning of an ending."""
+    head = "\n".join(re.findall(r"(?m)^//! ?(.*)$", text))
+    return set(re.findall(r"`((?:\.\.)?\w+)`", head.partition("Read in this order")[2]))
+
+
 def module_faults():
-    """Returns the faults of the modules that docs/maintain/ARCHITECTURE.md names for each crate, in the last of three cells."""
-    page, faults = "docs/maintain/ARCHITECTURE.md", []
-    for crate, cells in rows(page):
-        folder, _, module = crate.partition("::")
-        found = {os.path.basename(it)[:-3] for it in glob.glob(f"{TOP}/crates/{folder}/src/{module}/*.rt")} - {"lib", "tests"}
-        # (a definition's file is named with its folder)
-        named = {it for it in TEXTS.findall(cells[-1]) if "/" not in it} if len(cells) == 3 else found
-        faults += [f"{page}: {crate}: {it} is named and does not exist" for it in sorted(named - found)]
-        faults += [f"{page}: {crate}: {it} exists and is not named" for it in sorted(found - named)]
+    """Returns the modules that neither the file that has them nor src/lib.rt of their crate names in its reading order."""
+    faults = []
+    for crate in crates():
+        places = sorted(glob.glob(f"{TOP}/crates/{crate}/src/**/*.rt", recursive=True))
+        texts = {here: text_of(here) for it in places if "/tests" not in (here := os.path.relpath(it, TOP))}
+        root = reading_order(texts.get(f"crates/{crate}/src/lib.rt", ""))
+        for here, text in texts.items():
+            named = root | reading_order(text)
+            modules = {*re.findall(r"(?m)^(?:pub(?:\(crate\))? )?mod (\w+);", text)} - {"tests"}
+            lacking = [it for it in sorted(modules - named) if not any(end[:2] == ".." and it.endswith(end[2:]) for end in named)]
+            faults += [f"{here}: {it} is not named after \"Read in this order\"" for it in lacking]
     return faults
 
 
