@@ -47,7 +47,7 @@ def sources(place, kind):
 
 
 def crates():
-    return [line.split(":")[0].split()[0] for line in text_of("crates.txt").splitlines() if ":" in line]
+    return [it.split(":")[0].split()[0] for it in text_of("crates.txt").splitlines() if ":" in it and not it.startswith("#")]
 
 
 def rows(page):

@@ -12,8 +12,8 @@ use Rattle.fb_types.specs.declared.library.EventPort.{EventPort}
 use Rattle.fb_types.specs.declared.library.Ports.{Ports}
 use Rattle.fb_types.specs.declared.library.State.{State}
 use Rattle.fb_types.specs.declared.library.Transition.{Transition}
-use Rattle.fb_draw.specs.Charts.{condition_text}
-use Rattle.fb_draw.specs.Pieces.{joined}
+use Rattle.fb_text.specs.Conditions.{condition_text}
+use Rattle.fb_text.specs.Pieces.{joined}
 use Rattle.fb_coverage.specs.Openings.{basic_of}
 use Rattle.fb_coverage.specs.Shares.{none_counted, share_text, with_rows}
 use Rattle.fb_coverage.specs.Tables.{is_set, row_of}

@@ -7,7 +7,7 @@ ghost use Rattle.fb_coverage.specs.Tables.{row_of};
 
 use crate::marks::Marks;
 use crate::table::is_set;
-use fb_draw::{put_all, put_condition};
+use fb_text::{put_all, put_condition};
 use fb_types::{Algorithm, BasicType, BlockType, EventPort, Name, State, Transition};
 use std::alloc::{AllocError, Global};
 

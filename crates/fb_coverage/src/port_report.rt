@@ -55,6 +55,7 @@ pub(crate) fn put_instances(
 ) -> Result<(), AllocError>
     ensures { OnOk result (text.new.items ≡ text.old.items ++ instances_text system.now marks.now) }
 {
+    // for the prover: what holds of every accepted system
     system.facts();
     for instance in 0..system.count() {
         let number = instance as u32;

@@ -4,7 +4,7 @@ ghost use Rattle.std.specs.Prelude.{◌≡◌, ◌+◌, ◌++◌, OnOk, length};
 ghost use Rattle.fb_coverage.specs.Shares as spec;
 
 use crate::table::Table;
-use fb_draw::{put_all, put_number};
+use fb_text::{put_all, put_number};
 use std::alloc::{AllocError, Global};
 
 /// How many of how many are covered, each up to the greatest `u64`.

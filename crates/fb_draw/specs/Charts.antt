@@ -6,9 +6,9 @@ use Rattle.fb_types.specs.declared.library.Action.{Action}
 use Rattle.fb_types.specs.declared.library.State.{State}
 use Rattle.fb_types.specs.declared.library.Transition.{Transition}
 use Rattle.fb_types.specs.declared.library.BasicType.{BasicType}
-use Rattle.fb_types.specs.declared.text.Expr.{Expr}
-use Rattle.fb_draw.specs.Pieces.{joined, head, foot}
-use Rattle.fb_draw.specs.Expressions.{expression_text}
+use Rattle.fb_text.specs.Conditions.{condition_text}
+use Rattle.fb_text.specs.Pieces.{joined}
+use Rattle.fb_draw.specs.Dot.{head, foot}
 
 -- ---- States
 
@@ -30,16 +30,6 @@ state_nodes [] = []
 state_nodes (s ∷ ss) = state_node (codes "peripheries=2, ") s ++ flat_map (state_node []) ss
 
 -- ---- Transitions
-
-abbrev pub guard_text : Expr → List ℕ
-guard_text g = codes "[" ++ expression_text g ++ codes "]"
-
--- a condition as it is written
-abbrev pub condition_text : Option Name → Option Expr → List ℕ
-condition_text None None = codes "1"
-condition_text (Some e) None = e
-condition_text None (Some g) = guard_text g
-condition_text (Some e) (Some g) = e ++ codes " " ++ guard_text g
 
 abbrev pub transition_edge : Transition → List ℕ
 transition_edge t =

@@ -1,5 +1,4 @@
-pub mod Pieces
-pub mod Expressions
+pub mod Dot
 pub mod Charts
 pub mod Networks
 pub mod Resources

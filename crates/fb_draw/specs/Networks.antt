@@ -15,7 +15,8 @@ use Rattle.fb_types.specs.declared.library.Parameter.{Parameter}
 use Rattle.fb_types.specs.declared.library.PortName.{PortName}
 use Rattle.fb_types.specs.declared.library.Ports.{Ports}
 use Rattle.fb_types.specs.declared.library.Variable.{Variable}
-use Rattle.fb_draw.specs.Pieces.{joined, head, foot}
+use Rattle.fb_text.specs.Pieces.{joined}
+use Rattle.fb_draw.specs.Dot.{head, foot}
 
 -- ---- Ports
 

@@ -8,7 +8,8 @@ use Rattle.fb_types.specs.declared.deploy.ResourceEntry.{ResourceEntry}
 use Rattle.fb_types.specs.declared.latency.Entry.{Entry}
 use Rattle.fb_types.specs.declared.library.Instance.{Instance}
 use Rattle.fb_types.specs.declared.library.Library.{Library}
-use Rattle.fb_draw.specs.Pieces.{joined, head, foot}
+use Rattle.fb_text.specs.Pieces.{joined}
+use Rattle.fb_draw.specs.Dot.{head, foot}
 use Rattle.fb_draw.specs.Networks.{network_text}
 
 -- ---- Resources

@@ -4,7 +4,7 @@ ghost use Rattle.std.specs.Prelude.{◌≡◌, ◌++◌, OnOk};
 ghost use Rattle.std.specs.List.{flat_map};
 ghost use Rattle.fb_draw.specs.Networks as spec;
 
-use crate::pieces::{put_all, put_value};
+use fb_text::{put_all, put_value};
 use fb_types::{EventPort, Instance, Name, Parameter, Ports, Variable};
 use std::alloc::{AllocError, Global};
 

@@ -4,9 +4,9 @@ ghost use Rattle.std.specs.Prelude.{◌≡◌, ◌++◌, [], OnOk};
 ghost use Rattle.std.specs.List.{flat_map};
 ghost use Rattle.fb_draw.specs.Charts as spec;
 
-use crate::expression::put_expression;
-use crate::pieces::{put_all, put_foot, put_head};
-use fb_types::{Action, BasicType, Condition, Expr, Name, State, Transition};
+use crate::dot::{put_foot, put_head};
+use fb_text::{put_all, put_condition};
+use fb_types::{Action, BasicType, Name, State, Transition};
 use std::alloc::{AllocError, Global};
 
 /// Adds the event that an action emits, if it emits one.
@@ -72,34 +72,6 @@ fn put_states(text: &mut Vec<u8>, states: &[State]) -> Result<(), AllocError>
     };
     put_state(text, b"peripheries=2, ", initial)?;
     put_other_states(text, others)
-}
-
-/// Adds a guard in brackets.
-fn put_guard(alloc: Global, text: &mut Vec<u8>, guard: &Expr) -> Result<(), AllocError>
-    ensures { OnOk result (text.new.items ≡ text.old.items ++ spec.guard_text guard.now) }
-{
-    text.extend_from_slice(b"[")?;
-    put_expression(alloc, text, guard)?;
-    text.extend_from_slice(b"]")
-}
-
-/// Adds the condition of a transition, as it was written.
-pub fn put_condition(
-    alloc: Global,
-    text: &mut Vec<u8>,
-    condition: &Condition,
-) -> Result<(), AllocError>
-    ensures { OnOk result (text.new.items ≡ text.old.items ++ spec.condition_text condition.now.event condition.now.guard) }
-{
-    match (&condition.event, &condition.guard) {
-        (None, None) => text.extend_from_slice(b"1"),
-        (Some(event), None) => text.extend_from_slice(event.as_bytes()),
-        (None, Some(guard)) => put_guard(alloc, text, guard),
-        (Some(event), Some(guard)) => {
-            put_all(text, &[event.as_bytes(), b" "])?;
-            put_guard(alloc, text, guard)
-        }
-    }
 }
 
 /// Adds the edge of a transition.

@@ -4,7 +4,7 @@ ghost use Rattle.std.specs.Prelude.{◌≡◌, ◌++◌, OnOk, unwrap_or};
 ghost use Rattle.std.specs.List.{flat_map};
 ghost use Rattle.fb_draw.specs.Networks as spec;
 
-use crate::pieces::put_all;
+use fb_text::put_all;
 use fb_types::{Connection, PortName};
 use std::alloc::AllocError;
 

@@ -4,20 +4,16 @@
 //! deployment. Each instance, connection, link, state and transition is in it once, in the order of the texts.
 //!
 //! Read in this order: `graph`, the entry; `resource`, `network`, `block` and `connection`, the application and
-//! composite types; `chart`, basic types, with `expression`; `pieces`, and `keywords`, which messages use too.
+//! composite types; `chart`, basic types; `dot`, where a graph begins and ends.
 #![tactic(auto)]
 
 mod block;
-pub mod chart;
+mod chart;
 mod connection;
-mod expression;
+mod dot;
 pub mod graph;
-mod keywords;
 mod network;
-pub mod pieces;
 mod resource;
 
-pub use chart::put_condition;
 pub use graph::draw;
-pub use keywords::type_words;
-pub use pieces::{put_all, put_number, put_value};
+pub use fb_text::type_words;

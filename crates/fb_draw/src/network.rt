@@ -9,7 +9,7 @@ ghost use Rattle.fb_draw.specs.Networks as spec;
 
 use crate::block::{put_block, put_sides};
 use crate::connection::put_edges;
-use crate::pieces::{put_foot, put_head};
+use crate::dot::{put_foot, put_head};
 use fb_types::{
     BlockType, CompositeType, Instance, Library, Name, Network, block_named, kind_named, ports_of,
 };

@@ -4,8 +4,9 @@ ghost use Rattle.std.specs.Prelude.{◌≡◌, ◌++◌, OnOk};
 ghost use Rattle.std.specs.List.{flat_map};
 ghost use Rattle.fb_draw.specs.Resources as spec;
 
+use crate::dot::{put_foot, put_head};
 use crate::network::put_network;
-use crate::pieces::{put_all, put_foot, put_head, put_number};
+use fb_text::{put_all, put_number};
 use fb_types::{Entry, Instance, Library, Link, Name, Plan, ResourceEntry};
 use std::alloc::{AllocError, Global};
 

@@ -25,7 +25,7 @@ use Rattle.fb_coverage.specs.declared.marks.ChartMarks.{ChartMarks}
 use Rattle.fb_coverage.specs.declared.marks.Marks.{Marks}
 use Rattle.fb_coverage.specs.declared.marks.PortMarks.{PortMarks}
 use Rattle.fb_coverage.specs.declared.table.Table.{Table}
-use Rattle.fb_coverage.proofs.Added.{adds_both, adds_by, adds_none, adds_one}
+use Rattle.fb_coverage.proofs.lemmas.Added.{adds_both, adds_by, adds_none, adds_one}
 use Rattle.fb_inspect.specs.Chains.{Piece, Clears_by, Is_lost, Ran, Stops_by, Has, Emits}
 use Rattle.fb_inspect.specs.Happenings.{AreMarkedBy, Clears, ClearsSome, ClearsTransition, Does, Enters, EntersState, Happens, History, IsAtPort, IsOfPort, KeepsEvent, MarkCharts, MarkPorts, Runs, RunsAlgorithm, TakesEvent, together}
 use Rattle.fb_inspect.specs.Looks.{Taking}

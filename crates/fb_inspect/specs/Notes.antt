@@ -9,8 +9,8 @@ use Rattle.fb_types.specs.declared.library.BasicType.{BasicType}
 use Rattle.fb_types.specs.declared.library.Transition.{Transition}
 use Rattle.fb_types.specs.declared.value.Reason.{Reason}
 use Rattle.fb_types.specs.declared.value.Value.{Value}
-use Rattle.fb_draw.specs.Charts.{condition_text}
-use Rattle.fb_draw.specs.Pieces.{joined}
+use Rattle.fb_text.specs.Conditions.{condition_text}
+use Rattle.fb_text.specs.Pieces.{joined}
 
 -- the end of a line
 abbrev pub ended : List ℕ

@@ -4,7 +4,7 @@ use crate::fault_names::events_of;
 use crate::fault_text::LineText;
 use crate::fault_values::variables_of;
 use crate::line_fault::{LineFault, PortFault, ValueFault};
-use fb_draw::type_words;
+use fb_text::type_words;
 use fb_system::System;
 use fb_trace::Outcome;
 use fb_types::Variable;

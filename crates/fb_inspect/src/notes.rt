@@ -8,7 +8,7 @@ ghost use Rattle.fb_st.specs.Frames.{values_of};
 ghost use Rattle.fb_inspect.specs.Inspections.{cut_note};
 ghost use Rattle.fb_inspect.specs.Notes as spec;
 
-use fb_draw::{put_all, put_condition, put_number, put_value};
+use fb_text::{put_all, put_condition, put_number, put_value};
 use fb_event::EventMemory;
 use fb_st::Frame;
 use fb_types::{Name, Reason, Reference, Transition, Value};

@@ -1,6 +1,6 @@
 use Rattle.std.proofs.Common.{Bool, ◌++◌, ◌∙◌, ap, codes}
 use Rattle.fb_coverage.specs.Reports as spec
-use Rattle.fb_coverage.proofs.Listed.{listed_next}
+use Rattle.fb_coverage.proofs.lemmas.Listed.{listed_next}
 use Rattle.fb_coverage.proofs.block_report.put_states.Goals as goal
 
 pub loop-index-preserved : goal.loop-index-preserved

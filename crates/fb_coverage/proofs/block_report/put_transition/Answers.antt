@@ -1,7 +1,7 @@
 use Rattle.std.proofs.Common.{ℕ, List, [], ◌∷◌, ◌++◌, ◌∙◌, ap, codes}
-use Rattle.fb_draw.specs.Charts.{condition_text}
-use Rattle.fb_draw.specs.Pieces.{joined}
-use Rattle.fb_draw.proofs.Adding.{put_three}
+use Rattle.fb_text.specs.Conditions.{condition_text}
+use Rattle.fb_text.specs.Pieces.{joined}
+use Rattle.fb_text.proofs.lemmas.Adding.{put_three}
 use Rattle.fb_coverage.proofs.block_report.put_transition.Goals as goal
 
 abbrev head : (from to : List ℕ) → List ℕ

@@ -9,7 +9,7 @@ use Rattle.fb_types.specs.declared.library.BasicType.{BasicType}
 use Rattle.fb_coverage.specs.Openings.{basic_of}
 use Rattle.fb_coverage.specs.Reports.{instance_text, others_text, ports_text, titled}
 use Rattle.fb_coverage.specs.declared.marks.Marks.{Marks}
-use Rattle.fb_coverage.proofs.Listed.{here_is, listed_next}
+use Rattle.fb_coverage.proofs.lemmas.Listed.{here_is, listed_next}
 use Rattle.fb_coverage.proofs.port_report.put_instances.Goals as goal
 
 -- a basic block has no text of its own

@@ -1,6 +1,6 @@
 use Rattle.std.proofs.Common.{codes}
 use Rattle.fb_coverage.specs.Shares.{none_counted, share_text, with_rows}
-use Rattle.fb_coverage.proofs.Listed.{put_six}
+use Rattle.fb_coverage.proofs.lemmas.Listed.{put_six}
 use Rattle.fb_coverage.proofs.report.put_counts.Goals as goal
 
 pub returns : goal.returns

@@ -1,6 +1,6 @@
 use Rattle.fb_types.specs.declared.library.Variable.{Variable}
 use Rattle.fb_draw.specs.Networks as spec
-use Rattle.fb_draw.proofs.Adding.{list_added, next_added}
+use Rattle.fb_text.proofs.lemmas.Adding.{list_added, next_added}
 use Rattle.fb_draw.proofs.block.put_next_variables.Goals as goal
 
 pub loop-variable-preserved : goal.loop-variable-preserved

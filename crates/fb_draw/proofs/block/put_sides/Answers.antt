@@ -1,6 +1,6 @@
 use Rattle.std.proofs.Common.{◌∙◌, ◌++◌, codes}
 use Rattle.fb_draw.specs.Networks as spec
-use Rattle.fb_draw.proofs.Adding.{put_as, put_two}
+use Rattle.fb_text.proofs.lemmas.Adding.{put_as, put_two}
 use Rattle.fb_draw.proofs.block.put_sides.Goals as goal
 
 pub returns : goal.returns

@@ -1,6 +1,6 @@
 use Rattle.std.specs.Prelude.{[]}
 use Rattle.fb_draw.specs.Charts as spec
-use Rattle.fb_draw.proofs.Adding.{list_added, next_added}
+use Rattle.fb_text.proofs.lemmas.Adding.{list_added, next_added}
 use Rattle.fb_draw.proofs.chart.put_other_states.Goals as goal
 
 pub loop-state-preserved : goal.loop-state-preserved

@@ -1,6 +1,6 @@
 use Rattle.std.proofs.Common.{ℕ, List, [], ◌++◌, append-nil, sym, ◌∙◌, ap, codes}
 use Rattle.fb_draw.specs.Charts as spec
-use Rattle.fb_draw.proofs.Adding.{put_as}
+use Rattle.fb_text.proofs.lemmas.Adding.{put_as}
 use Rattle.fb_draw.proofs.chart.put_output.Goals as goal
 
 pub returns-in-Some : goal.returns-in-Some

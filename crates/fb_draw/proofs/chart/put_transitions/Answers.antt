@@ -1,5 +1,5 @@
 use Rattle.fb_draw.specs.Charts as spec
-use Rattle.fb_draw.proofs.Adding.{list_added, next_added}
+use Rattle.fb_text.proofs.lemmas.Adding.{list_added, next_added}
 use Rattle.fb_draw.proofs.chart.put_transitions.Goals as goal
 
 pub loop-transition-preserved : goal.loop-transition-preserved

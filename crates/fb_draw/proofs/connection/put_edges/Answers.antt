@@ -1,5 +1,5 @@
 use Rattle.fb_draw.specs.Networks as spec
-use Rattle.fb_draw.proofs.Adding.{list_added, next_added}
+use Rattle.fb_text.proofs.lemmas.Adding.{list_added, next_added}
 use Rattle.fb_draw.proofs.connection.put_edges.Goals as goal
 
 pub loop-connection-preserved : goal.loop-connection-preserved

@@ -1,6 +1,6 @@
 use Rattle.std.proofs.Common.{[], ◌∷◌, codes}
-use Rattle.fb_draw.specs.Pieces.{joined}
-use Rattle.fb_draw.proofs.Adding.{put_as}
+use Rattle.fb_text.specs.Pieces.{joined}
+use Rattle.fb_text.proofs.lemmas.Adding.{put_as}
 use Rattle.fb_draw.proofs.connection.put_end.Goals as goal
 
 pub returns : goal.returns

@@ -5,8 +5,8 @@ use Rattle.fb_types.specs.Blocks.{Kind, event_block_named, named}
 use Rattle.fb_types.specs.Flat.{kind_of, type_name}
 use Rattle.fb_types.specs.declared.library.BlockType.{BlockType}
 use Rattle.fb_draw.specs.Networks.{block_node, node_of}
-use Rattle.fb_draw.proofs.Adding.{put_as}
-use Rattle.fb_draw.proofs.Types.{declared_type, event_type}
+use Rattle.fb_text.proofs.lemmas.Adding.{put_as}
+use Rattle.fb_draw.proofs.lemmas.Types.{declared_type, event_type}
 use Rattle.fb_draw.proofs.network.put_instance.Goals as goal
 
 pub returns-in_ok-ports-in-Some : goal.returns-in_ok-ports-in-Some

@@ -1,5 +1,5 @@
 use Rattle.fb_draw.specs.Networks as spec
-use Rattle.fb_draw.proofs.Adding.{list_added, next_added}
+use Rattle.fb_text.proofs.lemmas.Adding.{list_added, next_added}
 use Rattle.fb_draw.proofs.network.put_instances.Goals as goal
 
 pub loop-instance-preserved : goal.loop-instance-preserved

@@ -1,5 +1,5 @@
 use Rattle.fb_draw.specs.Resources as spec
-use Rattle.fb_draw.proofs.Adding.{copied_added, list_added}
+use Rattle.fb_text.proofs.lemmas.Adding.{copied_added, list_added}
 use Rattle.fb_draw.proofs.resource.put_entries.Goals as goal
 
 pub loop-entry-preserved : goal.loop-entry-preserved

@@ -1,5 +1,5 @@
 use Rattle.fb_draw.specs.Resources as spec
-use Rattle.fb_draw.proofs.Adding.{list_added, next_added}
+use Rattle.fb_text.proofs.lemmas.Adding.{list_added, next_added}
 use Rattle.fb_draw.proofs.resource.put_links.Goals as goal
 
 pub loop-link-preserved : goal.loop-link-preserved

@@ -1,5 +1,5 @@
 use Rattle.fb_draw.specs.Resources as spec
-use Rattle.fb_draw.proofs.Adding.{put_as}
+use Rattle.fb_text.proofs.lemmas.Adding.{put_as}
 use Rattle.fb_draw.proofs.resource.put_resource_head.Goals as goal
 
 pub returns : goal.returns

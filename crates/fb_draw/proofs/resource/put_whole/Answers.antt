@@ -1,6 +1,6 @@
 use Rattle.fb_types.specs.declared.library.Instance.{Instance}
 use Rattle.fb_draw.specs.Resources as spec
-use Rattle.fb_draw.proofs.Adding.{list_added, next_added}
+use Rattle.fb_text.proofs.lemmas.Adding.{list_added, next_added}
 use Rattle.fb_draw.proofs.resource.put_whole.Goals as goal
 
 pub loop-instance-preserved : goal.loop-instance-preserved

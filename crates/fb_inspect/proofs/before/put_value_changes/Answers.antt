@@ -1,6 +1,6 @@
 use Rattle.std.proofs.Common.{◌<◌, ◌++◌, List, length, sym, ◌∙◌, arith}
 use Rattle.fb_types.specs.Names.{Name}
-use Rattle.fb_coverage.proofs.Listed.{listed_done, listed_next}
+use Rattle.fb_coverage.proofs.lemmas.Listed.{listed_done, listed_next}
 use Rattle.fb_inspect.specs.Inner.{internal_change}
 use Rattle.fb_inspect.proofs.Changing.{change_as, value_at}
 use Rattle.fb_inspect.proofs.before.put_value_changes.Goals as goal

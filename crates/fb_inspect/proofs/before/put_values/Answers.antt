@@ -1,7 +1,7 @@
 use Rattle.std.proofs.Common.{◌<◌, ◌++◌, List, ℕ, length, ap, sym, ◌∙◌, arith}
 use Rattle.fb_types.specs.Names.{Name}
 use Rattle.fb_types.specs.declared.value.Value.{Value}
-use Rattle.fb_coverage.proofs.Listed.{listed_done, listed_next}
+use Rattle.fb_coverage.proofs.lemmas.Listed.{listed_done, listed_next}
 use Rattle.fb_inspect.specs.Inner.{internal_begun, internal_code, value_by}
 use Rattle.fb_inspect.proofs.before.put_values.Goals as goal
 

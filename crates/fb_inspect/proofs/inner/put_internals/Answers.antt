@@ -1,5 +1,5 @@
 use Rattle.std.proofs.Common.{arith}
-use Rattle.fb_coverage.proofs.Listed.{listed_done, listed_next}
+use Rattle.fb_coverage.proofs.lemmas.Listed.{listed_done, listed_next}
 use Rattle.fb_inspect.specs.Inner.{internal_declared}
 use Rattle.fb_inspect.proofs.inner.put_internals.Goals as goal
 

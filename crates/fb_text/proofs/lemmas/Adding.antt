@@ -4,7 +4,7 @@ use Rattle.std.specs.List.{flat_map}
 use Rattle.std.specs.Prelude.{OnOk, if◌then◌else◌, is_ok}
 use Rattle.std.proofs.lemmas.List.{at_drop_all, at_drop_more}
 use Rattle.fb_types.specs.declared.text.Expr.{Expr}
-use Rattle.fb_draw.specs.Expressions.{arguments_text, expression_text, separator}
+use Rattle.fb_text.specs.Expressions.{arguments_text, expression_text, separator}
 
 -- one element of a list adds its part of what the whole list is to add
 pub one_added :

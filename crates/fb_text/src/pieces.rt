@@ -2,9 +2,9 @@
 
 ghost use Rattle.std.specs.Prelude.{◌≡◌, ◌++◌, OnOk, decimal, map};
 ghost use Rattle.fb_types.specs.Text.{value_text};
-ghost use Rattle.fb_draw.specs.Pieces as spec;
+ghost use Rattle.fb_text.specs.Pieces as spec;
 
-use fb_types::{Name, Value};
+use fb_types::Value;
 use std::alloc::{AllocError, Global};
 
 /// Adds pieces to a text.
@@ -37,27 +37,4 @@ pub fn put_value(alloc: Global, text: &mut Vec<u8>, value: Value) -> Result<(), 
             text.extend_from_slice(digits.as_bytes())
         }
     }
-}
-
-/// Adds the head of a graph, whose nodes are of a shape.
-pub(crate) fn put_head(text: &mut Vec<u8>, shape: &[u8], name: &Name) -> Result<(), AllocError>
-    ensures { OnOk result (text.new.items ≡ text.old.items ++ spec.head shape.now name.now) }
-{
-    put_all(
-        text,
-        &[
-            b"digraph \"",
-            name.as_bytes(),
-            b"\" {\n  graph [rankdir=LR, compound=true, newrank=true];\n  node [shape=",
-            shape,
-            b"];\n",
-        ],
-    )
-}
-
-/// Adds the end of a graph.
-pub(crate) fn put_foot(text: &mut Vec<u8>) -> Result<(), AllocError>
-    ensures { OnOk result (text.new.items ≡ text.old.items ++ spec.foot) }
-{
-    text.extend_from_slice(b"}\n")
 }

@@ -1,8 +1,8 @@
 use Rattle.std.proofs.Common.{refl, List, map}
 use Rattle.fb_types.specs.declared.text.Expr.{Expr}
-use Rattle.fb_draw.specs.Expressions.{arguments_text, expression_text}
-use Rattle.fb_draw.proofs.Adding.{all_added, argument_added}
-use Rattle.fb_draw.proofs.expression.+expression.Goals as goal
+use Rattle.fb_text.specs.Expressions.{arguments_text, expression_text}
+use Rattle.fb_text.proofs.lemmas.Adding.{all_added, argument_added}
+use Rattle.fb_text.proofs.expression.+expression.Goals as goal
 
 pub put_arguments-loop-argument-preserved : goal.put_arguments-loop-argument-preserved
 put_arguments-loop-argument-preserved t c =

@@ -1,11 +1,7 @@
--- Pieces of a text, and names in quotes (the DOT language of graphviz).
-use Rattle.std.specs.Prelude.{ℕ, List, [], ◌∷◌, ◌++◌, codes}
+-- The head and the foot of a graph, with names in quotes (the DOT language of graphviz).
+use Rattle.std.specs.Prelude.{ℕ, List, [], ◌∷◌, codes}
 use Rattle.fb_types.specs.Names.{Name}
-
--- the pieces, one after another
-abbrev pub joined : List (List ℕ) → List ℕ
-joined [] = []
-joined (p ∷ ps) = p ++ joined ps
+use Rattle.fb_text.specs.Pieces.{joined}
 
 -- the head of a graph, whose nodes are of a shape
 abbrev pub head : (shape : List ℕ) → Name → List ℕ

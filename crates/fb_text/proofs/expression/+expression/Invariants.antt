@@ -1,6 +1,6 @@
 use Rattle.std.proofs.Common.{◌≡◌, ◌++◌, true, drop, map}
-use Rattle.fb_draw.specs.Expressions.{arguments_text, expression_text}
-use Rattle.fb_draw.proofs.expression.+expression.Given as goal
+use Rattle.fb_text.specs.Expressions.{arguments_text, expression_text}
+use Rattle.fb_text.proofs.expression.+expression.Given as goal
 
 -- with what the rest adds, all is there
 abbrev pub invariant-put_arguments-loop-argument : goal.invariant-put_arguments-loop-argument

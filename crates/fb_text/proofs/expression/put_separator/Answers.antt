@@ -1,7 +1,7 @@
 use Rattle.std.proofs.Common.{sym, ap, codes}
-use Rattle.fb_draw.specs.Expressions as spec
-use Rattle.fb_draw.proofs.Adding.{put_piece}
-use Rattle.fb_draw.proofs.expression.put_separator.Goals as goal
+use Rattle.fb_text.specs.Expressions as spec
+use Rattle.fb_text.proofs.lemmas.Adding.{put_piece}
+use Rattle.fb_text.proofs.expression.put_separator.Goals as goal
 
 pub returns-else-is_first : goal.returns-else-is_first
 returns-else-is_first c =

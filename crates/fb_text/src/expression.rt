@@ -1,7 +1,7 @@
 //! Expressions as texts.
 
 ghost use Rattle.std.specs.Prelude.{◌≡◌, ◌++◌, OnOk, map, true};
-ghost use Rattle.fb_draw.specs.Expressions as spec;
+ghost use Rattle.fb_text.specs.Expressions as spec;
 
 use crate::pieces::put_value;
 use fb_types::{BinaryOperator, Expr, UnaryOperator, Value};
@@ -41,7 +41,7 @@ fn binary_text(operator: BinaryOperator) -> &'static [u8]
 
 /// Adds an expression. It is as it was written, but for blanks, letter case and the forms of literals.
 #[cycle(expression)]
-pub(crate) fn put_expression(
+pub fn put_expression(
     alloc: Global,
     text: &mut Vec<u8>,
     expr: &Expr,

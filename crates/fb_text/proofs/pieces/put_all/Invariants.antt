@@ -1,6 +1,6 @@
 use Rattle.std.proofs.Common.{◌≡◌, ◌++◌, drop, map}
-use Rattle.fb_draw.specs.Pieces as spec
-use Rattle.fb_draw.proofs.pieces.put_all.Given as goal
+use Rattle.fb_text.specs.Pieces as spec
+use Rattle.fb_text.proofs.pieces.put_all.Given as goal
 
 -- with what the rest adds, all is there
 abbrev pub invariant-loop-piece : goal.invariant-loop-piece
