@@ -27,11 +27,10 @@ use Rattle.fb_inspect.specs.Happenings.{History}
 use Rattle.fb_inspect.specs.Inspections.{IsCutInspected, IsCutShown, IsInspected, IsShown, IsShownBy, ShowsFront, all_text, cut_note, one_text}
 use Rattle.fb_inspect.specs.Lines.{IsNext}
 use Rattle.fb_inspect.specs.Looks.{Taking}
-use Rattle.fb_inspect.specs.Pages.{IsCutShort}
+use Rattle.fb_wave.specs.Pages.{IsCutShort}
 use Rattle.fb_inspect.specs.Walking.{Begins, Finishes, FinishesCut, IsComplete, IsCutAfter, IsGone, IsSevered, SendsCutPart, SendsPart, Starts}
-use Rattle.fb_inspect.specs.declared.error.InspectError.{InspectError}
-use Rattle.fb_inspect.specs.declared.error.InspectError.TheVariants.{Refused, Names, Unknown, Memory, Read, Write}
-use Rattle.fb_inspect.specs.declared.page.Page.{Page}
+use Rattle.fb_wave.specs.declared.page.Page.{Page}
+use Rattle.fb_wave.specs.declared.page.PageFault.{PageFault}
 use Rattle.fb_inspect.specs.declared.reading.Reading.{Reading}
 use Rattle.fb_inspect.specs.declared.walk.Extent.{Extent}
 use Rattle.fb_inspect.specs.declared.walk.Extent.TheVariants.{CutOff, Whole}
@@ -258,14 +257,9 @@ front_gone sys form only steps walk takings input remaining old new gone = recor
 
 -- the same, where a part of what waits was sent after it
 pub front_flush :
-    (sys : System) (form : Form) (only : List Name) (steps : ℕ) (walk : Walk) (takings : List Taking) (input remaining old mid new : Option (List ℕ)) (e : InspectError)
-    → IsGone sys form only steps walk takings input remaining old mid → IsCutShort mid new walk.trail.page e → ShowsFront sys only steps old new
-front_flush sys form only steps walk takings input remaining old mid new (Refused n) gone short = absurd short
-front_flush sys form only steps walk takings input remaining old mid new Names gone short = absurd short
-front_flush sys form only steps walk takings input remaining old mid new Unknown gone short = absurd short
-front_flush sys form only steps walk takings input remaining old mid new Memory gone short = absurd short
-front_flush sys form only steps walk takings input remaining old mid new Read gone short = absurd short
-front_flush sys form only steps walk takings input remaining old mid new (Write n) gone short = record {
+    (sys : System) (form : Form) (only : List Name) (steps : ℕ) (walk : Walk) (takings : List Taking) (input remaining old mid new : Option (List ℕ)) (fault : PageFault)
+    → IsGone sys form only steps walk takings input remaining old mid → IsCutShort mid new walk.trail.page fault → ShowsFront sys only steps old new
+front_flush sys form only steps walk takings input remaining old mid new fault gone short = record {
   form = form;
   takings = takings;
   taken = gone.taken;
@@ -293,14 +287,9 @@ front_none sys only steps old = record {
 
 -- a part of what waits was sent
 pub short_sent :
-    (old new : Option (List ℕ)) (page : Page) (e : InspectError) → IsCutShort old new page e
+    (old new : Option (List ℕ)) (page : Page) (fault : PageFault) → IsCutShort old new page fault
     → (got : List ℕ) × (rest : List ℕ) × ((page.text.items ≡ got ++ rest) × Appends old new got)
-short_sent old new page (Refused n) short = absurd short
-short_sent old new page Names short = absurd short
-short_sent old new page Unknown short = absurd short
-short_sent old new page Memory short = absurd short
-short_sent old new page Read short = absurd short
-short_sent old new page (Write n) short = (short.sent, short.missing, (short.parts, short.got))
+short_sent old new page fault short = (short.sent, short.missing, (short.parts, short.got))
 
 -- nothing of it was
 pub nothing_sent : (walk : Walk) (old : Option (List ℕ)) → SendsPart walk old old

@@ -1,6 +1,6 @@
 -- How a dump ends, and what the writer got where it does not.
-use Rattle.std.proofs.Common.{◌≡◌, ◌<◌, ◌+◌, ℕ, true, List, [], ◌∷◌, ◌++◌, length, map, Option, Some, None, Result, Ok, Err, refl, sym, ◌∙◌, ap, subst, inl, inr, append_assoc, append-nil, arith}
-use Rattle.std.specs.Prelude.{IfErr, IfSome, OnErr}
+use Rattle.std.proofs.Common.{◌≡◌, ◌<◌, ◌+◌, ℕ, true, List, [], ◌∷◌, ◌++◌, length, map, Option, Some, None, refl, sym, ◌∙◌, ap, subst, inl, inr, append_assoc, append-nil, arith}
+use Rattle.std.specs.Prelude.{IfSome}
 use Rattle.std.specs.Io.KnownBytes.{Appends, Consumes, IsAtEnd, prepend_known}
 use Rattle.std.proofs.KnownBytes.{Appends-nil, Appends-trans}
 use Rattle.std.proofs.lemmas.List.{map-append}
@@ -24,11 +24,10 @@ use Rattle.fb_wave.specs.declared.truncation.Cut.TheVariants as cut
 use Rattle.fb_wave.proofs.Copied.{ends_after}
 use Rattle.fb_inspect.specs.Inspections.{all_lines}
 use Rattle.fb_inspect.specs.Looks.{taking_lines}
-use Rattle.fb_inspect.specs.Pages.{IsCutShort}
+use Rattle.fb_wave.specs.Pages.{IsCutShort}
 use Rattle.fb_inspect.specs.Refusals.{IsWrongAt}
-use Rattle.fb_inspect.specs.declared.error.InspectError.{InspectError}
-use Rattle.fb_inspect.specs.declared.error.InspectError.TheVariants.{Refused, Names, Unknown, Memory, Read, Write}
-use Rattle.fb_inspect.specs.declared.page.Page.{Page}
+use Rattle.fb_wave.specs.declared.page.Page.{Page}
+use Rattle.fb_wave.specs.declared.page.PageFault.{PageFault}
 use Rattle.fb_inspect.specs.declared.reading.Reading.{Reading}
 use Rattle.fb_inspect.proofs.Severing.{cut_whole, on_some}
 use Rattle.fb_inspect.specs.Dumping.{Shows, ShowsUntaken}
@@ -38,7 +37,6 @@ use Rattle.fb_inspect.specs.Waving.{Begins, Finishes, FinishesCut, HasWaved, IsC
 use Rattle.fb_inspect.specs.declared.state_wave.StateWave.{StateWave}
 use Rattle.fb_inspect.proofs.Growing.{shows_cut_front, shows_front, shows_untaken_none}
 
--- where a call fails, something holds by its error
 -- ---- What is left after the last line
 
 pub some_left : (text : List ℕ) (o : Option (List ℕ)) → (length text ≡ 0 → ⊥) → IfSome (prepend_known text o) (λ rest. 0 < length rest)
@@ -51,10 +49,6 @@ more_left text o none more = subst (λ (p : Option (List ℕ)). IfSome p (λ res
 
 pub end_left : (text : List ℕ) (o : Option (List ℕ)) → text ≡ [] → IsAtEnd o → IsAtEnd (prepend_known text o)
 end_left text o none over = subst IsAtEnd (sym (none_ahead text o none)) over
-
-pub err_with : {A E : Type 0} (r : Result A E) (P : E → Type 0) (Q : Type 0) → IfErr r P → ((e : E) → P e → Q) → OnErr r Q
-err_with (Ok x) P Q h f = tt
-err_with (Err e) P Q h f = f e h
 
 -- some text is that of a line and what is left after it
 pub some_text : (remaining : Option (List ℕ)) (line : List ℕ) → (known : Option (List ℕ)) × Consumes known remaining line
@@ -76,15 +70,10 @@ none_sent sys end x old = record {
 
 -- a part
 pub part_sent :
-    (sys : System) (end : Outcome) (x : StateWave) (page : Page) (old new : Option (List ℕ)) (e : InspectError)
-    → ((xs : List Taken) (sent : List ℕ) → Shows sys xs (sent ++ x.page.text.items) x.dump → sent ++ page.text.items ≡ state_dump true sys xs (ending_of end)) → IsCutShort old new page e
+    (sys : System) (end : Outcome) (x : StateWave) (page : Page) (old new : Option (List ℕ)) (fault : PageFault)
+    → ((xs : List Taken) (sent : List ℕ) → Shows sys xs (sent ++ x.page.text.items) x.dump → sent ++ page.text.items ≡ state_dump true sys xs (ending_of end)) → IsCutShort old new page fault
     → SendsPart sys end x old new
-part_sent sys end x page old new (Refused n) whole short = absurd short
-part_sent sys end x page old new Names whole short = absurd short
-part_sent sys end x page old new Unknown whole short = absurd short
-part_sent sys end x page old new Memory whole short = absurd short
-part_sent sys end x page old new Read whole short = absurd short
-part_sent sys end x page old new (Write n) whole short = record {
+part_sent sys end x page old new fault whole short = record {
   part = short.sent;
   got = short.got;
   whole = λ xs sent shown. (
@@ -105,15 +94,10 @@ none_cut_sent sys x old = record {
 }
 
 pub part_cut_sent :
-    (sys : System) (x : StateWave) (page : Page) (old new : Option (List ℕ)) (e : InspectError)
-    → ((xs : List Taken) (us : List Line) (sent : List ℕ) → ShowsUntaken sys xs us (sent ++ x.page.text.items) x.dump → sent ++ page.text.items ≡ cut_dump true sys xs us) → IsCutShort old new page e
+    (sys : System) (x : StateWave) (page : Page) (old new : Option (List ℕ)) (fault : PageFault)
+    → ((xs : List Taken) (us : List Line) (sent : List ℕ) → ShowsUntaken sys xs us (sent ++ x.page.text.items) x.dump → sent ++ page.text.items ≡ cut_dump true sys xs us) → IsCutShort old new page fault
     → SendsCutPart sys x old new
-part_cut_sent sys x page old new (Refused n) whole short = absurd short
-part_cut_sent sys x page old new Names whole short = absurd short
-part_cut_sent sys x page old new Unknown whole short = absurd short
-part_cut_sent sys x page old new Memory whole short = absurd short
-part_cut_sent sys x page old new Read whole short = absurd short
-part_cut_sent sys x page old new (Write n) whole short = record {
+part_cut_sent sys x page old new fault whole short = record {
   part = short.sent;
   got = short.got;
   whole = λ xs us sent shown. (
@@ -146,14 +130,9 @@ module _ (sys : System) (form : Form) (steps : ℕ) where
 
   -- the same, where a part of what waits was sent after it
   pub front_flush :
-      (x : StateWave) (input remaining old mid new : Option (List ℕ)) (e : InspectError) → HasWaved sys form steps x input remaining old mid → IsCutShort mid new x.page e
+      (x : StateWave) (input remaining old mid new : Option (List ℕ)) (fault : PageFault) → HasWaved sys form steps x input remaining old mid → IsCutShort mid new x.page fault
       → WritesFront sys steps old new
-  front_flush x input remaining old mid new (Refused n) have short = absurd short
-  front_flush x input remaining old mid new Names have short = absurd short
-  front_flush x input remaining old mid new Unknown have short = absurd short
-  front_flush x input remaining old mid new Memory have short = absurd short
-  front_flush x input remaining old mid new Read have short = absurd short
-  front_flush x input remaining old mid new (Write n) have short =
+  front_flush x input remaining old mid new fault have short =
       let waved = have.waved in
       let front = shows_front sys have.takings (waved.sent ++ x.page.text.items) (AtHorizon 0) x.dump waved.shown in
       record {

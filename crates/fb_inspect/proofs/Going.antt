@@ -1,6 +1,6 @@
 -- A walk from its first line to the line that is refused.
-use Rattle.std.proofs.Common.{◌≡◌, ◌<◌, ℕ, ◌+◌, Bool, false, List, [], ◌∷◌, ◌++◌, length, map, Option, Some, None, Result, Ok, Err, refl, sym, ap, subst, ◌∙◌, inl, inr, arith}
-use Rattle.std.specs.Prelude.{IfErr, IfSome}
+use Rattle.std.proofs.Common.{◌≡◌, ◌<◌, ℕ, ◌+◌, Bool, false, List, [], ◌∷◌, ◌++◌, length, map, Option, Some, None, refl, sym, ap, subst, ◌∙◌, inl, inr, arith}
+use Rattle.std.specs.Prelude.{IfSome}
 use Rattle.std.specs.Io.BufRead.{take_through}
 use Rattle.std.specs.Io.KnownBytes.{Consumes}
 use Rattle.std.proofs.lemmas.List.Elements.{All-nil}
@@ -17,14 +17,11 @@ use Rattle.fb_wave.specs.Dumps.{last_tick}
 use Rattle.fb_wave.specs.Lines.{IsLineOf}
 use Rattle.fb_inspect.specs.Lines.{IsNext}
 use Rattle.fb_inspect.specs.Looks.{Taking, opening_look}
-use Rattle.fb_inspect.specs.Pages.{IsCutShort}
-use Rattle.fb_inspect.specs.Refusals.{IsNoRefusal, IsWrongAt}
+use Rattle.fb_inspect.specs.Refusals.{IsWrongAt}
 use Rattle.fb_inspect.specs.Standing.{BeginsText, IsLeft, StandsWell, Watches}
 use Rattle.fb_inspect.specs.Walking.{IsComplete, IsLookOf, Starts}
 use Rattle.fb_inspect.specs.declared.ahead.Ahead.{Ahead}
-use Rattle.fb_inspect.specs.declared.error.InspectError.{InspectError}
-use Rattle.fb_inspect.specs.declared.error.InspectError.TheVariants.{Refused, Names, Unknown, Memory, Read, Write}
-use Rattle.fb_inspect.specs.declared.page.Page.{Page}
+use Rattle.fb_wave.specs.declared.page.Page.{Page}
 use Rattle.fb_inspect.specs.declared.trail.PassedLines.{PassedLines}
 use Rattle.fb_inspect.specs.declared.trail.Trail.{Trail}
 use Rattle.fb_inspect.specs.declared.walk.Walk.{Walk}
@@ -77,18 +74,6 @@ pub well_flushed :
     (sys : System) (form : Form) (steps : ℕ) (w : Walk) (page : Page) (a : Ahead) (rest text : List ℕ) → StandsWell sys form steps w a rest text
     → StandsWell sys form steps (record w { trail = record (w.trail) { page = page } }) a rest text
 well_flushed sys form steps w page a rest text well = record { takings = well.takings; on = record { stands = well.on.stands; next = well.on.next }; watched = well.watched }
-
-pub cut_short_none : (old new : Option (List ℕ)) (page : Page) (e : InspectError) → IsCutShort old new page e → IsNoRefusal e
-cut_short_none old new page (Refused n) short = short
-cut_short_none old new page Names short = tt
-cut_short_none old new page Unknown short = tt
-cut_short_none old new page Memory short = tt
-cut_short_none old new page Read short = tt
-cut_short_none old new page (Write n) short = tt
-
-pub err_short : {A : Type 0} (r : Result A InspectError) (old new : Option (List ℕ)) (page : Page) → IfErr r (IsCutShort old new page) → IfErr r IsNoRefusal
-err_short (Ok x) old new page h = tt
-err_short (Err e) old new page h = cut_short_none old new page e h
 
 -- more than the last line is left
 pub after_last :

@@ -24,9 +24,9 @@ use Rattle.fb_inspect.specs.Inspections.{AreTaken, AreTakings, NoneStops, Nothin
 use Rattle.fb_inspect.specs.Looks.{IsTaking, Look, Taking, emission_line, taking_lines, taking_text}
 use Rattle.fb_inspect.specs.Markings.{TakingMarks, TakingsMark, lines_marked}
 use Rattle.fb_inspect.specs.Moves.{IsLineAt, shown_text}
-use Rattle.fb_inspect.specs.Pages.{IsFlushed}
+use Rattle.fb_wave.specs.Pages.{IsFlushed}
 use Rattle.fb_inspect.specs.Walking.{AreMarked, HasCovered, HasGone, IsGone, Starts, WalkTakes, flag_at}
-use Rattle.fb_inspect.specs.declared.page.Page.{Page}
+use Rattle.fb_wave.specs.declared.page.Page.{Page}
 use Rattle.fb_inspect.specs.declared.walk.Walk.{Walk}
 use Rattle.fb_inspect.proofs.Moving.{lines-append, marked-append, next_line}
 

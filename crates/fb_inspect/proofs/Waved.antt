@@ -2,7 +2,7 @@
 use Rattle.std.proofs.Common.{◌≡◌, ◌≤◌, ℕ, ◌+◌, Bool, true, false, List, [], ◌∷◌, ◌++◌, ◌||◌, length, map, Option, Some, None, sym, ◌∙◌, ap, subst, inl, append_assoc, arith, length-append}
 use Rattle.std.specs.Prelude.{All}
 use Rattle.std.specs.List.{list_any}
-use Rattle.std.specs.Io.KnownBytes.{Appends, Consumes}
+use Rattle.std.specs.Io.KnownBytes.{Consumes}
 use Rattle.std.proofs.KnownBytes.{Appends-nil, Appends-trans, Consumes-trans}
 use Rattle.std.proofs.lemmas.List.{map-append}
 use Rattle.std.proofs.lemmas.List.Elements.{All-append, All-nil}
@@ -26,8 +26,8 @@ use Rattle.fb_inspect.specs.Inspections.{AreTaken, NoneStops}
 use Rattle.fb_inspect.specs.Looks.{Look, Taking, taking_lines}
 use Rattle.fb_inspect.specs.Markings.{TakingMarksAt, event_number}
 use Rattle.fb_inspect.specs.Moves.{HavePassed, IsLineAt, lines_kept}
-use Rattle.fb_inspect.specs.Pages.{IsFlushed}
-use Rattle.fb_inspect.specs.declared.page.Page.{Page}
+use Rattle.fb_wave.specs.Pages.{IsFlushed}
+use Rattle.fb_wave.specs.declared.page.Page.{Page}
 use Rattle.fb_inspect.specs.declared.trail.PassedLines.{PassedLines}
 use Rattle.fb_inspect.proofs.Gone.{each_of, none_more, rise_more}
 use Rattle.fb_inspect.proofs.Moving.{lines-append}

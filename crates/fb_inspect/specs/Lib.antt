@@ -9,7 +9,6 @@ pub mod Waving
 pub mod StateLaws
 pub mod Lines
 pub mod SameLines
-pub mod Pages
 pub mod Notes
 pub mod Chains
 pub mod Looks

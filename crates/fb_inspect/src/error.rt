@@ -2,9 +2,9 @@
 
 ghost use Rattle.std.specs.Prelude.{◌≡◌};
 ghost use Rattle.fb_inspect.specs.Faults.{fault_of_line};
-ghost use Rattle.fb_inspect.specs.declared.error.InspectError.TheVariants.{Memory};
+ghost use Rattle.fb_inspect.specs.declared.error.InspectError.TheVariants.{Memory, Write};
 
-use fb_wave::WaveError;
+use fb_wave::{PageFault, WaveError};
 use std::alloc::AllocError;
 use thiserror::Error;
 
@@ -50,5 +50,13 @@ impl From<WaveError> for InspectError {
             WaveError::Read => InspectError::Read,
             WaveError::Write(written) => InspectError::Write(written),
         }
+    }
+}
+
+impl From<PageFault> for InspectError {
+    ghost from_gives = { λ fault e. e ≡ Write fault.written };
+
+    fn from(fault: PageFault) -> InspectError {
+        InspectError::Write(fault.written)
     }
 }

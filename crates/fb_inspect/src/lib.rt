@@ -21,7 +21,7 @@
 //!
 //! - `insides`, the first entry, with `error`.
 //! - `walk`, which goes line by line, and `trail`, how far it has come.
-//! - `reading`, the lines; `ahead`, lines that are read ahead; `page`, where text waits.
+//! - `reading`, the lines; `ahead`, lines that are read ahead.
 //! - `finding`, why no run gives a line, and `message`, its text.
 //! - `blocks`, what blocks remember; `steps`, the steps of a tick.
 //! - The reactions: `charts` and `event_blocks`, with `notes`, what is written of them.
@@ -56,7 +56,6 @@ pub mod line_finding;
 pub mod line_words;
 pub mod message;
 pub mod notes;
-pub mod page;
 mod port_dump;
 pub mod reading;
 pub mod state_laws;

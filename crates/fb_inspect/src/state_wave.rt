@@ -20,14 +20,13 @@ use crate::Terms;
 use crate::ahead::Ahead;
 use crate::before::Before;
 use crate::error::InspectError;
-use crate::page::Page;
 use crate::port_dump::PortDump;
 use crate::reading::Next;
 use crate::trail::Fixed;
 use crate::walk::{Step, Walk};
 use fb_system::System;
 use fb_trace::Outcome;
-use fb_wave::Cut;
+use fb_wave::{Cut, Page};
 use std::alloc::AllocError;
 use std::io::{BufRead, Write};
 
@@ -181,7 +180,8 @@ impl StateWave {
     {
         self.dump.end(system, end, &mut self.page.text)?;
         self.walk.trail.reading.finish(ahead, input)?;
-        self.page.flush(out)
+        self.page.flush(out)?;
+        Ok(())
     }
 
     /// Puts that the trace is cut off, and writes all that waits.
@@ -191,7 +191,8 @@ impl StateWave {
         ensures none { IfErr result IsNoRefusal }
     {
         self.dump.cut_off(&mut self.page.text)?;
-        self.page.flush(out)
+        self.page.flush(out)?;
+        Ok(())
     }
 
     /// Goes through a trace to its end.

@@ -15,7 +15,6 @@ use crate::before::Before;
 use crate::covering::none_shown;
 use crate::error::InspectError;
 use crate::insides::{begun, first_reading, is_severed, lend};
-use crate::page::Page;
 use crate::port_dump::PortDump;
 use crate::reading::Reading;
 use crate::state_wave::StateWave;
@@ -24,7 +23,7 @@ use crate::{RefusedLine, Terms};
 use fb_coverage::Marks;
 use fb_system::System;
 use fb_types::MOST_STEPS;
-use fb_wave::{PortTable, SystemPorts};
+use fb_wave::{Page, PortTable, SystemPorts};
 use std::alloc::{AllocError, Global};
 use std::io::{BufRead, Write};
 

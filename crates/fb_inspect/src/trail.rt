@@ -12,12 +12,11 @@ ghost use Rattle.fb_inspect.specs.OfWalk.{EmitsFail, EmitsGo, GoesPast, IsNext, 
 use crate::error::InspectError;
 use crate::finding::Finding;
 use crate::notes::are_same;
-use crate::page::Page;
 use crate::reading::{Next, Reading};
 use fb_coverage::Marks;
 use fb_trace::Outcome;
 use fb_types::{Emission, Emits, Form, Key, Line, Reason, Value, Values};
-use fb_wave::PortTable;
+use fb_wave::{Page, PortTable};
 use std::alloc::{AllocError, Global};
 use std::io::BufRead;
 use std::mem;

@@ -573,7 +573,8 @@ impl Walk {
         let line = self.trail.reading.line.as_slice();
         put_line(&mut self.trail.page.text, line, true)?;
         self.trail.reading.finish(ahead, input)?;
-        self.trail.page.flush(out)
+        self.trail.page.flush(out)?;
+        Ok(())
     }
 
     /// Adds that the trace is cut off, and writes all that waits.
@@ -584,7 +585,8 @@ impl Walk {
         ensures none { IfErr result IsNoRefusal }
     {
         put_cut(&mut self.trail.page.text)?;
-        self.trail.page.flush(out)
+        self.trail.page.flush(out)?;
+        Ok(())
     }
 
     /// Goes through a trace to its end.

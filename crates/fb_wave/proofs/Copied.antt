@@ -22,12 +22,14 @@ use Rattle.fb_wave.specs.Writing.{HasShown, IsDump}
 use Rattle.fb_wave.specs.declared.dump.Dump.{Dump}
 use Rattle.fb_wave.specs.Lines.{IsLast, IsLineOf, IsTextOf}
 use Rattle.fb_wave.specs.Named.{HasNames}
-use Rattle.fb_wave.specs.Copying.{IsAfter, IsCopied, IsCutShort, IsFinished, IsFirstLine, IsFlushed, IsNoWriteFault, IsTaken, IsUnfinished}
+use Rattle.fb_wave.specs.Copying.{IsAfter, IsCopied, IsFinished, IsFirstLine, IsNoWriteFault, IsTaken, IsUnfinished}
 use Rattle.fb_wave.specs.Waves.{AreLinesOf, EndsAfter, FailsWave, IsBegun, IsWave, RiseFrom, WritesFront, WritesPart}
 use Rattle.fb_wave.specs.declared.copy.Progress.{Progress}
 use Rattle.fb_wave.specs.declared.error.WaveError.{WaveError}
 use Rattle.fb_wave.specs.declared.error.WaveError.TheVariants.{Refused, Names, Memory, Read, Write}
-use Rattle.fb_wave.specs.declared.page.DumpPage.{DumpPage}
+use Rattle.fb_wave.specs.Pages.{IsCutShort, IsFlushed}
+use Rattle.fb_wave.specs.declared.page.Page.{Page}
+use Rattle.fb_wave.specs.declared.page.PageFault.{PageFault}
 
 -- ---- Lists of lines
 
@@ -225,7 +227,7 @@ shown_cut sys form number x y line sent rest input left old new is taken parts =
 
 -- a line more was shown, some of the text was sent, and no line could be read
 pub front_flushed :
-    (sys : System) (form : Form) (number : ℕ) (x y : Progress) (after : DumpPage) (line : List ℕ) (input left old mid got : Option (List ℕ)) → IsCopied sys form number x line input left old mid
+    (sys : System) (form : Form) (number : ℕ) (x y : Progress) (after : Page) (line : List ℕ) (input left old mid got : Option (List ℕ)) → IsCopied sys form number x line input left old mid
     → IsTaken sys form line x y → IsFlushed mid got y.page after → WritesFront sys old got
 front_flushed sys form number x y after line input left old mid got is taken flushed =
     record {
@@ -268,8 +270,8 @@ part_of sys ls end old new sent rest n are got parts short counted =
 -- a line more was shown, and the writer failed before it got all that waited then
 pub fails_taken :
     (sys : System) (form : Form) (number : ℕ) (x y : Progress) (line : List ℕ) (input left old mid got : Option (List ℕ)) → IsCopied sys form number x line input left old mid
-    → IsTaken sys form line x y → (e : WaveError) → IsCutShort mid got y.page e → FailsWave sys old got e
-fails_taken sys form number x y line input left old mid got is taken (Write n) cut =
+    → IsTaken sys form line x y → (fault : PageFault) → IsCutShort mid got y.page fault → FailsWave sys old got (Write fault.written)
+fails_taken sys form number x y line input left old mid got is taken fault cut =
     let ls : List Line = is.lines ++ taken.line ∷ [] in
     let sent : List ℕ = is.sent ++ cut.sent in
     let on : (more : List ℕ) × (sent ++ (cut.missing ++ more) ≡ dump_text sys ls (AtHorizon 0)) =
@@ -278,8 +280,7 @@ fails_taken sys form number x y line input left old mid got is taken (Write n) c
     let some : 0 < length cut.missing = cut.short in
     part_of sys ls (AtHorizon 0) old got sent (cut.missing ++ on.0) n (are_one sys form number x y line input left old mid is taken)
     (Appends-trans old mid got is.sent cut.sent is.got cut.got) on.1 (rw length-append (omega arith))
-    (count_more y.page.written is.sent cut.sent n (ap bounded taken.kept ∙ is.counted) cut.counted)
-fails_taken sys form number x y line input left old mid got is taken e cut = absurd cut
+    (count_more y.page.written is.sent cut.sent fault.written (ap bounded taken.kept ∙ is.counted) cut.counted)
 
 -- the end was not sent, or not all of it
 pub fails_unfinished :
@@ -293,10 +294,10 @@ fails_unfinished sys form number x line input left old mid new is e same =
 
 -- a part of the end is sent
 pub unfinished_part :
-    (sys : System) (x : Progress) (page : DumpPage) (end : Outcome) (old new : Option (List ℕ)) → page.written ≡ x.page.written
+    (sys : System) (x : Progress) (page : Page) (end : Outcome) (old new : Option (List ℕ)) → page.written ≡ x.page.written
     → ((ls : List Line) (front : List ℕ) → HasShown sys ls (front ++ x.page.text.items) x.dump → front ++ page.text.items ≡ dump_text sys ls (ending_of end))
-    → (e : WaveError) → IsCutShort old new page e → IsUnfinished sys x old new e
-unfinished_part sys x page end old new kept whole (Write n) cut =
+    → (fault : PageFault) → IsCutShort old new page fault → IsUnfinished sys x old new (Write fault.written)
+unfinished_part sys x page end old new kept whole fault cut =
     record {
       end = ending_of end;
       sent = cut.sent;
@@ -307,4 +308,3 @@ unfinished_part sys x page end old new kept whole (Write n) cut =
       parts = λ ls front shown.
           append_assoc front cut.sent cut.missing ∙ ap (λ (t : List ℕ). front ++ t) (sym cut.parts) ∙ whole ls front shown;
     }
-unfinished_part sys x page end old new kept whole e cut = absurd cut

@@ -8,7 +8,7 @@ use Rattle.fb_types.specs.Text.{lines_text}
 use Rattle.fb_types.specs.declared.run.Form.{Form}
 use Rattle.fb_trace.specs.End.{ending_of}
 use Rattle.fb_trace.specs.declared.last.Outcome.{Outcome}
-use Rattle.fb_wave.specs.Copying.{IsAfter, IsCopied, IsCutShort, IsCutUnfinished, IsFirstLine, IsNoLineFrom, IsRefusedAt, RefusesLine}
+use Rattle.fb_wave.specs.Copying.{IsAfter, IsCopied, IsCutUnfinished, IsFirstLine, IsNoLineFrom, IsRefusedAt, RefusesLine}
 use Rattle.fb_wave.specs.CurrentLines.{IsAfterLines, IsAfterTrace, IsNoEndFrom, IsRefusedLine}
 use Rattle.fb_wave.specs.Dumps.{last_tick}
 use Rattle.fb_wave.specs.Lines.{IsLast, IsNoLast}
@@ -16,7 +16,6 @@ use Rattle.fb_wave.specs.declared.copy.Progress.{Progress}
 use Rattle.fb_wave.specs.declared.current_line.CurrentLine.{CurrentLine}
 use Rattle.fb_wave.specs.declared.error.WaveError.{WaveError}
 use Rattle.fb_wave.specs.declared.error.WaveError.TheVariants.{Refused, Names, Memory, Read, Write}
-use Rattle.fb_wave.specs.declared.page.DumpPage.{DumpPage}
 use Rattle.fb_wave.proofs.Blaming.{known}
 use Rattle.fb_wave.proofs.Copied.{ends_after}
 use Rattle.fb_wave.proofs.Ends.{after_once}
@@ -34,9 +33,8 @@ split_first (b ∷ bs) = by (b == 10) refl (split_first bs)
         (rest.0, ap (λ (l : List ℕ). b ∷ l) rest.1 ∙ ap (λ (t : Bool). cond t (b ∷ []) (b ∷ take_through 10 bs) ++ rest.0) (sym other))
 
 -- a writer that fails refuses nothing
-pub write_current : (sys : System) (text old new : Option (List ℕ)) (page : DumpPage) (y : CurrentLine) (e : WaveError) → IsCutShort old new page e → IsRefusedLine sys text y e
-write_current sys text old new page y (Write n) short = tt
-write_current sys text old new page y e short = absurd short
+pub write_current : (sys : System) (text : Option (List ℕ)) (y : CurrentLine) (n : ℕ) → IsRefusedLine sys text y (Write n)
+write_current sys text y n = tt
 
 pub cut_current : (sys : System) (text old new : Option (List ℕ)) (x : Progress) (y : CurrentLine) (e : WaveError) → IsCutUnfinished sys x old new e → IsRefusedLine sys text y e
 cut_current sys text old new x y (Write n) fails = tt

@@ -13,7 +13,7 @@ use Rattle.fb_types.specs.declared.run.Line.{Line}
 use Rattle.fb_trace.specs.End.{ending_of}
 use Rattle.fb_trace.specs.Progress.{bounded}
 use Rattle.fb_trace.specs.declared.last.Outcome.{Outcome}
-use Rattle.fb_wave.specs.Copying.{IsAfter, IsCopied, IsCutFinished, IsCutShort, IsCutUnfinished, RefusesEnd, RefusesLine}
+use Rattle.fb_wave.specs.Copying.{IsAfter, IsCopied, IsCutFinished, IsCutUnfinished, RefusesEnd, RefusesLine}
 use Rattle.fb_wave.specs.CutOff.{BlamesShown, FailsShown, HasTrace, IsCutWave, IsNoCut, IsShown, IsWhole, cut_text, has_no_feed, is_cut, is_unended, is_unended_by}
 use Rattle.fb_wave.specs.Dumps.{last_tick}
 use Rattle.fb_wave.specs.Faults.{IsReadFault}
@@ -27,7 +27,9 @@ use Rattle.fb_wave.specs.declared.truncation.Cut.{Cut}
 use Rattle.fb_wave.specs.declared.truncation.Cut.TheVariants as cut
 use Rattle.fb_wave.specs.declared.error.WaveError.{WaveError}
 use Rattle.fb_wave.specs.declared.error.WaveError.TheVariants.{Refused, Names, Memory, Read, Write}
-use Rattle.fb_wave.specs.declared.page.DumpPage.{DumpPage}
+use Rattle.fb_wave.specs.Pages.{IsCutShort}
+use Rattle.fb_wave.specs.declared.page.Page.{Page}
+use Rattle.fb_wave.specs.declared.page.PageFault.{PageFault}
 use Rattle.fb_wave.proofs.Blaming.{known}
 use Rattle.fb_wave.proofs.Copied.{count_more, ends_after, front_copied, part_written}
 use Rattle.fb_wave.proofs.Lining.{IsOneLine, last_one, line_one}
@@ -63,9 +65,8 @@ pub blames_names : (c : Cut) (sys : System) (text : Option (List ℕ)) → ¬ (H
 blames_names c sys text none = blames_in c sys text Names none (λ same. tt)
 
 -- a writer that fails blames no line
-pub write_blames : (c : Cut) (sys : System) (text old new : Option (List ℕ)) (page : DumpPage) (e : WaveError) → IsCutShort old new page e → BlamesShown c sys text e
-write_blames c sys text old new page (Write n) short = blames_in c sys text (Write n) tt (λ same. tt)
-write_blames c sys text old new page e short = absurd short
+pub write_blames : (c : Cut) (sys : System) (text : Option (List ℕ)) (n : ℕ) → BlamesShown c sys text (Write n)
+write_blames c sys text n = blames_in c sys text (Write n) tt (λ same. tt)
 
 -- ---- Line feeds
 
@@ -243,10 +244,10 @@ uncut_line cut.Allowed line other same = other
 
 -- a part of the end of such a dump is sent
 pub unfinished_cut :
-    (sys : System) (x : Progress) (page : DumpPage) (old new : Option (List ℕ)) → page.written ≡ x.page.written
+    (sys : System) (x : Progress) (page : Page) (old new : Option (List ℕ)) → page.written ≡ x.page.written
     → ((ls : List Line) (front : List ℕ) → HasShown sys ls (front ++ x.page.text.items) x.dump → front ++ page.text.items ≡ cut_text sys ls)
-    → (e : WaveError) → IsCutShort old new page e → IsCutUnfinished sys x old new e
-unfinished_cut sys x page old new kept whole (Write n) short =
+    → (fault : PageFault) → IsCutShort old new page fault → IsCutUnfinished sys x old new (Write fault.written)
+unfinished_cut sys x page old new kept whole fault short =
     record {
       sent = short.sent;
       missing = short.missing;
@@ -256,4 +257,3 @@ unfinished_cut sys x page old new kept whole (Write n) short =
       parts = λ ls front shown.
           append_assoc front short.sent short.missing ∙ ap (λ (t : List ℕ). front ++ t) (sym short.parts) ∙ whole ls front shown;
     }
-unfinished_cut sys x page old new kept whole e short = absurd short

@@ -9,7 +9,7 @@ use Rattle.fb_types.specs.Text.{lines_text}
 use Rattle.fb_types.specs.declared.run.Form.{Form}
 use Rattle.fb_types.specs.declared.run.Line.{Line}
 use Rattle.fb_trace.specs.End.{ending_of}
-use Rattle.fb_trace.specs.Progress.{Fails, bounded}
+use Rattle.fb_trace.specs.Progress.{bounded}
 use Rattle.fb_trace.specs.declared.last.Outcome.{Outcome}
 use Rattle.fb_trace.specs.declared.last.Outcome.TheVariants.{End, Stop}
 use Rattle.fb_wave.specs.CutOff.{cut_text}
@@ -22,7 +22,6 @@ use Rattle.fb_wave.specs.declared.copy.Progress.{Progress}
 use Rattle.fb_wave.specs.declared.error.WaveError.{WaveError}
 use Rattle.fb_wave.specs.declared.current_line.CurrentLine.{CurrentLine}
 use Rattle.fb_wave.specs.declared.error.WaveError.TheVariants.{Refused, Names, Memory, Read, Write}
-use Rattle.fb_wave.specs.declared.page.DumpPage.{DumpPage}
 
 -- what may come after a last line of that tick: a horizon after it, or a stop in it or after it
 abbrev pub IsAfter : ℕ → Outcome → Type 0
@@ -72,21 +71,6 @@ IsNoWriteFault Names = Unit {0}
 IsNoWriteFault Memory = Unit {0}
 IsNoWriteFault Read = Unit {0}
 IsNoWriteFault (Write n) = ⊥
-
--- Of the text that waited a front was sent to the writer, and counted, and the rest waits.
-pub record IsFlushed (old new : Option (List ℕ)) (before after : DumpPage) : Type 0 where
-  pub sent : List ℕ
-  pub got : Appends old new sent
-  pub parts : before.text.items ≡ sent ++ after.text.items
-  pub counted : bounded after.written ≡ bounded (before.written + length sent)
-
--- the writer failed before it got all that waited, and the error counts what it got then and before
-abbrev pub IsCutShort : (old new : Option (List ℕ)) → DumpPage → WaveError → Type 0
-IsCutShort old new before (Refused line) = ⊥
-IsCutShort old new before Names = ⊥
-IsCutShort old new before Memory = ⊥
-IsCutShort old new before Read = ⊥
-IsCutShort old new before (Write n) = Fails old new (record { waiting = []; written = before.written }) before.text.items n
 
 -- The text is that of a line with which a trace can go on, and the line was reported.
 pub record IsTaken (sys : System) (form : Form) (text : List ℕ) (old new : Progress) : Type 0 where

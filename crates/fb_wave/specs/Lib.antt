@@ -14,6 +14,7 @@ pub mod Waves
 pub mod Refusals
 pub mod ByTick
 pub mod Nested
+pub mod Pages
 pub mod Copying
 pub mod CutOff
 pub mod CurrentLines

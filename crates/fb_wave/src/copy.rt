@@ -15,7 +15,7 @@ use crate::error::WaveError;
 use crate::head::put_head;
 use crate::last::read_last;
 use crate::line::read_line;
-use crate::page::DumpPage;
+use crate::page::Page;
 use crate::system_signals::Signals;
 use crate::table::{Guess, PortTable};
 use crate::truncation::{Cut, is_cut};
@@ -91,7 +91,7 @@ pub fn is_over<R: BufRead>(input: &mut R, line: &mut Vec<u8>) -> Result<bool, Wa
 #[derive(Drop)]
 pub(crate) struct Progress {
     pub(crate) dump: Dump,
-    pub(crate) page: DumpPage,
+    pub(crate) page: Page,
     pub(crate) guess: Guess,
     /// The tick of the last line, or 0 before the first.
     pub(crate) tick: u64,
@@ -111,7 +111,7 @@ impl Progress {
         put_head(alloc, &mut text, table.system, signals.firsts.as_slice())?;
         Ok(Progress {
             dump: Dump { signals, tick: 0 },
-            page: DumpPage { text, written: 0 },
+            page: Page { text, written: 0 },
             guess,
             tick: 0,
         })
@@ -170,7 +170,8 @@ impl Progress {
         if !is_over(input, &mut current.text)? {
             return Err(WaveError::Refused(number + 1));
         }
-        self.page.flush(out)
+        self.page.flush(out)?;
+        Ok(())
     }
 
     /// Shows that the trace is cut off, and writes all that waits.
@@ -179,7 +180,8 @@ impl Progress {
         ensures part { (sys : Flat) → IfErr result (IsCutUnfinished sys self.old (W.contents out.old) (W.contents out.new)) }
     {
         self.dump.cut_off(&mut self.page.text)?;
-        self.page.flush(out)
+        self.page.flush(out)?;
+        Ok(())
     }
 
     /// Reads a trace and writes its dump. The caller lends the buffer for lines, so that it has the line of a refusal.

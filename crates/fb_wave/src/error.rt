@@ -3,8 +3,9 @@
 ghost use Rattle.std.specs.Prelude.{◌≡◌};
 ghost use Rattle.std.specs.IoError.{error_kind};
 ghost use Rattle.fb_wave.specs.Faults.{IsFaultOf};
-ghost use Rattle.fb_wave.specs.declared.error.WaveError.TheVariants.{Memory};
+ghost use Rattle.fb_wave.specs.declared.error.WaveError.TheVariants.{Memory, Write};
 
+use crate::page::PageFault;
 use std::alloc::AllocError;
 use std::io;
 use thiserror::Error;
@@ -53,5 +54,13 @@ impl From<io::Error> for WaveError {
 
     fn from(error: io::Error) -> WaveError {
         fault_of(error.kind())
+    }
+}
+
+impl From<PageFault> for WaveError {
+    ghost from_gives = { λ fault e. e ≡ Write fault.written };
+
+    fn from(fault: PageFault) -> WaveError {
+        WaveError::Write(fault.written)
     }
 }

@@ -12,15 +12,13 @@ use Rattle.fb_inspect.specs.StateDumps.{lines_of, takings_of}
 use Rattle.fb_inspect.specs.Waving.{HasGoneOn, HasWaved}
 use Rattle.fb_inspect.proofs.Ending.{cut_done, cut_part, front_flush, front_waved, shown_cut, shown_whole, some_text, whole_done, whole_part}
 use Rattle.fb_inspect.proofs.Waved.{flushed_on, waved_none}
-use Rattle.std.proofs.Common.{◌≡◌, ◌<◌, ◌+◌, ◌∙◌, inl, length, Some, Result, Ok}
+use Rattle.std.proofs.Common.{◌≡◌, ◌<◌, ◌+◌, ◌∙◌, inl, length, Some, Ok}
 use Rattle.std.specs.Prelude.{IfSome}
 use Rattle.std.proofs.lemmas.Result.{err_from_is_err_and}
 use Rattle.fb_inspect.specs.Refusals.{IsWrongAt, IsWrongLine}
 use Rattle.fb_inspect.specs.Standing.{GoesAfter}
-use Rattle.fb_inspect.specs.declared.error.InspectError.{InspectError}
 use Rattle.fb_inspect.specs.declared.walk.Step.{Step}
-use Rattle.fb_inspect.proofs.Going.{cut_short_none}
-use Rattle.fb_inspect.proofs.Refused.{err_none, err_refused, none_refused, refused_then}
+use Rattle.fb_inspect.proofs.Refused.{err_none, err_refused, refused_then}
 use Rattle.fb_inspect.proofs.Ending.{after_last}
 use Rattle.fb_inspect.proofs.Joined.{ok_passed}
 use Rattle.fb_inspect.proofs.state_wave.StateWave.go.Goals as goal
@@ -177,8 +175,7 @@ pub returns-in_err-flush_much-in-Taken-clause-refused :
     goal.returns-in_err-flush_much-in-Taken-clause-refused
 returns-in_err-flush_much-in-Taken-clause-refused g c = λ rest text few names known well begins.
     let q = err_from_is_err_and c.from_residual-in_err-flush_much-in-Taken.result c.from_residual-in_err-flush_much-in-Taken.ensures.1 in
-    rw (q.1, q.2) (none_refused _ _
-    (cut_short_none (g.W.Write.contents c.loop.out) (g.W.Write.contents c.flush_much.new.out) c.step.new.self.page c.in_err-flush_much-in-Taken.field-0.0 c.in_err-flush_much-in-Taken.ensures.part))
+    rw (q.1, q.2) tt
 
 pub returns-in-Ended-clause-refused : goal.returns-in-Ended-clause-refused
 returns-in-Ended-clause-refused g c = λ rest text few names known well begins.

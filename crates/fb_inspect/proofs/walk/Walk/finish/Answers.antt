@@ -1,13 +1,9 @@
 use Rattle.std.proofs.Common.{◌+◌, ◌++◌, ◌∙◌, ℕ, List, ap, subst, sym}
 use Rattle.std.specs.Io.KnownBytes.{Appends}
 use Rattle.std.proofs.lemmas.Result.{err_from_is_err_and}
-use Rattle.fb_wave.proofs.Handing.{on_ok}
-use Rattle.fb_inspect.specs.declared.page.Page.{Page}
+use Rattle.fb_wave.specs.declared.page.Page.{Page}
 use Rattle.fb_inspect.proofs.Ended.{nothing_sent, short_sent}
-use Rattle.fb_inspect.proofs.Ending.{err_with}
-use Rattle.fb_inspect.proofs.Going.{err_short}
 use Rattle.fb_inspect.proofs.Placed.{err_any}
-use Rattle.fb_inspect.proofs.Refused.{err_none}
 use Rattle.fb_inspect.proofs.walk.Walk.finish.Goals as goal
 
 pub returns-in_err-put_line-clause-fault : goal.returns-in_err-put_line-clause-fault
@@ -19,20 +15,19 @@ returns-in_err-finish-clause-fault g c = err_any c.from_residual-in_err-finish.r
 pub returns-clause-finishes : goal.returns-clause-finishes
 returns-clause-finishes g c =
     let text = c.args.self.now.trail.page.text.items in
-    on_ok c.flush.result _ _ c.flush.ensures.whole
-    (λ got. record {
+    record {
       over = c.in_ok-finish.ensures.over;
-      got = subst (Appends (g.W.Write.contents c.args.out.now) (g.W.Write.contents c.flush.new.out)) (c.in_ok-put_line.ensures ∙ ap (λ (t : List ℕ). text ++ t) c.as_slice-line.ensures.value) got;
-    })
+      got = subst (Appends (g.W.Write.contents c.args.out.now) (g.W.Write.contents c.flush.new.out)) (c.in_ok-put_line.ensures ∙ ap (λ (t : List ℕ). text ++ t) c.as_slice-line.ensures.value)
+          c.in_ok-flush.ensures.whole;
+    }
 
-pub returns-clause-fault : goal.returns-clause-fault
-returns-clause-fault g c =
+pub returns-in_err-flush-clause-fault : goal.returns-in_err-flush-clause-fault
+returns-in_err-flush-clause-fault g c =
     let text = c.args.self.now.trail.page.text.items in
     let page : Page = record (c.args.self.now.trail.page) { text = c.put_line.new.text } in
-    err_with c.flush.result _ _ c.flush.ensures.part
-    (λ e short.
-    let sent = short_sent (g.W.Write.contents c.args.out.now) (g.W.Write.contents c.flush.new.out) page e short in
-    record {
+    let sent = short_sent (g.W.Write.contents c.args.out.now) (g.W.Write.contents c.flush.new.out) page c.in_err-flush.field-0.0 c.in_err-flush.ensures.part in
+    err_any c.from_residual-in_err-flush.result _
+    (record {
       got = sent.0;
       rest = sent.1;
       parts = sym (c.in_ok-put_line.ensures ∙ ap (λ (t : List ℕ). text ++ t) c.as_slice-line.ensures.value) ∙ sent.2.0;
@@ -43,8 +38,3 @@ pub returns-in_err-finish-clause-refused : goal.returns-in_err-finish-clause-ref
 returns-in_err-finish-clause-refused g c =
     let q = err_from_is_err_and c.from_residual-in_err-finish.result c.from_residual-in_err-finish.ensures.1 in
     rw (q.1, q.2) c.in_err-finish.ensures.refused
-
-pub returns-clause-refused : goal.returns-clause-refused
-returns-clause-refused g c =
-    let page : Page = record (c.args.self.now.trail.page) { text = c.put_line.new.text } in
-    err_none c.flush.result _ (err_short c.flush.result (g.W.Write.contents c.args.out.now) (g.W.Write.contents c.flush.new.out) page c.flush.ensures.part)

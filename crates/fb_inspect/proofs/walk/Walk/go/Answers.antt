@@ -19,9 +19,9 @@ use Rattle.std.specs.Io.KnownBytes.{Consumes}
 use Rattle.std.proofs.lemmas.Result.{err_from_is_err_and}
 use Rattle.fb_inspect.specs.Refusals.{IsWrongAt, IsWrongLine}
 use Rattle.fb_inspect.specs.Standing.{GoesAfter}
-use Rattle.fb_inspect.proofs.Going.{after_last, cut_short_none, well_first, well_flushed}
+use Rattle.fb_inspect.proofs.Going.{after_last, well_first, well_flushed}
 use Rattle.fb_wave.proofs.Handing.{on_ok}
-use Rattle.fb_inspect.proofs.Refused.{err_none, err_refused, none_refused, refused_then}
+use Rattle.fb_inspect.proofs.Refused.{err_none, err_refused, refused_then}
 use Rattle.fb_inspect.proofs.walk.Walk.go.Goals as goal
 
 pub loop-init : goal.loop-init
@@ -222,7 +222,7 @@ pub returns-in_err-flush_much-in-Taken-clause-refused :
     goal.returns-in_err-flush_much-in-Taken-clause-refused
 returns-in_err-flush_much-in-Taken-clause-refused g c = λ only rest text few names starts known begins.
     let q = err_from_is_err_and c.from_residual-in_err-flush_much-in-Taken.result c.from_residual-in_err-flush_much-in-Taken.ensures.1 in
-    rw (q.1, q.2) (none_refused _ _ (cut_short_none (g.W.Write.contents c.loop.out) (g.W.Write.contents c.flush_much.new.out) c.step.new.self.trail.page c.in_err-flush_much-in-Taken.field-0.0 c.in_err-flush_much-in-Taken.ensures.part))
+    rw (q.1, q.2) tt
 
 pub returns-in-Ended-clause-refused : goal.returns-in-Ended-clause-refused
 returns-in-Ended-clause-refused g c = λ only rest text few names starts known begins.

@@ -91,8 +91,8 @@ returns-in_err-flush_much-clause-part g c =
     on_passed _ _ (FailsShown c.args.cut sys (g.W.Write.contents c.args.out.now) (g.W.Write.contents c.flush_much.new.out)) c.from_residual-in_err-flush_much.ensures.1
     (fails_in c.args.cut sys _ _ _
     (fails_taken sys _ _ _ _ _ _ _ _ _ _ c.loop-number.invariant.copied
-    (subst (λ (l : List ℕ). IsTaken sys c.form_of-form.result l c.loop-number.self c.take.new.self) c.as_slice-in-loop-number-3.ensures.value c.in_ok-take.ensures.taken) _
-    c.in_err-flush_much.ensures.part))
+    (subst (λ (l : List ℕ). IsTaken sys c.form_of-form.result l c.loop-number.self c.take.new.self) c.as_slice-in-loop-number-3.ensures.value c.in_ok-take.ensures.taken)
+    c.in_err-flush_much.field-0.0 c.in_err-flush_much.ensures.part))
 
 pub returns-in_err-next_line-2-clause-part : goal.returns-in_err-next_line-2-clause-part
 returns-in_err-next_line-2-clause-part g c =
@@ -162,7 +162,7 @@ returns-in_err-flush_much-clause-refused g c names =
     let sys = system_of c.args.table.now.system.now in
     let input = g.R.Read.remaining c.args.input.now in
     on_passed _ _ (BlamesShown c.args.cut sys input) c.from_residual-in_err-flush_much.ensures.1
-    (write_blames c.args.cut sys input _ _ c.take.new.self.page c.in_err-flush_much.field-0.0 c.in_err-flush_much.ensures.part)
+    (write_blames c.args.cut sys input c.in_err-flush_much.field-0.0.written)
 
 pub returns-then-is_cut-clause-whole : goal.returns-then-is_cut-clause-whole
 returns-then-is_cut-clause-whole g c =
@@ -222,7 +222,7 @@ returns-in_err-next_line-2-clause-current g c names =
 
 pub returns-in_err-flush_much-clause-current : goal.returns-in_err-flush_much-clause-current
 returns-in_err-flush_much-clause-current g c names =
-    on_passed _ _ _ c.from_residual-in_err-flush_much.ensures.1 (write_current _ _ _ _ c.take.new.self.page _ c.in_err-flush_much.field-0.0 c.in_err-flush_much.ensures.part)
+    on_passed _ _ _ c.from_residual-in_err-flush_much.ensures.1 (write_current _ _ _ c.in_err-flush_much.field-0.0.written)
 
 pub returns-then-is_cut-clause-current : goal.returns-then-is_cut-clause-current
 returns-then-is_cut-clause-current g c names =

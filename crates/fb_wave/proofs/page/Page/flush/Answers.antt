@@ -3,7 +3,7 @@ use Rattle.std.specs.Io.KnownBytes.{Appends}
 use Rattle.std.proofs.lemmas.List.{take_all}
 use Rattle.fb_trace.specs.Progress.{Fails, bounded}
 use Rattle.fb_trace.proofs.Steps.{Fails-direct}
-use Rattle.fb_wave.proofs.page.DumpPage.flush.Goals as goal
+use Rattle.fb_wave.proofs.page.Page.flush.Goals as goal
 
 pub returns-then-taken-len-clause-part : goal.returns-then-taken-len-clause-part
 returns-then-taken-len-clause-part g c =
