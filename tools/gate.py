@@ -5,14 +5,14 @@ First it installs the system packages of tools/system_packages.txt that are miss
 (tools/system_packages.py). Without a crate it is the whole gate. In order:
 
 - pages: each example's page explains its trace, docs/FORMATS.md shows the explanations of the refusals, and what the documents name
-  exists (tools/documents.py); the traces of the examples are those of a second simulator (tools/interpreter.py) and keep the rules of
+  exists (tools/documents.py); NOTICE names each library of the program with its licence (tools/notice.py); the traces of the examples are those of a second simulator (tools/interpreter.py) and keep the rules of
   their page (tools/bottling.py); the syntax files of editors/ colour declarations right (tools/editors.py)
 - tools: those that try stored cases and wrong implementations distinguish right from wrong (tools/cases_test.py,
   tools/must_fail_test.py)
 - proofs, from scratch: every crate and its tests are proved, and every wrong implementation in crates/*/must-fail is refused
 - tests and programs
 - calls of the program: each status (tools/calls.py), the commands that pages of docs/ show (tools/pages.py),
-  ./simulate (tools/launcher.py), waveforms of the examples (tools/waves.py), graphs of declarations (tools/graphs.py), what
+  ./simulate (tools/launcher.py), the packages (tools/packages.py), waveforms of the examples (tools/waves.py), graphs of declarations (tools/graphs.py), what
   happens inside traces (tools/insides.py), waveforms with it (tools/state_waves.py), texts that are no traces (tools/traces.py), the stored
   cases of cases/ (tools/cases.py), rings of resources (tools/rings.py), random systems (tools/drawn.py), random types
   (tools/drawn_types.py), where they stop (tools/stops.py), each token at each place of a declaration (tools/expected.py), types with more events than 16 bits can number (tools/wide.py), outputs that take little and readers that
@@ -55,6 +55,9 @@ import insides
 import interpreter
 import launcher
 import narrow
+import notice
+import package
+import packages
 import pages
 import refuse
 import rings
@@ -217,6 +220,7 @@ def call_after_each_run():
     def tries(made):
         yield pages.main(made) == 0
         yield launcher.main(made) == 0
+        yield packages.main(made) == 0
         yield waves.make_all(made)
         yield graphs.make_all(made)
         yield insides.make_all(made)
@@ -277,8 +281,8 @@ class Beside:
 
 def tell_before_the_last_line(times, look):
     """Has the kit's script print the times before its last line, which says how many passed and failed. Returns a call that counts a
-    check that has failed there."""
-    failed = []
+    check that has failed there, and a list that gets the last line."""
+    failed, line = [], []
 
     def tell(*texts, **how):
         counts = texts and re.match(r"(\d+) passed, (\d+) failed", str(texts[0]))
@@ -287,10 +291,11 @@ def tell_before_the_last_line(times, look):
         failed.append(look.has_failed())
         times.tell()
         passed, missed = (int(it) for it in counts.groups())
-        print(f"{passed + (not failed[0])} passed, {missed + failed[0]} failed{texts[0][counts.end() :]}", **how)
+        line.append(f"{passed + (not failed[0])} passed, {missed + failed[0]} failed{texts[0][counts.end() :]}")
+        print(*line, **how)
 
     rt.print = tell
-    return lambda: any(failed)
+    return lambda: any(failed), line
 
 
 def copy_of(names, room):
@@ -335,7 +340,7 @@ def main(words):
     if not system_packages.set_up():
         print("0 passed, 1 failed")
         return 1
-    failed = explained.main([]) or documents.main() or bottling.main() or interpreter.main([]) or editors.main()
+    failed = explained.main([]) or documents.main() or notice.main() or bottling.main() or interpreter.main([]) or editors.main()
     if subprocess.run(["examples/check"]).returncode or failed or cases_test.main():
         print("0 passed, 1 failed")
         return 1
@@ -344,10 +349,13 @@ def main(words):
         Crate.toolchain = toolchain_with(room, "clang", QUICK_CLANG)
         call_after_each_run()
         share_processors()
-        has_failed = tell_before_the_last_line(Times(room), look)
+        (has_failed, last_line), tree = tell_before_the_last_line(Times(room), look), package.tree()
         status = ci(words, room)
         os.chdir(TOP)
-        return status or int(has_failed())
+        status = status or int(has_failed())
+        if not status and not words:
+            package.record_gate(*last_line, tree)
+        return status
 
 
 if __name__ == "__main__":

@@ -4,7 +4,7 @@
 The built program, or PROGRAM, must print the help of docs/HELP.md, the explanations that tools/unbuilt.py reads from the sources, and
 the version of CHANGELOG.md. The man page and the completions must name each command and option of the help. Then ./simulate is called
 in a copy of the files that it needs, with stand-ins for the tools that build: by a symbolic link, without a build, with an unproved
-program, and to install. With --write this writes docs/HELP.md as the program prints it. ./gate runs the rest each time it has run the
+program, to install and to package. With --write this writes docs/HELP.md as the program prints it. ./gate runs the rest each time it has run the
 program."""
 
 import os
@@ -26,7 +26,7 @@ HEAD = "# Help\n\nWhat `--help` prints, for the program and each of its commands
 COMPLETIONS = ("bash-completion/completions/fbsim", "zsh/site-functions/_fbsim", "fish/vendor_completions.d/fbsim.fish")
 MANUAL = "man/man1/fbsim.1"
 # What ./simulate needs of the repository.
-NEEDED = ("simulate", "tools/unbuilt.py", "docs/HELP.md", "CHANGELOG.md", "crates.txt", "crates/fb_why/src/table.rt", "share")
+NEEDED = ("simulate", "tools/unbuilt.py", "tools/start_unproved", "docs/HELP.md", "CHANGELOG.md", "crates.txt", "crates/fb_why/src/table.rt", "share")
 STANDS_IN = """import os, shutil, sys
 print("a build", file=sys.stderr)
 if sys.argv[1:]:
@@ -141,31 +141,45 @@ def answer_unbuilt(it):
     it.call(["explain", refusal], 0, unbuilt.explanations()[refusal])
     it.call(["explain", "Divide"], 0, unbuilt.explanations()["divide"])
     it.call(["explain", "E06"], 5, err="error: no refusal or stop is called E06\n")
-    it.call(["--version"], 0, f"fbsim {unbuilt.version()}\n")
-    it.call(["check", "-"], 126, err="a build\n")
-    it.call(["install", f"{it.folder}/to"], 126, err="a build\n")
+    version = f"fbsim {unbuilt.version()}\n"
+    it.call(["--version"], 0, version + "this program is proved; --unproved runs one that is not\n")
+    it.call(["--unproved", "-V"], 0, version + "this program is not proved\n")
+    for words in (["check", "-"], ["install", f"{it.folder}/to"], ["package", f"{it.folder}/to"]):
+        it.call(words, 126, err="a build\n")
 
 
 def keep_unproved(it):
     """Without proofs: built once, and again when a source has changed."""
-    it.call(["--unproved", "explain", "E06"], 5, err=NOT_PROVED + "error: no refusal or stop is called E06\n")
+    it.call(["--unproved", "explain", "E06"], 5, err="error: no refusal or stop is called E06\n")
     it.call(["--unproved", "check", "-"], 0, "accepted\n", NOT_PROVED + "a build\n")
-    it.call(["--unproved", "check", "-"], 0, "accepted\n", NOT_PROVED)
+    it.call(["--unproved", "check", "-"], 0, "accepted\n")
     it.is_changed(it.unproved)
     it.call(["--unproved", "check", "-"], 0, "accepted\n", NOT_PROVED + "a build\n")
 
 
+def installed(folder):
+    """Returns the names of the files in a folder."""
+    return {os.path.relpath(f"{at}/{name}", folder) for at, _, names in os.walk(folder) for name in names}
+
+
 def install(it):
-    """Into a folder that is not there yet, and once more over it."""
+    """Into a folder that is not there yet, and once more over it: the program that is not proved, and then the proved one."""
     os.utime(it.built)
-    to = f"{it.folder}/to a folder"
-    it.call(["install"], 5, err="usage: ./simulate install DIR\n")
-    for _ in range(2):
-        it.call(["install", to], 0)
-    found = {os.path.relpath(f"{at}/{name}", to) for at, _, names in os.walk(to) for name in names}
-    if found != {"bin/fbsim", *(f"share/{name}" for name in (MANUAL, *COMPLETIONS))}:
-        it.faults.append(f"./simulate install: {sorted(found)}")
-    it.call(["check", "-"], 0, "accepted\n", by=f"{to}/bin/fbsim")
+    to, pages = f"{it.folder}/to a folder", {f"share/{name}" for name in (MANUAL, *COMPLETIONS)}
+    usage = "usage: ./simulate [--unproved] install DIR\n"
+    it.call(["install"], 5, err=usage)
+    it.call(["--unproved", "install", to, to], 5, err=usage)
+    it.call(["--unproved", "package", to], 5, err="usage: ./simulate package DIR, which packages the proved program alone\n")
+    version = f"fbsim {unbuilt.version()}\n"
+    for words, more, says in ((["--unproved", "install", to], {"lib/fbsim/fbsim"}, version + "this program is not proved\n"), (["install", to], set(), version)):
+        for _ in range(2):
+            it.call(words, 0)
+        if installed(to) != {"bin/fbsim", *pages, *more}:
+            it.faults.append(f"./simulate {words}: {sorted(installed(to))}")
+        os.symlink("to a folder/bin/fbsim", f"{it.folder}/link") if more else None
+        for by in (f"{to}/bin/fbsim", f"{it.folder}/link"):
+            it.call(["check", "-"], 0, "accepted\n", by=by)
+            it.call(["--version"], 0, says, by=by)
 
 
 def main(program=PROGRAM, *words):
