@@ -12,6 +12,7 @@
   definition like `HasTaken`. If a page says in which file a definition is, it is there.
 - So does every name like `module::item` in the comments of sources.
 - README.md has at most 1,800 words, each entry of docs/DECISIONS.md at most 80, each row of docs/maintain/PROOFS.md at most 100.
+- The version of CHANGELOG.md is that of the program, of the Python package and of the files for VS Code.
 
 It prints what is wrong and then ends with status 1. ./gate runs it."""
 
@@ -22,6 +23,7 @@ import re
 import sys
 import textwrap
 
+import unbuilt
 from kit import TOP
 
 ROW = re.compile(r"\| `(fb\w+(?:::\w+)?)` \|.*\|")
@@ -231,13 +233,19 @@ def length_faults():
     return faults + [f"docs/maintain/PROOFS.md: {len(it.split())} words are more than {MOST_WORDS_OF_A_ROW}: {it[:60]}" for it in wide]
 
 
+def version_faults():
+    """Returns the files that have another version than CHANGELOG.md."""
+    lines = {"editors/vscode/package.json": '"version": "{}"', "python/src/fbsim/__init__.py": '__version__ = "{}"', "crates/fbsim_line/src/line.rt": 'const VERSION: &str = "{}";'}
+    return [f"{page}: lacks {line.format(unbuilt.version())}, the version of CHANGELOG.md" for page, line in lines.items() if line.format(unbuilt.version()) not in text_of(page)]
+
+
 def main():
     """Checks the documents and returns the status."""
-    pages = ["README.md", "CONTRIBUTING.md", "CHANGELOG.md", *[f"{folder}/{it}" for folder in ("docs", "docs/maintain", "docs/notes") for it in sorted(os.listdir(f"{TOP}/{folder}")) if it.endswith(".md")], "bench/README.md", "examples/README.md"]
+    pages = ["README.md", "CONTRIBUTING.md", "CHANGELOG.md", "SECURITY.md", *[f"{folder}/{it}" for folder in ("docs", "docs/maintain", "docs/notes") for it in sorted(os.listdir(f"{TOP}/{folder}")) if it.endswith(".md")], "bench/README.md", "examples/README.md"]
     proved = [it for it in crates() if it != "fbsim" and not it.endswith("_tests")]
     faults = has_all("docs/maintain/ARCHITECTURE.md", crates()) + has_all("docs/maintain/PROOFS.md", proved, may_repeat=True)
     faults += module_faults() + proof_faults() + definition_faults() + clause_faults("docs/maintain/DEFINITIONS.md")
-    faults += comment_faults() + block_faults() + example_faults() + length_faults()
+    faults += comment_faults() + block_faults() + example_faults() + length_faults() + version_faults()
     places = [it for kind in ("src/**/*.rt", "specs/**/*.antt", "proofs/**/*.antt") for it in glob.glob(f"{TOP}/crates/*/{kind}", recursive=True)]
     known = {word for it in places for word in re.findall(r"[A-Z]\w+", text_of(os.path.relpath(it, TOP)))}
     known |= {os.path.basename(it).removesuffix(".antt") for it in places}

@@ -125,7 +125,7 @@ impl From<AllocError> for LineFault {
 const NO_CALL: &str = "error: the words name no call\n";
 
 /// The version of the program, that of CHANGELOG.md.
-const VERSION: &str = "1.1.0";
+const VERSION: &str = "1.2.0";
 
 const ABOUT: &str =
     "Simulates IEC 61499-1 control applications in virtual time; one tick is a millisecond of it.";

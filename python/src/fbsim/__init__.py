@@ -6,6 +6,6 @@ The package computes no simulation. Every trace comes from the program, which `f
 from fbsim.faults import Fault, ProgramMissing
 from fbsim.program import find_program
 
-__version__ = "1.1.0"
+__version__ = "1.2.0"
 
 __all__ = ["Fault", "ProgramMissing", "find_program"]
