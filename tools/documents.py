@@ -11,6 +11,7 @@
 - Every function like `fb_sim::run::run` and every file like `docs/FORMATS.md` that a page names exists, and so does every type or
   definition like `HasTaken`. If a page says in which file a definition is, it is there.
 - So does every name like `module::item` in the comments of sources.
+- The synopsis of docs/FORMATS.md has the commands, options and arguments of docs/HELP.md, and names the commands with --why.
 - README.md has at most 1,800 words, each entry of docs/DECISIONS.md at most 80, each row of docs/maintain/PROOFS.md at most 100.
 - The version of CHANGELOG.md is that of the program, of the Python package and of the files for VS Code.
 
@@ -222,6 +223,29 @@ def example_faults():
     return faults
 
 
+def synopsis_faults():
+    """Returns the faults of the synopsis of docs/FORMATS.md, "Program", and of the sentence that names the commands with --why there. Both
+    are compared with docs/HELP.md, which the program prints."""
+    page, faults = "docs/FORMATS.md", []
+    program = text_of(page).partition("\n## Program\n")[2]
+    lines = {it.split()[1]: it for it in program.split("```")[1].strip().splitlines()}
+    helps = dict(re.findall(r"^\$ fbsim (\w+) --help\n(.*?)^```$", text_of("docs/HELP.md"), re.M | re.S))
+    faults += [f"{page}: the synopsis and docs/HELP.md differ in the command {it}" for it in sorted({*lines} ^ {*helps})]
+    for command in sorted({*lines} & {*helps}):
+        options = {*re.findall(r"^ +(?:-\w, )?(--\w+)", helps[command], re.M)} - {"--help"}
+        usage = re.search(r"^Usage: .*$", helps[command], re.M)[0]
+        given = {*re.findall(r"<([A-Z]+)>", usage)} | {it for it in re.findall(r"(?<!\[)(--\w+)", usage)}
+        line = lines[command]
+        shown, needed = {*re.findall(r"--\w+", line)}, re.sub(r"\[[^\]]*\]", "", line).split()[2:]
+        needed = {it for at, it in enumerate(needed) if it.startswith("--") or not needed[at - 1 : at] or not needed[at - 1].startswith("--")}
+        if shown != options or needed != given:
+            faults.append(f"{page}: the synopsis of {command} and docs/HELP.md differ in {', '.join(sorted((shown ^ options) | (needed ^ given)))}")
+    named = {*TEXTS.findall(re.search(r"^\d+\. `--why`, for ((?:`\w+`(?:, | and )?)+)", program, re.M)[1])}
+    having = {it for it, text in helps.items() if re.search(r"^ +--why ", text, re.M)}
+    faults += [f"{page}: the commands with --why and docs/HELP.md differ in {it}" for it in sorted(named ^ having)]
+    return faults
+
+
 def length_faults():
     """Returns the faults of README.md, docs/DECISIONS.md and docs/maintain/PROOFS.md if they have more words than they may."""
     page, entries = "docs/DECISIONS.md", re.split(r"\n(?=- \*\*|## )", text_of("docs/DECISIONS.md"))
@@ -245,7 +269,7 @@ def main():
     proved = [it for it in crates() if it != "fbsim" and not it.endswith("_tests")]
     faults = has_all("docs/maintain/ARCHITECTURE.md", crates()) + has_all("docs/maintain/PROOFS.md", proved, may_repeat=True)
     faults += module_faults() + proof_faults() + definition_faults() + clause_faults("docs/maintain/DEFINITIONS.md")
-    faults += comment_faults() + block_faults() + example_faults() + length_faults() + version_faults()
+    faults += comment_faults() + block_faults() + example_faults() + length_faults() + version_faults() + synopsis_faults()
     places = [it for kind in ("src/**/*.rt", "specs/**/*.antt", "proofs/**/*.antt") for it in glob.glob(f"{TOP}/crates/*/{kind}", recursive=True)]
     known = {word for it in places for word in re.findall(r"[A-Z]\w+", text_of(os.path.relpath(it, TOP)))}
     known |= {os.path.basename(it).removesuffix(".antt") for it in places}
