@@ -4,7 +4,7 @@
 The page has a section for each scenario, with lines of its trace, which must be in the trace in that order. The rules of the page
 are checked over all lines of each trace, and each rule must find the fault in a trace with one line changed. The expected values
 come from the page, not from the program. ./gate runs this before anything is built; tools/calls.py compares what the program
-writes with the traces."""
+writes with the traces, and tools/bottling_suite.py tries the suite."""
 
 import re
 import sys

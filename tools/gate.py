@@ -11,13 +11,13 @@ First it installs the system packages of tools/system_packages.txt that are miss
   tools/must_fail_test.py)
 - proofs, from scratch: every crate and its tests are proved, and every wrong implementation in crates/*/must-fail is refused
 - tests and programs
-- calls of the program: each status (tools/calls.py), the commands that pages of docs/ show (tools/pages.py),
-  ./simulate (tools/launcher.py), the packages (tools/packages.py), waveforms of the examples (tools/waves.py), graphs of declarations (tools/graphs.py), what
-  happens inside traces (tools/insides.py), waveforms with it (tools/state_waves.py), texts that are no traces (tools/traces.py), the stored
-  cases of cases/ (tools/cases.py), rings of resources (tools/rings.py), random systems (tools/drawn.py), random types
-  (tools/drawn_types.py), where they stop (tools/stops.py), each token at each place of a declaration (tools/expected.py), types with more events than 16 bits can number (tools/wide.py), outputs that take little and readers that
-  fail (tools/narrow.py), texts that are cut or changed in one byte (tools/hostile.py), and each request for memory refused
-  (tools/refuse.py)
+- calls of the program: each status (tools/calls.py), the commands that pages of docs/ show (tools/pages.py), the suite of
+  examples/bottling, whole and broken (tools/bottling_suite.py), ./simulate (tools/launcher.py), the packages (tools/packages.py), waveforms of the examples (tools/waves.py),
+  graphs of declarations (tools/graphs.py), what happens inside traces (tools/insides.py), waveforms with it (tools/state_waves.py), texts
+  that are no traces (tools/traces.py), the stored cases of cases/ (tools/cases.py), rings of resources (tools/rings.py), random systems
+  (tools/drawn.py), random types (tools/drawn_types.py), where they stop (tools/stops.py), each token at each place of a declaration
+  (tools/expected.py), types with more events than 16 bits can number (tools/wide.py), outputs that take little and readers that fail
+  (tools/narrow.py), texts that are cut or changed in one byte (tools/hostile.py), and each request for memory refused (tools/refuse.py)
 
 Then it prints the processor seconds and the memory of each crate. The last line is 'N passed, M failed', and the status is 0 if none
 failed. With crates it does the same only for these and those below them, on a copy of their files. --jobs N uses N processors.
@@ -40,6 +40,7 @@ import time
 from concurrent.futures import ThreadPoolExecutor
 
 import bottling
+import bottling_suite
 import calls
 import cases
 import cases_test
@@ -219,6 +220,7 @@ def call_after_each_run():
 
     def tries(made):
         yield pages.main(made) == 0
+        yield bottling_suite.try_all(made)
         yield launcher.main(made) == 0
         yield packages.main(made) == 0
         yield waves.make_all(made)

@@ -14,7 +14,7 @@ import sys
 from kit import TOP
 from program import Room
 
-PAGES = ("docs/FIRST_APPLICATION.md", "docs/FROM_4DIAC.md")
+PAGES = ("docs/FIRST_APPLICATION.md", "docs/BENCH.md", "docs/FROM_4DIAC.md")
 PROGRAM = f"{TOP}/crates/fbsim/out/fbsim"
 # A folder that pages may name. Its files are in the folder of the page.
 FOLDER = "/tmp/"
