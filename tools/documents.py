@@ -6,7 +6,8 @@
 - docs/maintain/PROOFS.md has each crate, except those of tests, in a row for each promise, and names only functions, clauses and definitions
   that exist.
 - Each block of docs/maintain/READING.md is word for word in the file named before it.
-- docs/maintain/DEFINITIONS.md has every file of definitions, and names only clauses that its functions have.
+- docs/maintain/DEFINITIONS.md names every file of definitions of the model and of the text, and each file of any crate begins with a
+  comment.
 - The example in the comment of a public item is the body of the test that it names.
 - Every function like `fb_sim::run::run` and every file like `docs/FORMATS.md` that a page names exists, and so does every type or
   definition like `HasTaken`. If a page says in which file a definition is, it is there.
@@ -115,34 +116,18 @@ def proof_faults():
 
 
 def definition_faults():
-    """Returns the faults of docs/maintain/DEFINITIONS.md, which names each file of definitions with its folder, or only the folder."""
+    """Returns the files of definitions that docs/maintain/DEFINITIONS.md does not name, of the model and of the text, and those of all
+    crates that do not begin with a comment that says what they define."""
     page, faults = "docs/maintain/DEFINITIONS.md", []
-    whole, words = text_of(page), set(re.findall(r"\w+", text_of(page)))
-    of_modules = [os.path.relpath(it, f"{TOP}/crates") for it in sorted(glob.glob(f"{TOP}/crates/*/specs/*/"))]
-    for folder in [*(f"{it}/specs" for it in crates()), *(it for it in of_modules if not it.endswith("/formers"))]:
-        found = re.findall(rf"^\| `{folder}(?:/(\w+))?`([^|]*)\|", whole, re.M)
-        names = {it for first, rest in found for it in [first, *TEXTS.findall(rest)]}
-        for it in sorted(glob.glob(f"{TOP}/crates/{folder}/*.antt")):
-            name = os.path.basename(it).removesuffix(".antt")
-            # (those of the model and of the text have their own tables)
-            known = words if folder in ("fb_types/specs", "fb_read/specs") else names
-            has_definitions = name != "Lib" and not os.path.isdir(it.removesuffix(".antt"))
-            if has_definitions and "" not in names and name not in known:
-                faults.append(f"{page}: {folder}/{name} is not named")
-        faults += [f"{page}: there is no {folder}/{it}" for it in sorted(names - {""}) if not os.path.exists(f"{TOP}/crates/{folder}/{it}.antt")]
-    return faults
-
-
-def clause_faults(page):
-    """Returns the clauses that a page names in parentheses after functions of which none has them."""
-    faults, crate = [], None
-    for named, inside in re.findall(r"((?:`[\w:]+`(?:, | and )?)+) \(([^()]*)\)", text_of(page)):
-        crate = ([it.split("::")[0] for it in TEXTS.findall(named) if it.startswith("fb_")] or [crate])[-1]
-        clauses = [it.strip() for it in inside.split(";")[0].split(",") if re.fullmatch(r"\s*[a-z_]+\s*", it)]
-        names = "|".join(re.escape(it.split("::")[-1]) for it in TEXTS.findall(named))
-        heads = re.findall(rf"\bfn (?:{names})\b.*?(?=\bfn |\Z)", sources(crate, "src"), re.S) if crate else []
-        if heads:
-            faults += [f"{page}: {named.strip()} has no clause {it}" for it in clauses if not re.search(rf"ensures {it} ", "".join(heads))]
+    words = set(re.findall(r"\w+", text_of(page)))
+    for place in sorted(glob.glob(f"{TOP}/crates/*/specs/**/*.antt", recursive=True)):
+        here, name = os.path.relpath(place, TOP), os.path.basename(place).removesuffix(".antt")
+        if name == "Lib" or os.path.isdir(place.removesuffix(".antt")):
+            continue
+        if not text_of(here).startswith("-- "):
+            faults.append(f"{here}: the first line does not say what it defines")
+        if os.path.dirname(here) in ("crates/fb_types/specs", "crates/fb_read/specs") and name not in words:
+            faults.append(f"{page}: {here} is not named")
     return faults
 
 
@@ -268,7 +253,7 @@ def main():
     pages = ["README.md", "CONTRIBUTING.md", "CHANGELOG.md", "SECURITY.md", *[f"{folder}/{it}" for folder in ("docs", "docs/maintain", "docs/notes") for it in sorted(os.listdir(f"{TOP}/{folder}")) if it.endswith(".md")], "bench/README.md", "examples/README.md"]
     proved = [it for it in crates() if it != "fbsim" and not it.endswith("_tests")]
     faults = has_all("docs/maintain/ARCHITECTURE.md", crates()) + has_all("docs/maintain/PROOFS.md", proved, may_repeat=True)
-    faults += module_faults() + proof_faults() + definition_faults() + clause_faults("docs/maintain/DEFINITIONS.md")
+    faults += module_faults() + proof_faults() + definition_faults()
     faults += comment_faults() + block_faults() + example_faults() + length_faults() + version_faults() + synopsis_faults()
     places = [it for kind in ("src/**/*.rt", "specs/**/*.antt", "proofs/**/*.antt") for it in glob.glob(f"{TOP}/crates/*/{kind}", recursive=True)]
     known = {word for it in places for word in re.findall(r"[A-Z]\w+", text_of(os.path.relpath(it, TOP)))}
