@@ -1,4 +1,4 @@
-"""What all tests use: the folders of the repository, and the program that FBSIM names."""
+"""Fixtures of all tests."""
 
 from __future__ import annotations
 
@@ -19,3 +19,11 @@ def top() -> Path:
 def examples() -> Path:
     """The folder of the examples."""
     return TOP / "examples"
+
+
+@pytest.fixture(scope="session")
+def conveyor():
+    """The trace of examples/conveyor."""
+    from helpers import example_in
+
+    return example_in(TOP / "examples" / "conveyor").run()

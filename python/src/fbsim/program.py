@@ -1,15 +1,26 @@
-"""Where the program is."""
+"""Where the program is, and calls of it."""
 
 from __future__ import annotations
 
 import os
 import shutil
+import subprocess
+from collections.abc import Sequence
 from pathlib import Path
+from typing import IO, Any, NamedTuple
 
-from fbsim.faults import ProgramMissing
+from fbsim.faults import ProgramMissing, fault_of
 
 # Where ./simulate builds the program, with proofs and without, below the top of the repository.
 BUILT = ("crates/fbsim/out/fbsim", "crates/fbsim/out/fbsim.unproved")
+
+
+class Called(NamedTuple):
+    """What a call of the program came to."""
+
+    status: int
+    out: str
+    said: str
 
 
 def find_program() -> str:
@@ -35,3 +46,17 @@ def find_program() -> str:
     raise ProgramMissing(
         "the program fbsim was not found: set FBSIM to its path, put it on PATH, or build it by ./simulate"
     )
+
+
+def call(
+    words: Sequence[str], given: bytes = b"", to: IO[Any] | int = subprocess.PIPE, statuses: Sequence[int] = (0,)
+) -> Called:
+    """Calls the program, and raises the fault of a status that is not among these.
+
+    `given` is its standard input. Standard output goes into the file `to`, or is returned.
+    """
+    made = subprocess.run([find_program(), *words], input=given, stdout=to, stderr=subprocess.PIPE)
+    said = made.stderr.decode(errors="replace")
+    if made.returncode not in statuses:
+        raise fault_of(made.returncode, said)
+    return Called(made.returncode, (made.stdout or b"").decode(errors="replace"), said)

@@ -1,0 +1,270 @@
+"""Traces: their lines, read one after another, and what is worked out from them.
+
+A trace is never held in memory as a whole. What reads it goes over its lines, and keeps no more than its result.
+"""
+
+from __future__ import annotations
+
+import itertools
+import os
+import shutil
+import weakref
+from abc import ABC, abstractmethod
+from collections.abc import Callable, Iterable, Iterator, Sequence
+from pathlib import Path
+from typing import TYPE_CHECKING, Any, NamedTuple
+
+from fbsim.faults import Fault, NoTrace, Stop
+from fbsim.latencies import Latencies, paired
+from fbsim.pattern import Pattern
+
+if TYPE_CHECKING:
+    from fbsim.application import Application
+    from fbsim.report import Report
+
+Value = int | bool
+
+# How many different ends of lines, all after the tick, are kept in parsed form. Most traces have few.
+KEPT_HEADS = 4096
+PIECE = 1 << 20
+
+
+class Line(NamedTuple):
+    """A line of a trace. `words` are its values as they are written; `key` is what form 2 has before the tick."""
+
+    tick: int
+    resource: str
+    sign: str
+    instance: str
+    event: str
+    words: str = ""
+    key: tuple[int, int, int] | None = None
+
+    @property
+    def values(self) -> dict[str, Value]:
+        """The values by the names of their variables."""
+        found = {}
+        for word in self.words.split():
+            name, _, value = word.partition("=")
+            found[name] = value == "TRUE" if value in ("TRUE", "FALSE") else int(value)
+        return found
+
+    def __str__(self) -> str:
+        before = f"{' '.join(map(str, self.key))} " if self.key else ""
+        after = f" {self.words}" if self.words else ""
+        return f"{before}{self.tick} {self.resource} {self.sign} {self.instance}.{self.event}{after}"
+
+
+class Signal(NamedTuple):
+    """The values of a variable, and the ticks of the lines that have them."""
+
+    ticks: list[int]
+    values: list[Value]
+
+
+def head_of(text: str) -> tuple[str, str, str, str, str]:
+    """Returns what a line has after its tick: resource, sign, instance, event and the values as they are written."""
+    resource, sign, port, *words = text.split(None, 3)
+    instance, dot, event = port.rpartition(".")
+    if sign not in ("<", ">") or not dot:
+        raise ValueError(text)
+    return resource, sign, instance, event, words[0].rstrip() if words else ""
+
+
+def lines_of(texts: Iterable[str], at_end: Callable[[str], None]) -> Iterator[Line]:
+    """Parses lines of either form. The last one, `end` or `stop`, goes to `at_end`."""
+    texts = iter(texts)
+    first = next(texts, None)
+    if first is None:
+        return
+    has_keys = not first.startswith(("end", "stop")) and first.partition(" ")[2][:1].isdigit()
+    heads: dict[str, tuple[str, str, str, str, str]] = {}
+    new, key, number, text = tuple.__new__, None, 0, first
+    try:
+        for number, text in enumerate(itertools.chain([first], texts), 1):
+            if has_keys and text[0].isdigit():
+                *parts, text = text.split(" ", 3)
+                key = (int(parts[0]), int(parts[1]), int(parts[2]))
+            tick, _, rest = text.partition(" ")
+            head = heads.get(rest)
+            if head is None:
+                if tick in ("end", "stop"):
+                    at_end(text)
+                    continue
+                head = head_of(rest)
+                if len(heads) < KEPT_HEADS:
+                    heads[rest] = head
+            yield new(Line, (int(tick), *head, key))
+    except (ValueError, IndexError) as it:
+        raise NoTrace(f"line {number} is no line of a trace: {text[:80].rstrip()}") from it
+
+
+def ending(text: str) -> tuple[int | None, Stop | None]:
+    """Returns the horizon or the stop of a last line."""
+    match text.split():
+        case ["end", horizon] if horizon.isdigit():
+            return int(horizon), None
+        case ["stop", tick, resource, reason] if tick.isdigit():
+            return None, Stop(int(tick), resource, reason)
+    raise NoTrace(f"the last line is neither end nor stop: {text[:80].rstrip()}")
+
+
+class Lines(ABC):
+    """Lines of a trace, in their order, and what is worked out from them."""
+
+    @abstractmethod
+    def __iter__(self) -> Iterator[Line]:
+        """Goes over the lines, without the last one that says how the run ended."""
+
+    def where(self, pattern: str) -> Selection:
+        """Returns the lines that match a pattern as in rules (docs/FORMATS.md): `STATION < GATE.* TAKEN>2`."""
+        return Selection(self, Pattern(pattern))
+
+    def count(self) -> int:
+        """Returns how many lines there are."""
+        return sum(1 for _ in self)
+
+    def signal(self, name: str) -> Signal:
+        """Returns all values of a variable, as GATE.TAKEN, with their ticks."""
+        return self.signals([name])[name]
+
+    def signals(self, names: Iterable[str]) -> dict[str, Signal]:
+        """Returns the signals of several variables, in one pass."""
+        found = {name: Signal([], []) for name in names}
+        wanted: dict[str, list[tuple[str, Signal]]] = {}
+        for name, signal in found.items():
+            instance, dot, variable = name.upper().rpartition(".")
+            if not dot:
+                raise Fault(f"{name} is no signal: it is INSTANCE.VARIABLE, as GATE.TAKEN")
+            wanted.setdefault(instance, []).append((variable, signal))
+        for line in self:
+            for variable, signal in wanted.get(line.instance, ()):
+                values = line.values
+                if variable in values:
+                    signal.ticks.append(line.tick)
+                    signal.values.append(values[variable])
+        return found
+
+    def latencies(self, first: str, second: str, pair: str = "queue") -> Latencies:
+        """Returns how long it takes from lines of one pattern to lines of another.
+
+        `pair` is `queue`: the k-th first with the k-th second; `next`: each first with the next second after it; or the
+        name of a variable: a first with the second that has the same value of it.
+        """
+        return paired(self, Pattern(first), Pattern(second), pair)
+
+    def frame(self) -> Any:
+        """Returns a pandas data frame: a row for each line, a column for each part and for each variable."""
+        from fbsim.frames import frame_of_lines
+
+        return frame_of_lines(self)
+
+    def plot(self, names: Sequence[str]) -> Any:
+        """Returns a figure of matplotlib that draws variables as steps over ticks."""
+        from fbsim.plots import steps
+
+        return steps(self.signals(names), getattr(self, "end", None))
+
+
+class Selection(Lines):
+    """The lines that match a pattern."""
+
+    def __init__(self, lines: Lines, pattern: Pattern) -> None:
+        self.lines, self.pattern = lines, pattern
+
+    def __iter__(self) -> Iterator[Line]:
+        return filter(self.pattern.matches, self.lines)
+
+    def __repr__(self) -> str:
+        return f"{self.lines!r}.where({self.pattern.text!r})"
+
+
+class Trace(Lines):
+    """A trace in a file, which may be read any number of times.
+
+    `Application.run` makes one whose file is temporary, and removed with the trace. `Trace("shift.trace")` is one of
+    yours; with `application`, rules over it may name only what the application has.
+    """
+
+    def __init__(self, path: str | os.PathLike[str], application: Application | None = None, where: str = "") -> None:
+        self.path, self.application, self.where_stopped = Path(path), application, where
+
+    def __repr__(self) -> str:
+        return f"<trace {self.path}>"
+
+    def __iter__(self) -> Iterator[Line]:
+        with open(self.path, encoding="ascii", errors="replace", newline="\n") as texts:
+            yield from lines_of(texts, lambda text: None)
+
+    def __eq__(self, other: object) -> bool:
+        if not isinstance(other, Trace):
+            return NotImplemented
+        return same_bytes(self.path, other.path)
+
+    __hash__ = None  # type: ignore[assignment]
+
+    @property
+    def end(self) -> int | None:
+        """The horizon, or None if the run stopped before it."""
+        return ending(self.last)[0]
+
+    @property
+    def stop(self) -> Stop | None:
+        """Why the run stopped before its horizon, or None."""
+        stop = ending(self.last)[1]
+        return stop and stop._replace(where=self.where_stopped)
+
+    @property
+    def last(self) -> str:
+        """The text of the last line."""
+        with open(self.path, "rb") as it:
+            it.seek(max(0, os.path.getsize(self.path) - PIECE))
+            return (it.read().splitlines() or [b""])[-1].decode("ascii", "replace")
+
+    def text(self) -> str:
+        """Returns the whole trace as one text."""
+        return self.path.read_text(encoding="ascii")
+
+    def save(self, path: str | os.PathLike[str]) -> None:
+        """Copies the trace into a file."""
+        shutil.copyfile(self.path, path)
+
+    def expect(self, rules: str | os.PathLike[str], strict: bool = False) -> Report:
+        """Checks the rules of a file by `fbsim expect`, and raises `RulesBroken` if one does not hold.
+
+        With `strict`, an undecided rule counts as broken.
+        """
+        from fbsim.report import expect
+
+        return expect(self, rules, strict)
+
+    def diff(self, other: Trace) -> str:
+        """Returns what `fbsim diff` says of this trace and another one: nothing if they are the same."""
+        from fbsim.program import call
+
+        return call(["diff", os.fspath(self.path), os.fspath(other.path)], statuses=(0, 1)).out
+
+
+class TemporaryTrace(Trace):
+    """A trace in a file that is removed when nothing refers to the trace any more, or when Python ends."""
+
+    def __init__(self, path: str, application: Application | None = None, where: str = "") -> None:
+        super().__init__(path, application, where)
+        self.remove = weakref.finalize(self, remove_own, path, os.getpid())
+
+
+def remove_own(path: str, owner: int) -> None:
+    """Removes a temporary file, but not in a process that was forked from the one that made it."""
+    if os.getpid() == owner:
+        Path(path).unlink(missing_ok=True)
+
+
+def same_bytes(one: Path, other: Path) -> bool:
+    """Whether two files have the same bytes."""
+    if os.path.getsize(one) != os.path.getsize(other):
+        return False
+    with open(one, "rb") as left, open(other, "rb") as right:
+        while piece := left.read(PIECE):
+            if piece != right.read(PIECE):
+                return False
+    return True

@@ -1,0 +1,300 @@
+"""Tests of runs: their traces, their stops, and each kind of fault."""
+
+import gc
+import os
+import pickle
+import stat
+import time
+
+import pytest
+from helpers import ALL, CYCLE, EXAMPLES, RING, application, example_in, interpreter, second_trace
+
+import fbsim
+
+PLAN = """[[resource]]
+device = "CELL"
+name = "R1"
+instances = ["F"]
+[[resource]]
+device = "CELL"
+name = "R2"
+instances = ["W"]
+[[link]]
+from = "R1"
+to = "R2"
+latency = 2
+"""
+LATCH = """APPLICATION A
+FBS F : E_SR; W : E_SWITCH; END_FBS
+EVENT_CONNECTIONS F.EO TO W.EI; END_CONNECTIONS
+DATA_CONNECTIONS F.Q TO W.G; END_CONNECTIONS
+END_APPLICATION
+"""
+CELL = """resource = [
+  { device = "CELL", name = "R1", instances = ["F"] },
+  { device = "CELL", name = "R2", instances = ["W"] },
+]
+link = [{ from = "R1", to = "R2", latency = 2 }]
+"""
+# The worked example of README.md.
+WORKED = """3 R1 > F.S
+3 R1 < F.EO Q=TRUE
+5 R2 > W.EI G=FALSE
+5 R2 < W.EO0
+5 R2 > W.EI G=TRUE
+5 R2 < W.EO1
+end 6
+"""
+KEYED = """0 0 0 3 R1 > F.S
+0 0 0 3 R1 < F.EO Q=TRUE
+0 1 0 5 R2 > W.EI G=FALSE
+0 1 0 5 R2 < W.EO0
+2 0 0 5 R2 > W.EI G=TRUE
+2 0 0 5 R2 < W.EO1
+end 6
+"""
+STIMULI = [(3, "F.S"), (5, "W.EI", {})]
+
+
+@pytest.mark.parametrize("example", ALL, ids=lambda it: it.folder.name)
+def test_each_example_has_the_trace_of_the_second_simulator(example):
+    trace = example.run()
+    assert trace.text() == interpreter.trace_of(str(example.folder))
+    assert (trace.end, trace.stop) == (example.horizon, None)
+
+
+def test_stimuli_are_a_file_or_rows(tmp_path):
+    cell = application(tmp_path, LATCH, deploy=CELL)
+    (tmp_path / "some.csv").write_text("tick,event,values\n3,F.S,\n5,W.EI,\n")
+    for given in (STIMULI, iter(STIMULI), tmp_path / "some.csv", str(tmp_path / "some.csv")):
+        assert cell.run(given, horizon=6).text() == WORKED
+    assert cell.run(STIMULI, horizon=6, keys=True).text() == KEYED
+
+
+def test_values_of_rows_are_numbers_and_truth_values():
+    from fbsim.application import stimuli_text
+
+    rows = [(1, "A.B", {"X": True, "Y": -7}), (2, 'A.C"'), (3, "A.D", {"Z": False})]
+    assert stimuli_text(rows) == 'tick,event,values\n1,A.B,X=TRUE Y=-7\n2,"A.C""",\n3,A.D,Z=FALSE\n'
+
+
+def test_block_types_in_files_of_their_own(tmp_path):
+    text = (EXAMPLES / "conveyor" / "conveyor.iec").read_text()
+    at = text.index("APPLICATION CONVEYOR")
+    (tmp_path / "lib.iec").write_text(text[:at])
+    (tmp_path / "main.iec").write_text(text[at:])
+    whole = example_in(EXAMPLES / "conveyor")
+    split = fbsim.Application(tmp_path / "main.iec", types=[tmp_path / "lib.iec"], deploy=whole.application.deploy)
+    assert split.run(whole.stimuli, horizon=800) == whole.run()
+
+
+def test_workers_and_steps_are_passed_on(tmp_path, conveyor):
+    assert example_in(EXAMPLES / "conveyor").run(workers=4) == conveyor
+    ring = application(tmp_path, RING)
+    with pytest.raises(fbsim.CommandLineFault, match="65 is not in 1..=64"):
+        ring.run(horizon=5, workers=65)
+    for steps in (3, 5):
+        trace = ring.run(horizon=5, steps=steps, stop=True)
+        assert trace.text() == second_trace(RING, None, [], 5, steps)
+
+
+def test_a_stop_is_raised_unless_it_is_asked_for(tmp_path):
+    ring = application(tmp_path, RING)
+    with pytest.raises(fbsim.Stopped) as caught:
+        ring.run(horizon=5, steps=3)
+    stop = caught.value.stop
+    assert stop[:3] == (0, "MAIN", "steps")
+    assert stop.where.startswith("stop: M, before its event: steps\ntick 0: 2 of 3 steps by M")
+    assert [str(it) for it in caught.value.trace][-1] == "0 MAIN < M.EO"
+    trace = ring.run(horizon=5, steps=3, stop=True)
+    assert (trace.end, trace.stop) == (None, stop)
+
+
+def test_a_stop_says_where(tmp_path):
+    text = CYCLE.replace("END_APPLICATION", "").replace("APPLICATION A", "")
+    divides = "FUNCTION_BLOCK D EVENT_INPUT GO; END_EVENT VAR A : INT; END_VAR EC_STATES I; R : X; END_STATES\n"
+    divides += "EC_TRANSITIONS I TO R := GO; END_TRANSITIONS\nALGORITHM X IN ST: A := 5 / A; END_ALGORITHM\n"
+    divides += "END_FUNCTION_BLOCK APPLICATION A" + text.replace("END_FBS", "X : D; END_FBS")
+    plant = application(tmp_path, divides.replace("S.COLD TO C.START;", "S.COLD TO X.GO;") + " END_APPLICATION")
+    stop = plant.run(horizon=5, stop=True).stop
+    assert stop[:3] == (0, "MAIN", "divide")
+    said = "3:27: stop: X (type D), state R, action 1, algorithm X: 5 / A: divide"
+    assert stop.where.startswith(f"{tmp_path}/plant.iec:{said}\n")
+
+
+def test_check_accepts_or_refuses(tmp_path):
+    cell = application(tmp_path, LATCH, deploy=CELL)
+    assert cell.check() is None and cell.check(STIMULI) is None
+    with pytest.raises(fbsim.Refused) as caught:
+        cell.check([(3, "F.S"), (4, "G.S")])
+    assert (caught.value.number, caught.value.file, caught.value.line, caught.value.column) == ("E29", "-", 3, 3)
+    assert caught.value.text == "row 1: there is no instance G"
+
+
+# A text for each kind of place, with number, line, column and a word of what the program says.
+REFUSED = [
+    ("plant.iec", "APPLICATION A FBS F : E_SR \xff", ("E01", 1, 28, "195")),
+    ("plant.iec", "APPLICATION A FBS\nF : E_SR W", ("E03", 2, 10, "W")),
+    ("plant.iec", " " * 1_048_577, ("E04", 1, 1_048_577, "1048576")),
+    ("plant.iec", LATCH.replace("W.EI", "W.EJ"), ("E21", 3, 29, "E_SWITCH")),
+    ("deploy.toml", "[[resource]]\nname", ("E10", 2, 5, "TOML")),
+    ("deploy.toml", PLAN.replace("latency = 2", "latency = 0"), ("E12", 12, 1, "latency")),
+    ("deploy.toml", PLAN.replace('to = "R2"', 'to = "R3"'), ("E21", 11, 1, "R3")),
+    ("some.csv", "tick,event,values\n5x,F.S,\n", ("E14", 2, 1, "5x")),
+    ("some.csv", "tick,event\n", ("E13", 1, 1, "tick")),
+]
+
+
+@pytest.mark.parametrize("name, text, expected", REFUSED, ids=[it[2][0] for it in REFUSED])
+def test_a_refusal_has_its_place(tmp_path, name, text, expected):
+    for file, given in {"plant.iec": LATCH, "deploy.toml": CELL, "some.csv": "tick,event,values\n"}.items():
+        (tmp_path / file).write_text(text if file == name else given)
+    plant = fbsim.Application(tmp_path / "plant.iec", deploy=tmp_path / "deploy.toml")
+    with pytest.raises(fbsim.Refused) as caught:
+        plant.run(tmp_path / "some.csv", horizon=5)
+    it = caught.value
+    assert (it.number, it.file, it.line, it.column) == (expected[0], str(tmp_path / name), *expected[1:3])
+    assert expected[3] in it.text
+    assert f"{tmp_path / name}:{it.line}:{it.column}: " in str(it)
+    line, mark = it.locations[0].excerpt.split("\n")
+    assert mark.strip() == "^" and (len(text) > 1000 or text.split("\n")[it.line - 1].startswith(line[:10]))
+
+
+def test_all_locations_of_a_refusal(tmp_path):
+    plant = application(tmp_path, LATCH.replace("F.EO TO W.EI;", "F.EO TO W.EJ;\nF.EO TO W.EK;"))
+    with pytest.raises(fbsim.Refused) as caught:
+        plant.check()
+    assert [(it.line, it.column) for it in caught.value.locations] == [(3, 29), (4, 11)]
+
+
+def test_a_file_fault_names_the_file(tmp_path):
+    plant = application(tmp_path, CYCLE)
+    missing = tmp_path / "no: such.file"
+    tries = {
+        "declaration": lambda: fbsim.Application(missing).check(),
+        "deployment": lambda: fbsim.Application(plant.declaration, deploy=missing).check(),
+        "stimuli": lambda: plant.run(missing, horizon=5),
+    }
+    for kind, call in tries.items():
+        with pytest.raises(fbsim.FileFault) as caught:
+            call()
+        assert (caught.value.kind, caught.value.file) == (kind, str(missing))
+        assert caught.value.text == "no file of this name can be read"
+    with pytest.raises(fbsim.FileFault, match="this is a folder, not a file"):
+        fbsim.Application(tmp_path).check()
+
+
+def script(folder, text):
+    """Writes a shell script, which takes the place of the program."""
+    path = folder / "program"
+    path.write_text(f"#!/bin/sh\n{text}\n")
+    path.chmod(path.stat().st_mode | stat.S_IXUSR)
+    return str(path)
+
+
+@pytest.mark.parametrize("text, kind, said", [
+    ("echo 'out of memory' >&2; exit 4", fbsim.OutOfMemory, "out of memory"),
+    ("echo 'write fault after 64 bytes' >&2; exit 3", fbsim.WriteFault, "write fault after 64 bytes"),
+    ("echo 'file fault' >&2; exit 3", fbsim.FileFault, "a file can't be read"),
+    ("echo 'error' >&2; exit 5", fbsim.CommandLineFault, "error"),
+    ("echo 'checked' >&2; exit 124", fbsim.ProgramFault, "status 124: checked"),
+    ("kill -9 $$", fbsim.ProgramFault, "signal 9"),
+    ("exit 2", fbsim.Refused, "refused"),
+])
+def test_each_status_has_its_exception(tmp_path, monkeypatch, text, kind, said):
+    monkeypatch.setenv("FBSIM", script(tmp_path, text))
+    plant = fbsim.Application("plant.iec")
+    for call in (plant.check, lambda: plant.run(horizon=5), lambda: list(plant.stream(horizon=5))):
+        with pytest.raises(kind, match=said):
+            call()
+
+
+def test_an_output_that_is_full_is_a_write_fault(tmp_path):
+    from fbsim.program import call
+
+    plant = application(tmp_path, CYCLE)
+    with open("/dev/full", "wb") as full, pytest.raises(fbsim.WriteFault, match="write fault after 0 bytes"):
+        call(["run", str(plant.declaration), "--horizon", "8"], to=full)
+
+
+def test_exceptions_pass_between_processes(tmp_path):
+    plant = application(tmp_path, RING)
+    faults = [fbsim.FileFault("text", "kind", "file"), fbsim.OutOfMemory("out of memory")]
+    for call in (lambda: plant.run(horizon=5, steps=0), lambda: plant.check([(1, "X.Y")])):
+        with pytest.raises(fbsim.Fault) as caught:
+            call()
+        faults.append(caught.value)
+    faults.append(fbsim.Stopped(fbsim.Stop(3, "MAIN", "steps", "there")))
+    for it in faults:
+        same = pickle.loads(pickle.dumps(it))
+        assert type(same) is type(it) and str(same) == str(it) and vars(same) == vars(it)
+
+
+def test_a_temporary_trace_is_removed_with_its_object(tmp_path):
+    trace = application(tmp_path, CYCLE).run(horizon=8)
+    path = trace.path
+    assert path.exists()
+    if os.fork() == 0:
+        del trace
+        gc.collect()
+        os._exit(0)
+    os.wait()
+    assert path.exists(), "a forked process removes no file of its parent"
+    del trace
+    gc.collect()
+    assert not path.exists()
+
+
+def test_a_refused_run_leaves_no_file(tmp_path, monkeypatch):
+    plant = application(tmp_path, "APPLICATION")
+    monkeypatch.setattr("tempfile.tempdir", str(tmp_path / "temporary"))
+    (tmp_path / "temporary").mkdir()
+    with pytest.raises(fbsim.Refused):
+        plant.run(horizon=5)
+    gc.collect()
+    assert os.listdir(tmp_path / "temporary") == []
+
+
+def test_a_stream_has_the_lines_of_the_run(tmp_path):
+    cell = application(tmp_path, LATCH, deploy=CELL)
+    stream = cell.stream(STIMULI, horizon=6)
+    assert [str(it) for it in stream] == WORKED.splitlines()[:-1]
+    assert (stream.end, stream.stop) == (6, None)
+    with pytest.raises(fbsim.Fault, match="read once"):
+        iter(stream)
+    keyed = cell.stream(STIMULI, horizon=6, keys=True)
+    assert [str(it) for it in keyed] == KEYED.splitlines()[:-1] and keyed.end == 6
+
+
+def test_a_stream_raises_faults_and_stops(tmp_path):
+    ring = application(tmp_path, RING)
+    with pytest.raises(fbsim.CommandLineFault):
+        list(ring.stream(horizon=0))
+    lines = iter(ring.stream(horizon=5, steps=3))
+    assert [str(next(lines)) for _ in range(5)][-1] == "0 MAIN < M.EO"
+    with pytest.raises(fbsim.Stopped) as caught:
+        next(lines)
+    assert caught.value.stop[:3] == (0, "MAIN", "steps") and "2 of 3 steps by M" in caught.value.stop.where
+    stream = ring.stream(horizon=5, steps=3, stop=True)
+    assert stream.count() == 5 and (stream.end, stream.stop) == (None, caught.value.stop)
+
+
+def test_a_stream_that_nobody_reads_on_ends_its_run(tmp_path):
+    cycle = application(tmp_path, CYCLE)
+    lines = iter(cycle.stream(horizon=10**12))
+    assert str(next(lines)) == "0 MAIN < S.COLD"
+    start = time.monotonic()
+    lines.close()
+    assert time.monotonic() - start < 5
+
+
+def test_a_run_takes_little_longer_than_the_program(tmp_path, monkeypatch):
+    script(tmp_path, "echo end 8")
+    monkeypatch.setenv("FBSIM", str(tmp_path / "program"))
+    plant = fbsim.Application("plant.iec")
+    taken = []
+    for _ in range(9):
+        start = time.perf_counter()
+        assert plant.run(STIMULI, horizon=8).end == 8
+        taken.append(time.perf_counter() - start)
+    assert min(taken) < 0.030

@@ -1,0 +1,284 @@
+"""Tests of traces: their lines, patterns, signals, frames and figures."""
+
+import random
+import time
+
+import pandas
+import pytest
+from helpers import ALL, CYCLE, EXAMPLES, application, example_in, trace_in
+
+import fbsim
+from fbsim import Line
+
+
+def test_a_line_has_its_parts(tmp_path):
+    trace = trace_in(
+        tmp_path, "0 MAIN < S.COLD", "7 R_1 > CELL.PRESS.GO X=TRUE N=-12 BIG=18446744073709551615", "end 8"
+    )
+    cold, go = trace
+    assert cold == Line(0, "MAIN", "<", "S", "COLD") and cold.values == {} and str(cold) == "0 MAIN < S.COLD"
+    assert (go.tick, go.resource, go.sign, go.instance, go.event) == (7, "R_1", ">", "CELL.PRESS", "GO")
+    assert go.values == {"X": True, "N": -12, "BIG": 2**64 - 1} and go.key is None
+
+
+def test_a_line_of_form_2_has_its_key(tmp_path):
+    text = ["3 0 0 0 MAIN > C.START DT=3", "1 1 0 3 MAIN < C.EO", "stop 3 MAIN range"]
+    trace = trace_in(tmp_path, *text)
+    assert list(trace) == [
+        Line(0, "MAIN", ">", "C", "START", "DT=3", (3, 0, 0)), Line(3, "MAIN", "<", "C", "EO", "", (1, 1, 0)),
+    ]
+    assert [str(it) for it in trace] == text[:2]
+    assert (trace.end, trace.stop) == (None, fbsim.Stop(3, "MAIN", "range"))
+
+
+@pytest.mark.parametrize("example", ALL, ids=lambda it: it.folder.name)
+def test_lines_are_written_as_they_were_read(example):
+    trace = fbsim.Trace(example.folder / "trace")
+    text = trace.text()
+    assert [str(it) for it in trace] == text.splitlines()[:-1]
+    assert trace.count() == text.count("\n") - 1
+    assert text.endswith(f"\nend {trace.end}\n")
+
+
+@pytest.mark.parametrize("number, text", [
+    (1, "hello"), (2, "3 MAIN ! A.B"), (2, "3 MAIN < AB"), (2, "x MAIN < A.B"), (2, "3 MAIN"), (2, ""),
+])
+def test_a_file_that_is_no_trace_is_named_with_the_line(tmp_path, number, text):
+    trace = trace_in(tmp_path, *["0 MAIN < S.COLD"][:number - 1], text, "end 8")
+    with pytest.raises(fbsim.NoTrace, match=f"line {number} is no line of a trace: {text}"):
+        list(trace)
+
+
+def test_a_trace_that_is_cut_off_has_no_end(tmp_path):
+    for lines in ([], ["0 MAIN < S.COLD"], ["end x"], ["stop 3 MAIN"]):
+        with pytest.raises(fbsim.NoTrace, match="the last line is neither end nor stop"):
+            trace_in(tmp_path, *lines).end
+
+
+def test_where_is_read_any_number_of_times(conveyor):
+    found = conveyor.where("STATION < GATE.*")
+    last = found.where("* * GATE.LIFT").where("* * * TAKEN>1")
+    expected = ["104 LIFT", "184 DROP", "434 RESUME", "434 LIFT", "504 DROP", "754 RESUME"]
+    for _ in range(2):
+        assert [f"{it.tick} {it.event}" for it in found] == expected
+    assert [it.tick for it in last] == [434] and found.count() == 6
+
+
+# Patterns, and the lines of the trace below that each matches, worked by hand.
+SOME = ["1 A > X.GO N=1 B=TRUE", "2 A < X.Y.OUT N=-2", "3 B > XY.GO", "4 B < X.GO N=3 B=FALSE"]
+PATTERNS = {
+    "* * *": [1, 2, 3, 4],
+    "A * *": [1, 2],
+    "a > *": [1],
+    "* < *": [2, 4],
+    "* * X.GO": [1, 4],
+    "* * X.*": [1, 2, 4],
+    "* * X.Y.*": [2],
+    "* * X.Y.OUT": [2],
+    "* * X.OUT": [],
+    "* * * N=1": [1],
+    "* * * N<>1": [2, 4],
+    "* * * N>=1": [1, 4],
+    "* * * N<1": [2],
+    "* * * N<=-2": [2],
+    "*  *\t*  N>-3   b=true": [1],
+    "* * * B<>TRUE": [4],
+    "* * * B=1": [],
+    "* * * N=TRUE": [],
+    "* * * Z<>1": [],
+}
+
+
+def test_patterns_match_as_worked_by_hand(tmp_path):
+    trace = trace_in(tmp_path, *SOME, "end 5")
+    assert {it: [line.tick for line in trace.where(it)] for it in PATTERNS} == PATTERNS
+
+
+@pytest.mark.parametrize("text", [
+    "", "A", "A >", "A = X.GO", "A > X", "A > *.GO", "A > X..GO", "A > X*", "A.B > X.GO", "1 > X.GO", "A > X.GO N",
+    "A > X.GO N==1", "A > X.GO N = 1", "A > X.GO B>TRUE", "A > X.GO N=+1", "A > X.GO N=1.5",
+    "A > X.GO N=18446744073709551616",
+])
+def test_a_text_that_is_no_pattern_is_refused_here_and_by_the_program(tmp_path, text):
+    trace = trace_in(tmp_path, *SOME, "end 5")
+    with pytest.raises(fbsim.PatternFault):
+        trace.where(text)
+    (tmp_path / "some.rules").write_text(f'[[rule]]\nname = "x"\nnever = "{text}"\n')
+    with pytest.raises(fbsim.Refused) as caught:
+        trace.expect(tmp_path / "some.rules")
+    assert caught.value.number == "E43"
+
+
+def random_pattern(lines, chance):
+    """Returns a pattern made of parts of lines."""
+    line = chance.choice(lines)
+    path = line.instance.split(".")
+    ports = [f"{line.instance}.{line.event}", "*", *(".".join(path[:k + 1]) + ".*" for k in range(len(path)))]
+    words = [chance.choice([line.resource, "*"]), chance.choice("<>*"), chance.choice(ports)]
+    for name, value in chance.choice(lines).values.items():
+        sign = chance.choice(["=", "<>"] if isinstance(value, bool) else ["=", "<>", "<", "<=", ">", ">="])
+        if chance.random() < 0.5:
+            words.append(f"{name}{sign}{str(value).upper()}")
+    return " ".join(words)
+
+
+def test_patterns_match_as_many_lines_as_the_program_counts(tmp_path):
+    chance, rules = random.Random(5), []
+    trace = fbsim.Trace(EXAMPLES / "bottling" / "shift" / "trace")
+    lines = list(trace)
+    for k in range(400):
+        pattern = random_pattern(lines, chance)
+        count = len([*filter(fbsim.Pattern(pattern).matches, lines)])
+        rules.append(f'[[rule]]\nname = "{k}"\ncount = "{pattern}"\nleast = {count}\nmost = {count}\n')
+    (tmp_path / "some.rules").write_text("\n".join(rules))
+    report = trace.expect(tmp_path / "some.rules")
+    assert len(report.kept) == 400
+
+
+def test_signals_are_the_values_of_a_variable(conveyor):
+    # (README.md of the example)
+    assert conveyor.signal("GATE.TAKEN") == ([104, 434], [1, 2])
+    assert conveyor.signal("BEFORE.COVERED") == ([100, 160, 186, 460], [True, False, True, False])
+    assert conveyor.signal("belt.q") == ([0, 190, 440, 510, 760], [True, False, True, False, True])
+    assert conveyor.signals(["GATE.ARRIVED", "WORK.DT"]) == {
+        "GATE.ARRIVED": ([104, 190], [1, 2]), "WORK.DT": ([184, 504], [250, 250]),
+    }
+    assert conveyor.signal("NOBODY.X") == ([], [])
+    with pytest.raises(fbsim.Fault, match="TAKEN is no signal"):
+        conveyor.signal("TAKEN")
+
+
+def test_a_frame_has_a_row_for_each_line(conveyor):
+    frame = conveyor.frame()
+    parts = ["tick", "resource", "sign", "instance", "event"]
+    assert list(frame.columns) == [*parts, "Q", "COVERED", "COUNT", "ARRIVED", "TAKEN", "DT"]
+    assert [tuple(it) for it in frame[parts].values] == [tuple(it)[:5] for it in conveyor]
+    assert frame[frame.instance == "GATE"].TAKEN.dropna().tolist() == [1, 2]
+    assert [str(it) for it in frame.dtypes[["tick", "Q", "COUNT"]]] == ["int64", "boolean", "Int64"]
+    assert frame.Q.isna().sum() == len(frame) - 5
+    for line, (_, row) in zip(conveyor, frame.iterrows()):
+        assert {k: v for k, v in row[6 - 1:].items() if v is not pandas.NA} == line.values
+
+
+def test_a_frame_of_numbers_over_64_bits_and_of_no_lines(tmp_path):
+    trace = trace_in(tmp_path, "1 A > X.GO N=18446744073709551615", "2 A > Y.GO N=TRUE", "end 5")
+    assert trace.where("* * X.*").frame().N.tolist() == [2**64 - 1]
+    assert trace.frame().N.tolist() == [2**64 - 1, True]
+    empty = trace.where("* * Z.*").frame()
+    assert len(empty) == 0 and list(empty.columns) == ["tick", "resource", "sign", "instance", "event"]
+
+
+def test_a_plot_draws_each_signal_as_steps(conveyor, tmp_path):
+    figure = conveyor.plot(["GATE.TAKEN", "BELT.Q"])
+    taken, belt = figure.axes
+    (steps,) = taken.lines
+    assert steps.get_drawstyle() == "steps-post"
+    assert (list(steps.get_xdata()), list(steps.get_ydata())) == ([104, 434, 800], [1, 2, 2])
+    assert list(belt.lines[0].get_ydata()) == [1, 0, 1, 0, 1, 1]
+    assert [it.get_text() for it in belt.get_yticklabels()] == ["FALSE", "TRUE"]
+    assert [it.get_ylabel() for it in figure.axes] == ["GATE.TAKEN", "BELT.Q"]
+    figure.savefig(tmp_path / "some.png")
+    assert (tmp_path / "some.png").read_bytes().startswith(b"\x89PNG")
+    with pytest.raises(fbsim.Fault, match="nothing to draw"):
+        conveyor.plot([])
+
+
+def test_traces_are_the_same_if_their_bytes_are(conveyor, tmp_path):
+    conveyor.save(tmp_path / "same.trace")
+    same = fbsim.Trace(tmp_path / "same.trace")
+    assert conveyor == same and not conveyor != same and same.diff(conveyor) == ""
+    text = conveyor.text()
+    for other in (text[:-2] + "1\n", text + "\n", text.replace("434", "435", 1)):
+        (tmp_path / "other.trace").write_text(other)
+        assert conveyor != fbsim.Trace(tmp_path / "other.trace")
+    assert "differs in: tick" in conveyor.diff(fbsim.Trace(tmp_path / "other.trace"))
+    assert conveyor != text
+
+
+def test_a_million_lines_in_two_seconds(tmp_path):
+    path = tmp_path / "long.trace"
+    with open(path, "w") as it:
+        for tick in range(500_000):
+            it.write(f"{tick} MAIN > X.CU PV=60000\n{tick} MAIN < X.CUO Q=FALSE CV={tick % 60000}\n")
+        it.write("end 500000\n")
+    trace = fbsim.Trace(path)
+    start, count, most = time.process_time(), 0, 0
+    for line in trace:
+        count, most = count + 1, line.tick
+    taken = time.process_time() - start
+    assert (count, most, trace.end) == (1_000_000, 499_999, 500_000)
+    assert taken < 2
+
+
+def test_long_traces_are_not_held_in_memory(tmp_path):
+    import tracemalloc
+
+    path = tmp_path / "long.trace"
+    with open(path, "w") as it:
+        it.writelines(f"{tick} MAIN < X.CUO CV={tick}\n" for tick in range(200_000))
+        it.write("end 200000\n")
+    trace = fbsim.Trace(path)
+    tracemalloc.start()
+    try:
+        assert trace.where("* * * CV>=100").count() == 199_900
+        most = tracemalloc.get_traced_memory()[1]
+    finally:
+        tracemalloc.stop()
+    assert most < 4_000_000 < path.stat().st_size
+
+
+def test_rules_name_only_what_the_application_has(tmp_path):
+    trace = application(tmp_path, CYCLE).run(horizon=8)
+    (tmp_path / "some.rules").write_text('[[rule]]\nname = "x"\nnever = "MAIN < C.E0"\n')
+    with pytest.raises(fbsim.Refused) as caught:
+        trace.expect(tmp_path / "some.rules")
+    assert (caught.value.number, caught.value.file) == ("E45", "rules")
+    assert caught.value.text == "1st rule: never: the declaration has no port with this pattern"
+    assert len(fbsim.Trace(trace.path).expect(tmp_path / "some.rules").kept) == 1
+
+
+def test_rules_are_kept_broken_or_undecided(tmp_path):
+    lines = ["0 MAIN < S.COLD", "0 MAIN > C.START DT=3", "3 MAIN < C.EO", "6 MAIN < C.EO", "end 8"]
+    trace = trace_in(tmp_path, *lines)
+    rules = [
+        ("it starts", 'after = "* < S.COLD"\nwithin = 3\nsee = "* < C.EO"'),
+        (r"no # \\ beat", 'never = "* < C.EO"'),
+        ("it goes on", 'after = "* < C.EO"\nwithin = 3\nsee = "* < C.EO"'),
+        ("a name", 'never = "* < D.EO"'),
+    ]
+    (tmp_path / "some.rules").write_text("".join(f'[[rule]]\nname = "{name}"\n{text}\n' for name, text in rules))
+    with pytest.raises(fbsim.RulesBroken) as caught:
+        trace.expect(tmp_path / "some.rules")
+    report = caught.value.report
+    assert isinstance(caught.value, AssertionError)
+    assert [(it.rule, it.verdict) for it in report.verdicts] == [
+        ("it starts", "kept"), (r"no # \ beat", "broken"), ("it goes on", "undecided"), ("a name", "kept"),
+    ]
+    (broken,) = report.broken
+    assert (broken.line, broken.tick, broken.text) == (3, 3, "3 MAIN < C.EO")
+    assert str(caught.value) == r"no # \ beat: this event is not allowed here at line 3, tick 3: 3 MAIN < C.EO"
+    assert report.kept[1].notes == ("no line of the trace is of: * < D.EO",)
+    with pytest.raises(fbsim.RulesBroken) as caught:
+        trace.expect(tmp_path / "some.rules", strict=True)
+    assert [it.rule for it in caught.value.broken] == [r"no # \ beat", "it goes on"]
+    assert caught.value.broken[1].line is None
+
+
+def test_rules_over_a_text_that_is_no_trace(tmp_path):
+    (tmp_path / "some.rules").write_text('[[rule]]\nname = "x"\nnever = "* < *"\n')
+    with pytest.raises(fbsim.Refused) as caught:
+        trace_in(tmp_path, "0 MAIN < S.COLD", "hello").expect(tmp_path / "some.rules")
+    assert (caught.value.number, caught.value.line, caught.value.file) == (None, 2, str(tmp_path / "some.trace"))
+    (tmp_path / "some.rules").write_text("[[rule\n")
+    with pytest.raises(fbsim.Refused) as caught:
+        trace_in(tmp_path, "end 8").expect(tmp_path / "some.rules")
+    assert (caught.value.number, caught.value.line, caught.value.text) == ("E41", 1, "this is no TOML")
+    with pytest.raises(fbsim.FileFault, match="rules .*nowhere"):
+        trace_in(tmp_path, "end 8").expect(tmp_path / "nowhere")
+
+
+def test_the_rules_of_the_bottling_line():
+    for name in ("shift", "rejects", "emergency"):
+        example = example_in(EXAMPLES / "bottling" / name)
+        trace = fbsim.Trace(example.folder / "trace", example.application)
+        assert len(trace.expect(EXAMPLES / "bottling" / "bottling.rules").verdicts) == 12
