@@ -8,6 +8,8 @@ import pytest
 
 TOP = Path(__file__).resolve().parents[2]
 
+pytest_plugins = ["fbsim.pytest_plugin", "pytester"]
+
 
 @pytest.fixture(scope="session")
 def top() -> Path:

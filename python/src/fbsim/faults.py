@@ -122,6 +122,10 @@ class Stopped(Fault):
         return str(self.stop)
 
 
+class SequenceBroken(Fault, AssertionError):
+    """A block type did not answer as its sequence says."""
+
+
 class RulesBroken(Fault, AssertionError):
     """A trace breaks rules. `report` has the verdicts of all rules."""
 

@@ -1,0 +1,275 @@
+"""Tests of the plugin: references, and folders with a file fbsim.toml, in runs of pytest."""
+
+import shutil
+
+import pytest
+from helpers import CYCLE, EXAMPLES, RING
+from junitparser import JUnitXml
+
+BENCH = """decl = "conveyor.iec"
+deploy = "deploy.toml"
+rules = "some.rules"
+horizon = 800
+
+[[scenario]]
+name = "two parcels"
+stim = "stimuli.csv"
+reference = "trace"
+
+[[scenario]]
+name = "no parcel"
+horizon = 50
+
+[[sequence]]
+type = "STOP_GATE"
+name = "the gate lifts for one parcel"
+steps = [["ARRIVE ARRIVED=2", "LIFT TAKEN=1"], ["PASSED", "DROP"], ["wait 250"], ["FREE", "RESUME", "LIFT TAKEN=2"]]
+
+[[sequence]]
+type = "E_CTU"
+parameters = { PV = 2 }
+steps = [["CU", "CUO Q=FALSE CV=1"], ["wait 500"], ["CU", "CUO Q=TRUE CV=2"]]
+"""
+# (README.md of the example: the belt stops 10 ms after the beam, which is below 20)
+RULES = """[[rule]]
+name = "the belt stops in time"
+after = "LINE < BEHIND.CAME"
+within = 20
+see = "LINE < BELT.EO Q=FALSE"
+
+[[rule]]
+name = "the gate is not lifted while the station works"
+never = "STATION < GATE.LIFT"
+from = "STATION < GATE.DROP"
+to = "STATION < WORK.EO"
+"""
+PASSED = [
+    "two parcels::run", "two parcels::the belt stops in time",
+    "two parcels::the gate is not lifted while the station works",
+    "no parcel::run", "no parcel::the belt stops in time", "no parcel::the gate is not lifted while the station works",
+    "the gate lifts for one parcel", "E_CTU",
+]
+
+
+class Room:
+    """A folder with the conveyor and a bench for it, and runs of pytest there."""
+
+    def __init__(self, pytester):
+        self.pytester, self.path = pytester, pytester.path
+        for name in ("conveyor.iec", "deploy.toml", "stimuli.csv", "trace"):
+            shutil.copy(EXAMPLES / "conveyor" / name, self.path)
+        self.write("some.rules", RULES)
+        self.write("fbsim.toml", BENCH)
+
+    def write(self, name, text):
+        (self.path / name).write_text(text)
+
+    def change(self, name, old, new):
+        text = (self.path / name).read_text()
+        assert text.count(old) == 1
+        self.write(name, text.replace(old, new))
+
+    def run(self, *words):
+        # (the processes of xdist get the folders of modules that the first one had when it began)
+        run = self.pytester.runpytest_subprocess if "-n" in words else self.pytester.runpytest
+        return run("-p", "fbsim.pytest_plugin", "-p", "no:cacheprovider", *words)
+
+
+@pytest.fixture
+def room(pytester, monkeypatch, top):
+    monkeypatch.setenv("PYTHONPATH", str(top / "python" / "src"))
+    return Room(pytester)
+
+
+def names(result, outcome):
+    """Returns the names of the tests with this outcome, without the file."""
+    found = [it.split(" ", 1)[1] if it.startswith(outcome) else it for it in result.outlines]
+    return [it.removeprefix("fbsim.toml::").split(f" {outcome}")[0] for it in found if f" {outcome}" in it]
+
+
+def test_a_folder_is_a_test_for_each_run_rule_and_sequence(room):
+    result = room.run("-v")
+    result.assert_outcomes(passed=8)
+    assert names(result, "PASSED") == PASSED
+
+
+def test_a_broken_rule_is_a_failure_of_its_own(room):
+    room.change("deploy.toml", "latency = 4", "latency = 15")
+    room.change("fbsim.toml", 'reference = "trace"\n', "")
+    result = room.run("-v")
+    result.assert_outcomes(passed=7, failed=1)
+    assert names(result, "FAILED") == ["two parcels::the belt stops in time"]
+    # (the second beam comes at 180, and the belt stops at 201)
+    result.stdout.fnmatch_lines([
+        "the belt stops in time: the expected event does not follow in time at line *, tick 180: "
+        "180 LINE < BEHIND.CAME COUNT=1"
+    ])
+
+
+def test_another_trace_than_the_reference_shows_where_they_differ(room):
+    room.change("deploy.toml", "latency = 4", "latency = 5")
+    result = room.run()
+    result.assert_outcomes(passed=7, failed=1)
+    result.stdout.fnmatch_lines([
+        "the trace is not that of */trace", "line 6 differs in: tick",
+        "*/trace, tick 104: 104 STATION > GATE.ARRIVE ARRIVED=1", "the run, tick 105: *", "*--fbsim-bless*",
+    ])
+
+
+def test_bless_makes_the_new_trace_the_reference_and_says_so(room):
+    kept = (room.path / "trace").read_text()
+    room.change("deploy.toml", "latency = 4", "latency = 5")
+    result = room.run("--fbsim-bless")
+    result.assert_outcomes(passed=8)
+    result.stdout.fnmatch_lines(["*references changed by --fbsim-bless*", "*/trace"])
+    assert kept != (room.path / "trace").read_text() and "105 STATION" in (room.path / "trace").read_text()
+    result = room.run("--fbsim-bless")
+    result.assert_outcomes(passed=8)
+    result.stdout.no_fnmatch_line("*references changed*")
+
+
+def test_a_missing_reference_is_a_failure_and_bless_makes_it(room):
+    room.change("fbsim.toml", 'reference = "trace"', 'reference = "references/two.trace"')
+    result = room.run()
+    result.assert_outcomes(passed=7, failed=1)
+    result.stdout.fnmatch_lines(["there is no reference */references/two.trace: --fbsim-bless makes it"])
+    room.run("--fbsim-bless").assert_outcomes(passed=8)
+    assert (room.path / "references" / "two.trace").read_text() == (room.path / "trace").read_text()
+
+
+def test_a_scenario_whose_file_is_missing_is_a_failure(room):
+    room.change("fbsim.toml", 'stim = "stimuli.csv"', 'stim = "stimulus.csv"')
+    result = room.run()
+    result.assert_outcomes(passed=5, failed=3)
+    result.stdout.fnmatch_lines(["file fault: stimuli */stimulus.csv no file of this name can be read"])
+
+
+def test_a_broken_sequence_is_a_failure_of_its_step(room):
+    room.change("fbsim.toml", 'CUO Q=FALSE CV=1', 'CUO Q=FALSE CV=2')
+    result = room.run()
+    result.assert_outcomes(passed=7, failed=1)
+    result.stdout.fnmatch_lines(["step 1, CU: expected CUO Q=FALSE CV=2, came CUO Q=FALSE CV=1"])
+
+
+@pytest.mark.parametrize("old, new, fault", [
+    ('horizon = 800', 'horison = 800', "*fbsim.toml: unknown key horison; the keys are decl, types, *"),
+    ('stim = "', 'stin = "', "*fbsim.toml: scenario 1: unknown key stin; the keys are name, stim, *"),
+    ('type = "STOP_GATE"', 'typ = "STOP_GATE"', "*fbsim.toml: sequence 1: unknown key typ; the keys are type, *"),
+    ('type = "STOP_GATE"\n', '', "*fbsim.toml: sequence 1: there is no type"),
+    ('name = "two parcels"\n', '', "*fbsim.toml: scenario 1: there is no name"),
+    ('horizon = 800', '', "*fbsim.toml: scenario 1: there is no horizon*"),
+    ('horizon = 800', 'horizon = "800"', "*fbsim.toml: horizon is not a number"),
+    ('horizon = 800', 'horizon = true', "*fbsim.toml: horizon is not a number"),
+    ('horizon = 800', 'types = "lib.iec"', "*fbsim.toml: types is not a list of texts"),
+    ('[["CU", "CUO Q=FALSE CV=1"], ["wait 500"], ', '["CU", ', "*fbsim.toml: sequence 2: steps is not lists*"),
+    ('horizon = 50', 'status = 7', "*fbsim.toml: scenario 2: status is not 0 *"),
+    ('name = "no parcel"', 'name = "two parcels"', "*fbsim.toml: there are two with the name two parcels"),
+    ('decl = "conveyor.iec"\n', '', "*fbsim.toml: there is no decl"),
+    ('decl = "conveyor.iec"\n', 'decl = \n', "*fbsim.toml: Invalid value*"),
+    ('rules = "some.rules"', 'rules = "no.rules"', "file fault: rules */no.rules no file of this name can be read"),
+    ('decl = "conveyor.iec"', 'decl = "convey.iec"', "file fault: declaration */convey.iec no file*"),
+])
+def test_a_file_that_is_wrong_is_an_error_that_names_it(room, old, new, fault):
+    room.change("fbsim.toml", old, new)
+    result = room.run()
+    result.assert_outcomes(errors=1)
+    result.stdout.fnmatch_lines([fault])
+
+
+def test_a_file_with_nothing_to_test_and_one_that_is_empty(room):
+    room.write("fbsim.toml", "")
+    result = room.run()
+    result.assert_outcomes(errors=1)
+    result.stdout.fnmatch_lines(["*there is neither a scenario nor a sequence"])
+
+
+def test_rules_that_name_nothing_are_an_error(room):
+    room.change("some.rules", "GATE.DROP", "GATE.DROPS")
+    result = room.run()
+    result.assert_outcomes(errors=1)
+    result.stdout.fnmatch_lines(["refused E45", "rules: 2nd rule: from: *"])
+
+
+STOPS = 'decl = "{}.iec"\nhorizon = 8\n[[scenario]]\nname = "it"\nsteps = {}\nstatus = {}\n'
+
+
+@pytest.mark.parametrize("name, steps, status, said", [
+    ("ring", 5, 1, None),
+    ("ring", 5, 0, "the run has status 1, and not 0: stop 0 MAIN steps"),
+    ("cycle", 5, 1, "the run has status 0, and not 1: end 8"),
+    ("slip", 5, 2, None),
+    ("slip", 5, 0, "refused E21"),
+    ("slip", 5, 1, "refused E21"),
+    ("ring", 5, 2, "the run has status 1, and not 2: stop 0 MAIN steps"),
+    ("cycle", 0, 2, "error: invalid value '0' for '--steps*"),
+])
+def test_the_status_of_a_scenario(room, name, steps, status, said):
+    room.write("ring.iec", RING)
+    room.write("cycle.iec", CYCLE)
+    room.write("slip.iec", CYCLE.replace("C.START", "C.STAR"))
+    room.write("fbsim.toml", STOPS.format(name, steps, status))
+    result = room.run()
+    result.assert_outcomes(passed=said is None, failed=said is not None)
+    result.stdout.fnmatch_lines([f"*{said or '1 passed'}*"])
+
+
+def test_a_sequence_needs_no_declaration(room):
+    room.write("fbsim.toml", '[[sequence]]\ntype = "E_SR"\nsteps = [["S", "EO Q=TRUE"], ["S"]]\n')
+    room.run().assert_outcomes(passed=1)
+
+
+def test_several_processes_of_xdist_and_a_report_for_junit(room):
+    room.change("deploy.toml", "latency = 4", "latency = 15")
+    result = room.run("-n", "2", "--junitxml", "out.xml")
+    result.assert_outcomes(passed=6, failed=2)
+    suite = next(iter(JUnitXml.fromfile(str(room.path / "out.xml"))))
+    assert (suite.tests, suite.failures, suite.errors) == (8, 2, 0)
+    failed = {it.name: it.result[0].text for it in suite if it.result}
+    assert set(failed) == {"run", "the belt stops in time"}
+    assert "180 LINE < BEHIND.CAME COUNT=1" in failed["the belt stops in time"]
+    assert sorted(it.name for it in suite if not it.result)[:2] == ["E_CTU", "run"]
+
+
+def test_bless_with_several_processes(room):
+    room.change("deploy.toml", "latency = 4", "latency = 5")
+    result = room.run("-n", "2", "--fbsim-bless")
+    result.assert_outcomes(passed=8)
+    result.stdout.fnmatch_lines(["*references changed by --fbsim-bless*", "*/trace"])
+
+
+IN_PYTHON = """
+import fbsim
+APP = fbsim.Application("conveyor.iec", deploy="deploy.toml")
+def test_the_shift(reference):
+    trace = APP.run("stimuli.csv", horizon=800)
+    trace.expect("some.rules")
+    assert trace == reference("trace")
+"""
+
+
+def test_a_bench_in_python(room):
+    (room.path / "fbsim.toml").unlink()
+    room.pytester.makepyfile(IN_PYTHON)
+    room.run().assert_outcomes(passed=1)
+    room.change("deploy.toml", "latency = 4", "latency = 5")
+    result = room.run()
+    result.assert_outcomes(failed=1)
+    result.stdout.fnmatch_lines(["E*the trace is not that of */trace", "E*line 6 differs in: tick", "*--fbsim-bless*"])
+    room.run("--fbsim-bless").assert_outcomes(passed=1)
+    room.run().assert_outcomes(passed=1)
+    (room.path / "trace").unlink()
+    result = room.run()
+    result.assert_outcomes(failed=1)
+    result.stdout.fnmatch_lines(["E*there is no reference */trace: --fbsim-bless makes it"])
+    room.change("deploy.toml", "latency = 5", "latency = 15")
+    result = room.run()
+    result.assert_outcomes(failed=1)
+    result.stdout.fnmatch_lines(["E*RulesBroken: the belt stops in time: *tick 180: 180 LINE < BEHIND.CAME COUNT=1"])
+
+
+def test_two_traces_that_differ_show_where(room):
+    (room.path / "fbsim.toml").unlink()
+    room.pytester.makepyfile(IN_PYTHON.replace('reference("trace")', 'APP.run("stimuli.csv", horizon=801)'))
+    result = room.run()
+    result.assert_outcomes(failed=1)
+    result.stdout.fnmatch_lines(["E*the traces differ", "E*line 39 differs in: tick"])
