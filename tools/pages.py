@@ -4,8 +4,8 @@
 It goes through each page from top to bottom, in a folder of its own. A line with only a file's name in backquotes and a colon, and the
 block below it, is a file to write, which replaces an earlier one of that name. A block `console` has commands after `$ `, each with its
 output below it; a command that ends with a backslash goes on in the next line. Blocks with another word after the fence are only
-shown. `sh` runs each command, with the built program, or PROGRAM, as `fbsim` on its PATH and as ./simulate. If a command prints
-anything else than the page shows, this reports it and ends with status 1. ./gate runs this each time it has run the program."""
+shown. `sh` runs each command, with the built program, or PROGRAM, as `fbsim` on its PATH. If a command prints anything else than the
+page shows, this reports it and ends with status 1. ./gate runs this each time it has run the program."""
 
 import os
 import re
@@ -62,8 +62,7 @@ class Reader:
     def __init__(self, room):
         self.room, self.status = room, 0
         os.mkdir(f"{room.folder}/bin")
-        for link in (f"{room.folder}/bin/fbsim", f"{room.folder}/simulate"):
-            os.symlink(room.program, link)
+        os.symlink(room.program, f"{room.folder}/bin/fbsim")
 
     def write(self, name, lines):
         path = f"{self.room.folder}/{name}"
