@@ -13,14 +13,14 @@ use Rattle.fb_window.specs.declared.cores.CoreState.{CoreState}
 use Rattle.fb_sim.specs.Advances.{Advances, AdvancesBy, AdvancesOn, Finishes, FinishesBy, FinishesOn, HasAdvanced, IsNext, RunsTo, stop_line}
 use Rattle.fb_sim.specs.Rounds.{AreAll, Begin, IsShort, RunsOn, text_of}
 use Rattle.fb_sim.specs.Sessions.{Session}
-use Rattle.fb_sim.specs.declared.drive.Finish.TheVariants.{AtEnd, AtMark}
+use Rattle.fb_sim.specs.declared.rounds.all_rounds.Finish.TheVariants.{AtEnd, AtMark}
 use Rattle.fb_sim.specs.declared.options.Options.{Options}
 use Rattle.fb_trace.specs.declared.last.Outcome.{Outcome}
 use Rattle.fb_trace.specs.declared.last.Outcome.TheVariants.{End, Stop}
 use Rattle.fb_sim.specs.declared.outcome.RunError.{RunError}
 use Rattle.fb_sim.specs.declared.outcome.RunError.TheVariants.{Refused, Memory, Write, BadOption, Failed}
 use Rattle.fb_sim.specs.declared.state.Stage.{Stage}
-use Rattle.fb_sim.specs.declared.tally.Written.{Written}
+use Rattle.fb_sim.specs.declared.rounds.tally.Written.{Written}
 use Rattle.fb_sim.specs.declared.state.Stage.TheVariants as going
 use Rattle.fb_sim.proofs.Texts.{lines_text-append, part-after, part-before}
 

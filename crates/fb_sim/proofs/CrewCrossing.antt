@@ -5,11 +5,11 @@ use Rattle.fb_phase.specs.contracts.crew.Crew as Crew
 use Rattle.fb_window.proofs.Sends.{job_send}
 use Rattle.fb_window.specs.contracts.job.Job as Job
 use Rattle.fb_sim.proofs.TextedSends.{texted_send}
-use Rattle.fb_sim.specs.contracts.work.TextedDone as TextedDone
-use Rattle.fb_sim.specs.contracts.work.Windows as Windows
-use Rattle.fb_sim.specs.contracts.work.WindowsDeal.TheImpl.{ghosts}
+use Rattle.fb_sim.specs.contracts.rounds.workers.JobDone as JobDone
+use Rattle.fb_sim.specs.contracts.rounds.workers.TextJobs as TextJobs
+use Rattle.fb_sim.specs.contracts.rounds.workers.TextJobsDeal.TheImpl.{ghosts}
 
-pub crew_sync : IsSync (Crew.the_row Windows.the_row Job.the_row TextedDone.the_row ghosts)
+pub crew_sync : IsSync (Crew.the_row TextJobs.the_row Job.the_row JobDone.the_row ghosts)
 crew_sync =
-    let done = recorded_send (TextedDone.the_field).row _ _ (TextedDone.the_type).to_one texted_send in
-    crew.the_sync Windows.the_row Job.the_row TextedDone.the_row ghosts job_send done
+    let done = recorded_send (JobDone.the_field).row _ _ (JobDone.the_type).to_one texted_send in
+    crew.the_sync TextJobs.the_row Job.the_row JobDone.the_row ghosts job_send done

@@ -17,11 +17,11 @@ use Rattle.fb_trace.specs.declared.marks.Mark.{Mark}
 use Rattle.fb_trace.specs.declared.marks.MarkedText.{MarkedText}
 use Rattle.fb_trace.proofs.Sorting.{tie}
 use Rattle.fb_trace.proofs.Taking.{IsTaken, early_more, fewer, further, least_more, none_early, none_left}
-use Rattle.fb_sim.specs.Joining.{ArePut, IsCut, IsPassed, IsPut, IsRest, past_at}
-use Rattle.fb_sim.specs.Weaving.{IsWovenText}
-use Rattle.fb_sim.specs.declared.joining.Rest.{Rest}
+use Rattle.fb_sim.specs.JoinedTexts.{ArePut, IsCut, IsPassed, IsPut, IsRest, past_at}
+use Rattle.fb_sim.specs.MergedText.{IsMergedText}
+use Rattle.fb_sim.specs.declared.rounds.join_texts.Rest.{Rest}
 use Rattle.fb_sim.proofs.Texts.{parts_text}
-use Rattle.fb_sim.proofs.Weaving.{all_woven, begin_all}
+use Rattle.fb_sim.proofs.MergedText.{all_woven, begin_all}
 
 -- if the first line is past a tick, or there is none
 pub all_past : (t : ℕ) (xs : List Line) → past_at t (tick_at xs) ≡ true → (early t xs ≡ []) × (late t xs ≡ xs)
@@ -351,11 +351,11 @@ module _ (i : Inputs) (form : Form) (lists : List (List Line)) where
           enough = omega (arith, less, enough, counted);
         }
 
-    woven : (next : Option ℕ) (it : IsJoining text rests next turns) → Each IsEmpty it.left → IsWovenText i form lists text
+    woven : (next : Option ℕ) (it : IsJoining text rests next turns) → Each IsEmpty it.left → IsMergedText i form lists text
     woven next it none = record { all = it.put; woven = all_woven lists it.put it.left it.taken none; is = it.is }
 
-    pub no_turn_left : (next : Option ℕ) → IsJoining text rests next turns → turns ≡ 0 → IsWovenText i form lists text
+    pub no_turn_left : (next : Option ℕ) → IsJoining text rests next turns → turns ≡ 0 → IsMergedText i form lists text
     no_turn_left next it e = let enough = it.enough in woven next it (none_of it.left (omega (arith, enough, e)))
 
-    pub no_tick_left : (next : Option ℕ) → IsJoining text rests next turns → ((t : ℕ) → next ≡ Some t → ⊥) → IsWovenText i form lists text
+    pub no_tick_left : (next : Option ℕ) → IsJoining text rests next turns → ((t : ℕ) → next ≡ Some t → ⊥) → IsMergedText i form lists text
     no_tick_left next it d = woven next it (none_left it.left next it.least d)

@@ -7,15 +7,15 @@ use Rattle.fb_types.specs.States.{Line}
 use Rattle.fb_laws.specs.Sound.{AreGood}
 use Rattle.fb_trace.specs.Progress.{IsPartWritten, bounded}
 use Rattle.fb_window.specs.declared.cores.CoreState.{CoreState}
-use Rattle.fb_sim.specs.Rounds.{Begin, HasBegun, HasRunOut, IsFinished, IsLeg, RunsOn, after_bytes, text_of}
-use Rattle.fb_sim.specs.declared.drive.Finish.{Finish}
-use Rattle.fb_sim.specs.declared.drive.Finish.TheVariants.{AtEnd, AtMark}
+use Rattle.fb_sim.specs.Rounds.{Begin, HasBegun, HasRunOut, IsFinished, AreFirstRounds, RunsOn, after_bytes, text_of}
+use Rattle.fb_sim.specs.declared.rounds.all_rounds.Finish.{Finish}
+use Rattle.fb_sim.specs.declared.rounds.all_rounds.Finish.TheVariants.{AtEnd, AtMark}
 use Rattle.fb_sim.specs.declared.options.Options.{Options}
 use Rattle.fb_sim.specs.declared.outcome.RunError.{RunError}
 use Rattle.fb_sim.specs.declared.outcome.RunError.TheVariants.{Refused, Memory, Write, BadOption, Failed}
-use Rattle.fb_sim.specs.declared.tally.Written.{Written}
-use Rattle.fb_sim.specs.declared.trial.Leg.{Leg}
-use Rattle.fb_sim.specs.declared.trial.Leg.TheVariants as legs
+use Rattle.fb_sim.specs.declared.rounds.tally.Written.{Written}
+use Rattle.fb_sim.specs.declared.rounds.first_rounds.FirstRounds.{FirstRounds}
+use Rattle.fb_sim.specs.declared.rounds.first_rounds.FirstRounds.TheVariants as legs
 use Rattle.fb_sim.proofs.RoundIs.{all_begin, come_begins}
 use Rattle.fb_sim.proofs.RunIs.{CameLast, both_counted, both_got, joined}
 use Rattle.fb_sim.specs.declared.progress.Round.TheVariants.{Going}
@@ -61,7 +61,7 @@ module _ (i : Inputs) (o : Options) where
       counted = omega arith;
     })
 
-    pub leg_short : AreGood i → (leg : Leg) → IsLeg i o leg w text → count < length text → RunsOn i o [] old mid (Err (after_bytes 0 (Write count)))
+    pub leg_short : AreGood i → (first_rounds : FirstRounds) → AreFirstRounds i o first_rounds w text → count < length text → RunsOn i o [] old mid (Err (after_bytes 0 (Write count)))
     leg_short good (legs.Going core) h short = (h.out, come_begins i good o.steps o.horizon core h.out h.come, part_of h.out h.is short)
     leg_short good (legs.Over finish) h short = (h.out, finished_begins finish h.out h.finished good, part_of h.out h.is short)
 

@@ -11,13 +11,13 @@ use Rattle.fb_types.specs.declared.run.Line as run
 use Rattle.fb_trace.specs.Merging.{AreMerged, AreRising, Lists, flat}
 use Rattle.fb_trace.specs.Progress.{bounded}
 use Rattle.fb_sim.specs.Rounds.{HandsOut, HandsPart, WritesPartOf, text_of}
-use Rattle.fb_sim.specs.Weaving.{IsWovenText}
+use Rattle.fb_sim.specs.MergedText.{IsMergedText}
 use Rattle.fb_sim.specs.declared.outcome.RunError.{RunError}
 use Rattle.fb_sim.proofs.Texts.{handed}
 
 module _ (i : Inputs) (form : Form) (lists : Lists) (old new : Option (List ℕ)) where
   -- by a text of all their lines
-  module _ (heap : Global) (count : ℕ) (text : List ℕ) (t : IsWovenText i form (map (λ v. v.items) lists) text) (few : count < 10 ^ 12) (counted : count ≡ length (flat lists)) where
+  module _ (heap : Global) (count : ℕ) (text : List ℕ) (t : IsMergedText i form (map (λ v. v.items) lists) text) (few : count < 10 ^ 12) (counted : count ≡ length (flat lists)) where
     pub whole_by_text : (n : ℕ) → Appends old new text → n ≡ bounded (length text) → HandsOut i form lists old new n count
     whole_by_text n got bytes =
         let h = handed i form heap lists count text t few counted in

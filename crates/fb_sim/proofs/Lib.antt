@@ -19,7 +19,7 @@ pub mod SessionIs
 mod Simulations
 pub mod Texts
 pub mod WindowIs
-pub mod Weaving
+pub mod MergedText
 pub mod Putting
 pub mod Sorting
 pub mod HandedOut

@@ -12,7 +12,7 @@ use Rattle.fb_sim.specs.Sessions.{Session}
 use Rattle.fb_trace.specs.declared.last.Outcome.{Outcome}
 use Rattle.fb_sim.specs.declared.outcome.RunError.{RunError}
 use Rattle.fb_sim.specs.declared.outcome.RunError.TheVariants.{Refused, Memory, Write, BadOption, Failed}
-use Rattle.fb_sim.specs.declared.tally.Written.{Written}
+use Rattle.fb_sim.specs.declared.rounds.tally.Written.{Written}
 use Rattle.fb_sim.specs.declared.with_progress.ReportTally.{ReportTally}
 
 -- a count, after another

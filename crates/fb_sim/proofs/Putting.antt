@@ -8,9 +8,9 @@ use Rattle.fb_types.specs.declared.run.Form.{Form}
 use Rattle.fb_types.specs.declared.run.Line.{Line}
 use Rattle.fb_trace.specs.Fronts.{BeginsFrom, IsEmpty, all_early, all_late, joint}
 use Rattle.fb_trace.proofs.Taking.{IsTaken, further}
-use Rattle.fb_sim.specs.Weaving.{IsWovenText}
+use Rattle.fb_sim.specs.MergedText.{IsMergedText}
 use Rattle.fb_sim.proofs.Texts.{parts_text}
-use Rattle.fb_sim.proofs.Weaving.{all_woven, begin_all, taken_each}
+use Rattle.fb_sim.proofs.MergedText.{all_woven, begin_all, taken_each}
 
 -- Of the lines that were taken off the lists, the first ones are the text, and the others stand in parts.
 abbrev pub IsPut : Inputs → Form → (lists : List (List Line)) (parts : List Line) (left : List (List Line)) (text : List ℕ) → Type 0
@@ -37,7 +37,7 @@ module _ (i : Inputs) (form : Form) (lists : List (List Line)) where
         )
 
   -- it is the text of all lines, if none is left
-  pub all_put : (left : List (List Line)) (text : List ℕ) → IsPut i form lists [] left text → Each IsEmpty left → IsWovenText i form lists text
+  pub all_put : (left : List (List Line)) (text : List ℕ) → IsPut i form lists [] left text → Each IsEmpty left → IsMergedText i form lists text
   all_put left text it none = record {
     all = it.0;
     woven = all_woven lists it.0 left (subst (λ z. IsTaken lists z left) (append-nil it.0) it.1) none;

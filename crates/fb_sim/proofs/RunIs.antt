@@ -30,18 +30,18 @@ use Rattle.fb_window.specs.declared.cores.CoreState.{CoreState}
 use Rattle.fb_sim.specs.Given.{Given}
 use Rattle.fb_sim.specs.Serial.{AreTrace, AreWithin, Declares, IsRefusal, Writes, WritesPart}
 use Rattle.fb_sim.specs.Rounds.{AreAll, Begin, RoundsWithCounts, FailsAfter, FailsRun, HandsOutAfter, HasCome, HoldsTo, IsAfter, IsFinished, IsShort, RunsOn, WritesFront, WritesPartOf, after_bytes, outcome_at, text_of}
-use Rattle.fb_sim.specs.declared.drive.Finish.{Finish}
-use Rattle.fb_sim.specs.declared.drive.Finish.TheVariants.{AtEnd, AtMark}
+use Rattle.fb_sim.specs.declared.rounds.all_rounds.Finish.{Finish}
+use Rattle.fb_sim.specs.declared.rounds.all_rounds.Finish.TheVariants.{AtEnd, AtMark}
 use Rattle.fb_sim.specs.declared.options.Options.{Options}
 use Rattle.fb_sim.specs.declared.outcome.RunError.{RunError}
 use Rattle.fb_sim.specs.declared.outcome.RunError.TheVariants.{Refused, Memory, Write, BadOption, Failed}
 use Rattle.fb_sim.specs.Texts.{AreTextsOf}
-use Rattle.fb_sim.specs.declared.held.Held.{Held}
-use Rattle.fb_sim.specs.declared.marked.FinalTexts.{FinalTexts}
+use Rattle.fb_sim.specs.declared.rounds.unwritten_lines.UnwrittenLines.{UnwrittenLines}
+use Rattle.fb_sim.specs.declared.rounds.job_texts.FinalTexts.{FinalTexts}
 use Rattle.fb_sim.specs.declared.progress.Round.{Round}
 use Rattle.fb_sim.specs.declared.progress.Round.TheVariants.{Going, Ended, Stopped}
-use Rattle.fb_sim.specs.declared.tally.Tally.{Tally}
-use Rattle.fb_sim.specs.declared.tally.Written.{Written}
+use Rattle.fb_sim.specs.declared.rounds.tally.Tally.{Tally}
+use Rattle.fb_sim.specs.declared.rounds.tally.Written.{Written}
 use Rattle.fb_sim.proofs.RoundIs.{all_begin, come_begins}
 use Rattle.fb_sim.proofs.Texts.{bounded-length, lines_text-append, merged_list, part-after, part-before}
 
@@ -74,10 +74,10 @@ begins_before : (i : Inputs) (limit horizon : ℕ) (ks ls : List Line) → Begin
 begins_before i limit horizon ks ls b = record { takings = b.takings; simulation = b.simulation; rest = ls ++ b.rest; split = b.split ∙ append_assoc ks ls b.rest }
 
 module _ (i : Inputs) (good : AreGood i) (limit horizon : ℕ) where
-  -- what was written before what is held
-  pub holds_begins : (heap : Global) (core : CoreState) (held : Held) (ls : List Line) → HoldsTo i limit horizon core held ls → Begin i limit horizon ls
-  holds_begins heap core held ls h =
-      let all = merged_list heap held.lists.items held.count h.of.few h.of.counted in
+  -- what was written before the unwritten lines
+  pub holds_begins : (heap : Global) (core : CoreState) (unwritten : UnwrittenLines) (ls : List Line) → HoldsTo i limit horizon core unwritten ls → Begin i limit horizon ls
+  holds_begins heap core unwritten ls h =
+      let all = merged_list heap unwritten.lists.items unwritten.count h.of.few h.of.counted in
       begins_before i limit horizon ls (lines_in i all.0) (come_begins i good limit horizon core (ls ++ lines_in i all.0) (h.come all.0 all.1))
 
   after_begins : (c : model_cores.Core (machine (system_of i) limit)) (ls : List Line) (round : Round) → IsAfter i limit horizon c ls round → Begin i limit horizon ls
@@ -120,11 +120,11 @@ module _ (i : Inputs) (o : Options) where
     lined = both_lined ks (lines_in i all) n.lines lines h.lined (lined ∙ sym (length-map all.items (line_of (system_of i))));
   }
 
--- From where these lines were written, the core has made some rounds, and the writer has got the text of the next ones, but not of those that are held. No event comes before the tick that has the number of the rounds.
-pub record Came (i : Inputs) (o : Options) (ls : List Line) (core : CoreState) (held : Held) (old now : Option (List ℕ)) (w : Written) (rounds : ℕ) : Type 0 where
+-- From where these lines were written, the core has made some rounds, and the writer has got the text of the next ones, but not of the unwritten ones. No event comes before the tick that has the number of the rounds.
+pub record Came (i : Inputs) (o : Options) (ls : List Line) (core : CoreState) (unwritten : UnwrittenLines) (old now : Option (List ℕ)) (w : Written) (rounds : ℕ) : Type 0 where
   pub out : List Line
-  pub holds : HoldsTo i o.steps o.horizon core held (ls ++ out)
-  pub floor : (all : Vec run.Line) (merged : IsMerged held.lists.items all.items) → IsFloor (machine (system_of i) o.steps) (core_of i o.steps (holds.come all merged).steps) rounds
+  pub holds : HoldsTo i o.steps o.horizon core unwritten (ls ++ out)
+  pub floor : (all : Vec run.Line) (merged : IsMerged unwritten.lists.items all.items) → IsFloor (machine (system_of i) o.steps) (core_of i o.steps (holds.come all merged).steps) rounds
   pub wrote : HasGot i o old now w out
 
 -- The last lines are written too.
@@ -135,27 +135,27 @@ pub record CameLast (i : Inputs) (o : Options) (ls : List Line) (round : Round) 
   pub wrote : HasGot i o old now w out
 
 module _ (i : Inputs) (o : Options) (ls : List Line) where
-  -- nothing is held
-  pub came_first : (core : CoreState) (held : Held) (old : Option (List ℕ)) → held.lists.items ≡ [] → held.count ≡ 0 → held.texts ≡ None → HasCome i o.steps o.horizon core ls → Came i o ls core held old old (record { bytes = 0; lines = 0 }) 0
-  came_first core held old none zero_held no_texts h = record {
+  -- nothing is unwritten
+  pub came_first : (core : CoreState) (unwritten : UnwrittenLines) (old : Option (List ℕ)) → unwritten.lists.items ≡ [] → unwritten.count ≡ 0 → unwritten.texts ≡ None → HasCome i o.steps o.horizon core ls → Came i o ls core unwritten old old (record { bytes = 0; lines = 0 }) 0
+  came_first core unwritten old none none_unwritten no_texts h = record {
     out = [];
     holds = record {
       of = record {
         belong = subst (λ (vs : Lists). All (λ p. All (BelongsTo (system_of i)) p.items) vs) (sym none) (All-nil (λ (p : Vec run.Line). All (BelongsTo (system_of i)) p.items));
-        counted = zero_held ∙ ap (λ (vs : Lists). length (flat vs)) (sym none);
-        few = omega (arith, zero_held);
-        texts = subst (λ (t : Option FinalTexts). IfSome t (AreTextsOf i held.lists.items)) (sym no_texts) tt;
+        counted = none_unwritten ∙ ap (λ (vs : Lists). length (flat vs)) (sym none);
+        few = omega (arith, none_unwritten);
+        texts = subst (λ (t : Option FinalTexts). IfSome t (AreTextsOf i unwritten.lists.items)) (sym no_texts) tt;
       };
       come = λ all m.
           come_as i o.steps o.horizon core ls ((ls ++ []) ++ lines_in i all)
-          (sym (append-nil ls) ∙ sym (append-nil (ls ++ [])) ∙ ap (λ (xs : List run.Line). (ls ++ []) ++ map (line_of (system_of i)) xs) (sym (none_of held.lists.items all.items none m))) h;
+          (sym (append-nil ls) ∙ sym (append-nil (ls ++ [])) ∙ ap (λ (xs : List run.Line). (ls ++ []) ++ map (line_of (system_of i)) xs) (sym (none_of unwritten.lists.items all.items none m))) h;
     };
     floor = λ all m s k b. absurd (omega arith);
     wrote = record { got = Appends-nil old; counted = omega arith; lined = omega arith };
   }
 
-  module _ (core : CoreState) (held : Held) (old mid new : Option (List ℕ)) (n : Written) (rounds : ℕ) (c : Came i o ls core held old mid n rounds) where
-    module _ (round : Round) (next : Held) (m : Tally) (r : RoundsWithCounts i o core held (ls ++ c.out) c.holds mid new (Ok (round, next, m))) where
+  module _ (core : CoreState) (unwritten : UnwrittenLines) (old mid new : Option (List ℕ)) (n : Written) (rounds : ℕ) (c : Came i o ls core unwritten old mid n rounds) where
+    module _ (round : Round) (next : UnwrittenLines) (m : Tally) (r : RoundsWithCounts i o core unwritten (ls ++ c.out) c.holds mid new (Ok (round, next, m))) where
       wrote_more : HasGot i o old new (with i o n m.bytes m.final_lines) (c.out ++ lines_in i r.0)
       wrote_more = got_more i o old mid new n m.bytes m.final_lines c.out r.0 c.wrote r.2 r.3 r.4
 
@@ -203,7 +203,7 @@ module _ (i : Inputs) (o : Options) (ls : List Line) where
           part all merged BadOption bad = absurd bad
           part all merged Failed bad = absurd bad
 
-    module _ (next : CoreState) (later : Held) (m : Tally) (r : RoundsWithCounts i o core held (ls ++ c.out) c.holds mid new (Ok (Going next, later, m))) where
+    module _ (next : CoreState) (later : UnwrittenLines) (m : Tally) (r : RoundsWithCounts i o core unwritten (ls ++ c.out) c.holds mid new (Ok (Going next, later, m))) where
       -- There are no more rounds than ticks.
       pub came_early : Global → rounds < o.horizon
       came_early heap =
@@ -224,7 +224,7 @@ module _ (i : Inputs) (o : Options) (ls : List Line) where
         wrote = got_more i o old mid new n m.bytes m.final_lines c.out r.0 c.wrote r.2 r.3 r.4;
       }
 
-    came_short : (m : ℕ) → RoundsWithCounts i o core held (ls ++ c.out) c.holds mid new (Err (Write m)) → RunsOn i o ls old new (Err (Write (bounded (n.bytes + m))))
+    came_short : (m : ℕ) → RoundsWithCounts i o core unwritten (ls ++ c.out) c.holds mid new (Err (Write m)) → RunsOn i o ls old new (Err (Write (bounded (n.bytes + m))))
     came_short m r = (
       c.out ++ r.0,
       subst (λ (ks : List Line). Begin i o.steps o.horizon ks) (append_assoc ls c.out r.0) r.1,
@@ -234,12 +234,12 @@ module _ (i : Inputs) (o : Options) (ls : List Line) where
     came_wanting : AreGood i → Global → new ≡ mid → RunsOn i o ls old new (Err Memory)
     came_wanting good heap same = (
       c.out,
-      holds_begins i good o.steps o.horizon heap core held (ls ++ c.out) c.holds,
+      holds_begins i good o.steps o.horizon heap core unwritten (ls ++ c.out) c.holds,
       subst (λ (z : Option (List ℕ)). Appends old z (text_of i o.form c.out)) (sym same) c.wrote.got,
     )
 
     -- the options of a round may name other workers
-    pub came_failed : AreGood i → Global → (w : ℕ) (e : RunError) → RoundsWithCounts i (record { horizon = o.horizon; steps = o.steps; workers = w; form = o.form }) core held (ls ++ c.out) c.holds mid new (Err e) → RunsOn i o ls old new (Err (after_bytes n.bytes e))
+    pub came_failed : AreGood i → Global → (w : ℕ) (e : RunError) → RoundsWithCounts i (record { horizon = o.horizon; steps = o.steps; workers = w; form = o.form }) core unwritten (ls ++ c.out) c.holds mid new (Err e) → RunsOn i o ls old new (Err (after_bytes n.bytes e))
     came_failed good heap w (Write m) r = came_short m r
     came_failed good heap w Memory same = came_wanting good heap same
     came_failed good heap w (Refused r) bad = absurd bad

@@ -18,7 +18,7 @@ use Rattle.fb_window.specs.Settling.{lists_of}
 use Rattle.fb_window.specs.declared.cores.CoreState as cores
 use Rattle.fb_sim.specs.Rounds.{AreAll, HasCome, IsFinished}
 use Rattle.fb_sim.specs.Sessions.{Session, IsAhead, HasStoppedAt}
-use Rattle.fb_sim.specs.declared.drive.Finish.TheVariants.{AtEnd}
+use Rattle.fb_sim.specs.declared.rounds.all_rounds.Finish.TheVariants.{AtEnd}
 use Rattle.fb_types.specs.declared.run.StopMark.{StopMark}
 use Rattle.fb_sim.proofs.Edges.{all_before}
 use Rattle.fb_sim.proofs.Fronts.{all_final, all_merged, at_zero, core_below, none_left}

@@ -9,7 +9,7 @@ use Rattle.fb_types.specs.declared.run.Line.{Line}
 use Rattle.fb_trace.specs.Fronts.{joint}
 use Rattle.fb_trace.specs.Merging.{tick_of, Rises}
 use Rattle.fb_trace.proofs.Sorting.{filter_in, filter_out, tie, tie_less, tie_same, tie_apart}
-use Rattle.fb_sim.specs.Weaving.{IsWoven}
+use Rattle.fb_sim.specs.MergedText.{IsWoven}
 
 -- the lines with one more, before the first that is not earlier
 abbrev put : Line → List Line → List Line

@@ -3,7 +3,7 @@ use denote.Param.Send.{IsSend, sendable}
 use Rattle.std.proofs.Crossing.{crosses}
 use Rattle.fb_trace.proofs.marks.MarkedText.TheSendSync as text
 use Rattle.fb_resource.proofs.Sends.{done_send}
-use Rattle.fb_sim.specs.contracts.work.TextedDone as TextedDone
+use Rattle.fb_sim.specs.contracts.rounds.workers.JobDone as JobDone
 
-pub texted_send : IsSend (TextedDone.the_field).row
+pub texted_send : IsSend (JobDone.the_field).row
 texted_send = search (sendable, crosses, done_send, text.the_field_send) depth 40

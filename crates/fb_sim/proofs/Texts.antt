@@ -18,9 +18,9 @@ use Rattle.fb_types.specs.declared.run.Line as run
 use Rattle.fb_trace.specs.Merging.{Lists, flat}
 use Rattle.fb_trace.specs.Progress.{IsPartWritten, bounded}
 use Rattle.fb_window.specs.Settling.{IsMerged}
-use Rattle.fb_sim.specs.Weaving.{AreDivided, IsWovenText, all_bytes}
+use Rattle.fb_sim.specs.MergedText.{AreDivided, IsMergedText, all_bytes}
 use Rattle.fb_sim.proofs.Sorting.{woven_of}
-use Rattle.fb_sim.proofs.Weaving.{woven_joined, woven_merged}
+use Rattle.fb_sim.proofs.MergedText.{woven_joined, woven_merged}
 
 -- the text of lines, and then of more lines
 pub lines_text-append : (form : Form) (sys : System) (ks ls : List Line) → lines_text form sys (ks ++ ls) ≡ lines_text form sys ks ++ lines_text form sys ls
@@ -38,9 +38,9 @@ parts_text form sys xs ys zs e =
     ∙ ap (λ (ls : List run.Line). lines_text form sys (map (line_of sys) ls)) (sym e)
 
 -- the texts of two parts of lists, one after the other
-pub woven_text-joined : (i : Inputs) (form : Form) (lists firsts lasts : List (List run.Line)) → AreDivided lists firsts lasts → (x y : List ℕ)
-    → IsWovenText i form firsts x → IsWovenText i form lasts y → IsWovenText i form lists (x ++ y)
-woven_text-joined i form lists firsts lasts cut x y a b = record {
+pub merged_text-joined : (i : Inputs) (form : Form) (lists firsts lasts : List (List run.Line)) → AreDivided lists firsts lasts → (x y : List ℕ)
+    → IsMergedText i form firsts x → IsMergedText i form lasts y → IsMergedText i form lists (x ++ y)
+merged_text-joined i form lists firsts lasts cut x y a b = record {
   all = a.all ++ b.all;
   woven = woven_joined lists firsts lasts cut a.all b.all a.woven b.woven;
   is = ap₂ ◌++◌ a.is b.is ∙ parts_text form (system_of i) a.all b.all (a.all ++ b.all) refl;
@@ -49,18 +49,18 @@ woven_text-joined i form lists firsts lasts cut x y a b = record {
 -- texts, and one more after them
 pub last_joined : {E : Type 0} (i : Inputs) (form : Form) (lists firsts lasts : List (List run.Line)) → AreDivided lists firsts lasts
     → (a : Result (Vec (Vec ℕ)) E) (b : Result (Vec ℕ) E) (all : List ℕ) → IsOkAnd a (λ ts. IsOkAnd b (λ t. all ≡ all_bytes ts.items ++ t.items))
-    → IfOk a (λ v. IsWovenText i form firsts (all_bytes v.items)) → IfOk b (λ v. IsWovenText i form lasts v.items) → IsWovenText i form lists all
+    → IfOk a (λ v. IsMergedText i form firsts (all_bytes v.items)) → IfOk b (λ v. IsMergedText i form lasts v.items) → IsMergedText i form lists all
 last_joined i form lists firsts lasts cut (Ok ts) (Ok t) all is x y =
-    subst (IsWovenText i form lists) (sym is) (woven_text-joined i form lists firsts lasts cut (all_bytes ts.items) t.items x y)
+    subst (IsMergedText i form lists) (sym is) (merged_text-joined i form lists firsts lasts cut (all_bytes ts.items) t.items x y)
 last_joined i form lists firsts lasts cut (Ok ts) (Err e) all is x y = absurd is
 last_joined i form lists firsts lasts cut (Err e) b all is x y = absurd is
 
 -- one text, after none
 pub one_joined : {E : Type 0} (i : Inputs) (form : Form) (lists : List (List run.Line)) (a : Result (Vec (Vec ℕ)) E) (first : Vec (Vec ℕ)) (b : Result (Vec ℕ) E) → first.items ≡ []
     → IfOk a (λ v. IsOkAnd {E = E} (Ok first) (λ ts. IsOkAnd b (λ t. all_bytes v.items ≡ all_bytes ts.items ++ t.items)))
-    → IfOk b (λ v. IsWovenText i form lists v.items) → IfOk a (λ v. IsWovenText i form lists (all_bytes v.items))
+    → IfOk b (λ v. IsMergedText i form lists v.items) → IfOk a (λ v. IsMergedText i form lists (all_bytes v.items))
 one_joined i form lists (Ok v) first (Ok t) none is x =
-    subst (IsWovenText i form lists) (sym (is ∙ ap (λ (vs : List (Vec ℕ)). all_bytes vs ++ t.items) none)) x
+    subst (IsMergedText i form lists) (sym (is ∙ ap (λ (vs : List (Vec ℕ)). all_bytes vs ++ t.items) none)) x
 one_joined i form lists (Ok v) first (Err e) none is x = absurd is
 one_joined i form lists (Err e) first b none is x = tt
 
@@ -69,7 +69,7 @@ abbrev pub vec_of : Global → (xs : List run.Line) → length xs < 2 ^ 63 → V
 vec_of heap xs small = record { ptr = null_ptr; len = length xs; cap = length xs; alloc = heap; items = xs; ok = (refl, le_refl (length xs)); small = small }
 
 -- the lines that a text of this many lines is of
-pub handed : (i : Inputs) (form : Form) (heap : Global) (lists : Lists) (count : ℕ) (text : List ℕ) → IsWovenText i form (map (λ v. v.items) lists) text
+pub handed : (i : Inputs) (form : Form) (heap : Global) (lists : Lists) (count : ℕ) (text : List ℕ) → IsMergedText i form (map (λ v. v.items) lists) text
     → count < 10 ^ 12 → count ≡ length (flat lists) → (all : Vec run.Line) × IsMerged lists all.items × (text ≡ lines_text form (system_of i) (map (line_of (system_of i)) all.items)) × (count ≡ length all.items)
 handed i form heap lists count text t few counted =
     let m = woven_merged lists t.all t.woven in

@@ -18,9 +18,9 @@ use Rattle.fb_resource.specs.declared.resource.WindowDone.{WindowDone}
 use Rattle.fb_resource.specs.declared.resource.WindowDone.TheVariants.{NoMemory, Ran}
 use Rattle.fb_window.specs.Jobs.{Does, JobModel, job_of, jobs_of}
 use Rattle.fb_window.specs.Texts.{IsFrontOf}
-use Rattle.fb_sim.specs.Texts.{AreDone, AreHeldIn, AreTextsFrom, AreTextsOf, DoesWithText, HasText, IsTextFrom}
-use Rattle.fb_sim.specs.declared.marked.FinalTexts.{FinalTexts}
-use Rattle.fb_sim.specs.declared.work.TextedDone.{TextedDone}
+use Rattle.fb_sim.specs.Texts.{AreDone, AreUnwrittenIn, AreTextsFrom, AreTextsOf, DoesWithText, HasText, IsTextFrom}
+use Rattle.fb_sim.specs.declared.rounds.job_texts.FinalTexts.{FinalTexts}
+use Rattle.fb_sim.specs.declared.rounds.workers.JobDone.{JobDone}
 
 -- ---- Jobs, and what becomes of them
 
@@ -38,21 +38,21 @@ jobs_are_of i limit bounds r (x ∷ xs) =
     each_append (λ (j : JobModel). j.inputs ≡ i) (job_of i limit (slice_index_or bounds r 0) x) (jobs_of i limit bounds (r + 1) xs)
     (job_is_of i limit (slice_index_or bounds r 0) x) (jobs_are_of i limit bounds (r + 1) xs)
 
-abbrev pub dones_of : List TextedDone → List WindowDone
+abbrev pub dones_of : List JobDone → List WindowDone
 dones_of ds = map (λ d. d.done) ds
 
-abbrev pub texts_of : List TextedDone → List (Option MarkedText)
+abbrev pub texts_of : List JobDone → List (Option MarkedText)
 texts_of ds = map (λ d. d.text) ds
 
 -- all jobs are done
-pub dones_are : (js : List JobModel) (ds : List TextedDone) → AllZip DoesWithText js ds → AllZip Does js (dones_of ds)
+pub dones_are : (js : List JobModel) (ds : List JobDone) → AllZip DoesWithText js ds → AllZip Does js (dones_of ds)
 dones_are [] [] h = tt
 dones_are [] (d ∷ ds) h = absurd h
 dones_are (j ∷ js) [] h = absurd h
 dones_are (j ∷ js) (d ∷ ds) h = (h.0.0, dones_are js ds h.1)
 
 -- their texts are those of their lines
-pub texts_are : (i : Inputs) (js : List JobModel) (ds : List TextedDone) → Each (λ (j : JobModel). j.inputs ≡ i) js → AllZip DoesWithText js ds → AllZip (HasText i) (dones_of ds) (texts_of ds)
+pub texts_are : (i : Inputs) (js : List JobModel) (ds : List JobDone) → Each (λ (j : JobModel). j.inputs ≡ i) js → AllZip DoesWithText js ds → AllZip (HasText i) (dones_of ds) (texts_of ds)
 texts_are i [] [] of h = tt
 texts_are i [] (d ∷ ds) of h = absurd h
 texts_are i (j ∷ js) [] of h = absurd h
@@ -86,11 +86,11 @@ texts_from i (p ∷ ps) (d ∷ ds) (t ∷ ts) f h = (one_from i p d t f.0 h.0, t
 
 -- ---- Lists that grow
 
-pub dones_push : (ds : List TextedDone) (d : TextedDone) → dones_of (ds ++ d ∷ []) ≡ dones_of ds ++ d.done ∷ []
+pub dones_push : (ds : List JobDone) (d : JobDone) → dones_of (ds ++ d ∷ []) ≡ dones_of ds ++ d.done ∷ []
 dones_push [] d = refl
 dones_push (e ∷ ds) d = ap (λ z. e.done ∷ z) (dones_push ds d)
 
-pub texts_push : (ds : List TextedDone) (d : TextedDone) → texts_of (ds ++ d ∷ []) ≡ texts_of ds ++ d.text ∷ []
+pub texts_push : (ds : List JobDone) (d : JobDone) → texts_of (ds ++ d ∷ []) ≡ texts_of ds ++ d.text ∷ []
 texts_push [] d = refl
 texts_push (e ∷ ds) d = ap (λ z. e.text ∷ z) (texts_push ds d)
 
@@ -153,17 +153,17 @@ module _ (i : Inputs) (form : Form) (finals : List (Vec Line)) where
 
 -- ---- All together
 
-no_left : (ds : List TextedDone) → length ds ≡ 0 → ds ≡ []
+no_left : (ds : List JobDone) → length ds ≡ 0 → ds ≡ []
 no_left [] e = refl
 no_left (d ∷ ds) e = absurd (omega arith)
 
 -- all were taken apart
-pub are_apart : (js : List JobModel) (ds all left : List TextedDone) → length left ≡ 0 → ds ++ left ≡ all
+pub are_apart : (js : List JobModel) (ds all left : List JobDone) → length left ≡ 0 → ds ++ left ≡ all
     → (ws : Vec WindowDone) (ts : Vec (Option MarkedText)) → ws.items ≡ dones_of ds → ts.items ≡ texts_of ds
     → AllZip DoesWithText js all → AreDone js (record { dones = ws; texts = Some ts })
 are_apart js ds all left none whole ws ts dones texts h =
     let same : ds ≡ all = sym (append-nil ds) ∙ ap (λ z. ds ++ z) (sym (no_left left none)) ∙ whole in
-    let each : AllZip DoesWithText js ds = subst (λ (zs : List TextedDone). AllZip DoesWithText js zs) (sym same) h in
+    let each : AllZip DoesWithText js ds = subst (λ (zs : List JobDone). AllZip DoesWithText js zs) (sym same) h in
     record {
       done = subst (λ (zs : List WindowDone). AllZip Does js zs) (sym dones) (dones_are js ds each);
       texts = λ i of.
@@ -171,11 +171,11 @@ are_apart js ds all left none whole ws ts dones texts h =
           (subst (λ (zs : List (Option MarkedText)). AllZip (HasText i) (dones_of ds) zs) (sym texts) (texts_are i js ds of each));
     }
 
--- the texts that are held, in a form
-pub held_texts : (i : Inputs) (form : Form) (lists : List (Vec Line)) (held : Option FinalTexts) (ts : List MarkedText)
-    → AreHeldIn form held ts → IfSome held (AreTextsOf i lists) → AllZip (IsMarkedText i form) (lines_of lists) ts
-held_texts i form lists (Some t) ts e h = subst (λ (f : Form). AllZip (IsMarkedText i f) (lines_of lists) ts) e.0 (subst (λ (ms : List MarkedText). AllZip (IsMarkedText i t.form) (lines_of lists) ms) (sym e.1) h)
-held_texts i form lists None ts e h = absurd e
+-- the texts of unwritten lines, in a form
+pub unwritten_texts : (i : Inputs) (form : Form) (lists : List (Vec Line)) (unwritten : Option FinalTexts) (ts : List MarkedText)
+    → AreUnwrittenIn form unwritten ts → IfSome unwritten (AreTextsOf i lists) → AllZip (IsMarkedText i form) (lines_of lists) ts
+unwritten_texts i form lists (Some t) ts e h = subst (λ (f : Form). AllZip (IsMarkedText i f) (lines_of lists) ts) e.0 (subst (λ (ms : List MarkedText). AllZip (IsMarkedText i t.form) (lines_of lists) ms) (sym e.1) h)
+unwritten_texts i form lists None ts e h = absurd e
 
 -- the texts that jobs made, where they are of use
 texts_used : (i : Inputs) (finals : List (Vec Line)) (dones : List WindowDone) (texts used : Option (Vec (Option MarkedText)))

@@ -33,14 +33,14 @@ use Rattle.fb_window.specs.declared.cores.Reach.{Reach}
 use Rattle.fb_window.specs.declared.cores.Reach.TheVariants as reach
 use Rattle.fb_window.specs.declared.cores.Settled.{Settled}
 use Rattle.fb_window.specs.declared.cores.Settled.TheVariants as settled
-use Rattle.fb_sim.specs.Rounds.{FailsRound, FailsToHandOut, HandsOut, RoundsWithCounts, HasCome, HasWalked, HoldsTo, IsAfter, IsHeldOf, IsHomeAgain, IsHomeOnce, IsOnItsWay, Rounds, WritesPartOf, lines_out, round_of, text_of}
-use Rattle.fb_sim.specs.declared.held.Held.{Held}
+use Rattle.fb_sim.specs.Rounds.{FailsRound, FailsToHandOut, HandsOut, RoundsWithCounts, HasCome, HasWalked, HoldsTo, IsAfter, AreUnwrittenOf, IsHomeAgain, IsHomeOnce, IsOnItsWay, Rounds, WritesPartOf, lines_out, round_of, text_of}
+use Rattle.fb_sim.specs.declared.rounds.unwritten_lines.UnwrittenLines.{UnwrittenLines}
 use Rattle.fb_sim.specs.declared.options.Options.{Options}
 use Rattle.fb_sim.specs.declared.outcome.RunError.{RunError}
 use Rattle.fb_sim.specs.declared.outcome.RunError.TheVariants.{Refused, Memory, Write, BadOption, Failed}
 use Rattle.fb_sim.specs.declared.progress.Round.{Round}
 use Rattle.fb_sim.specs.declared.progress.Round.TheVariants.{Going, Ended, Stopped}
-use Rattle.fb_sim.specs.declared.tally.Tally.{Tally}
+use Rattle.fb_sim.specs.declared.rounds.tally.Tally.{Tally}
 use Rattle.fb_window.proofs.Keeping.{keeps}
 use Rattle.fb_sim.proofs.RoundIs.{come_begins, home_again, home_once}
 
@@ -157,53 +157,53 @@ home_since i limit horizon c ls core h s home = record { belong = home.belong; a
 
 -- ---- What is written
 
-module _ (i : Inputs) (o : Options) (core : CoreState) (held : Held) (ls : List Line) (holds : HoldsTo i o.steps o.horizon core held ls) (old new : Option (List ℕ)) where
+module _ (i : Inputs) (o : Options) (core : CoreState) (unwritten : UnwrittenLines) (ls : List Line) (holds : HoldsTo i o.steps o.horizon core unwritten ls) (old new : Option (List ℕ)) where
   out_same : (r : Reach) (all : Vec run.Line) → lines_out (settled_of r all) ≡ all.items
   out_same (reach.Going core) all = refl
   out_same (reach.Ended core) all = refl
   out_same (reach.Stopped mark) all = refl
 
   -- what is known of the lines that have become final, whatever list they become
-  abbrev Homes : Reach → Held → Type 0
+  abbrev Homes : Reach → UnwrittenLines → Type 0
   Homes r next = (ks : List Line) (come : HasCome i o.steps o.horizon core ks) (all : Vec run.Line) → IsMerged next.lists.items all.items → IsHomeAgain i o.steps o.horizon (core_of i o.steps come.steps) ks (settled_of r all)
 
-  -- what is held is written, and the next lines are held
-  pub held_whole : (r : Reach) (finals : Held) (bytes lines : ℕ) (t : Round × Held × Tally) → ((all : Vec run.Line) → t.0 ≡ round_of (settled_of r all)) → t.1 ≡ finals → t.2.bytes ≡ bytes → t.2.final_lines ≡ lines
-      → Homes r finals → IsHeldOf i finals → HandsOut i o.form held.lists.items old new bytes lines → RoundsWithCounts i o core held ls holds old new (Ok t)
-  held_whole r finals bytes lines (round, next, n) is same counted lined home of h = (
+  -- what is unwritten is written, and the next lines are unwritten
+  pub unwritten_whole : (r : Reach) (finals : UnwrittenLines) (bytes lines : ℕ) (t : Round × UnwrittenLines × Tally) → ((all : Vec run.Line) → t.0 ≡ round_of (settled_of r all)) → t.1 ≡ finals → t.2.bytes ≡ bytes → t.2.final_lines ≡ lines
+      → Homes r finals → AreUnwrittenOf i finals → HandsOut i o.form unwritten.lists.items old new bytes lines → RoundsWithCounts i o core unwritten ls holds old new (Ok t)
+  unwritten_whole r finals bytes lines (round, next, n) is same counted lined home of h = (
     h.all,
     h.merged,
     h.got,
     counted ∙ h.counted,
     lined ∙ h.lined,
-    subst (λ (v : Held). IsHeldOf i v) (sym same) of,
+    subst (λ (v : UnwrittenLines). AreUnwrittenOf i v) (sym same) of,
     λ later merged.
         let come = holds.come h.all h.merged in
         let ks = ls ++ map (line_of (system_of i)) h.all.items in
         let c = core_of i o.steps come.steps in
-        let again = home ks come later (subst (λ (v : Held). IsMerged v.lists.items later.items) same merged) in
+        let again = home ks come later (subst (λ (v : UnwrittenLines). IsMerged v.lists.items later.items) same merged) in
         subst (λ (x : Round). IsAfter i o.steps o.horizon c (ks ++ map (line_of (system_of i)) later.items) x) (sym (is later))
         (subst (λ (xs : List run.Line). IsAfter i o.steps o.horizon c (ks ++ map (line_of (system_of i)) xs) (round_of (settled_of r later))) (out_same r later) again.after),
   )
 
   -- a writer that failed
-  held_part : AreGood i → (all : Vec run.Line) → IsMerged held.lists.items all.items → (e : RunError) → WritesPartOf old new (text_of i o.form (map (line_of (system_of i)) all.items)) e → FailsRound i o ls old new e
-  held_part good all merged (Write n) part =
+  unwritten_part : AreGood i → (all : Vec run.Line) → IsMerged unwritten.lists.items all.items → (e : RunError) → WritesPartOf old new (text_of i o.form (map (line_of (system_of i)) all.items)) e → FailsRound i o ls old new e
+  unwritten_part good all merged (Write n) part =
       (map (line_of (system_of i)) all.items, come_begins i good o.steps o.horizon core (ls ++ map (line_of (system_of i)) all.items) (holds.come all merged), part)
-  held_part good all merged (Refused r) bad = absurd bad
-  held_part good all merged Memory bad = absurd bad
-  held_part good all merged BadOption bad = absurd bad
-  held_part good all merged Failed bad = absurd bad
+  unwritten_part good all merged (Refused r) bad = absurd bad
+  unwritten_part good all merged Memory bad = absurd bad
+  unwritten_part good all merged BadOption bad = absurd bad
+  unwritten_part good all merged Failed bad = absurd bad
 
   -- memory that ran out before anything was written
-  pub held_out_of_memory : (e : RunError) → e ≡ Memory → new ≡ old → FailsRound i o ls old new e
-  held_out_of_memory e is same = subst (λ (f : RunError). FailsRound i o ls old new f) (sym is) same
+  pub unwritten_out_of_memory : (e : RunError) → e ≡ Memory → new ≡ old → FailsRound i o ls old new e
+  unwritten_out_of_memory e is same = subst (λ (f : RunError). FailsRound i o ls old new f) (sym is) same
 
-  pub held_failed : AreGood i → (e : RunError) → FailsToHandOut i o.form held.lists.items old new e → FailsRound i o ls old new e
-  held_failed good e h = ⊎_elim (λ m. held_out_of_memory e m.0 m.1) (λ p. held_part good p.all p.merged e p.part) h
+  pub held_failed : AreGood i → (e : RunError) → FailsToHandOut i o.form unwritten.lists.items old new e → FailsRound i o ls old new e
+  held_failed good e h = ⊎_elim (λ m. unwritten_out_of_memory e m.0 m.1) (λ p. unwritten_part good p.all p.merged e p.part) h
 
   -- the error that `?` passes on
-  pub held_passed : (r : Result (Round × Held × Tally) RunError) (e : RunError) → IsErrAnd r (λ f. f ≡ e) → FailsRound i o ls old new e → RoundsWithCounts i o core held ls holds old new r
+  pub held_passed : (r : Result (Round × UnwrittenLines × Tally) RunError) (e : RunError) → IsErrAnd r (λ f. f ≡ e) → FailsRound i o ls old new e → RoundsWithCounts i o core unwritten ls holds old new r
   held_passed (Ok x) e bad h = absurd bad
   held_passed (Err f) e is h = subst (λ (x : RunError). FailsRound i o ls old new x) (sym is) h
 

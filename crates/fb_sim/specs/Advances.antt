@@ -17,7 +17,7 @@ use Rattle.fb_sim.specs.declared.state.Stage.TheVariants as going
 use Rattle.fb_trace.specs.declared.last.Outcome.{Outcome}
 use Rattle.fb_trace.specs.declared.last.Outcome.TheVariants.{End, Stop}
 use Rattle.fb_sim.specs.declared.outcome.RunError.{RunError}
-use Rattle.fb_sim.specs.declared.tally.Written.{Written}
+use Rattle.fb_sim.specs.declared.rounds.tally.Written.{Written}
 use Rattle.fb_sim.specs.declared.outcome.RunError.TheVariants.{Refused, Memory, Write, BadOption, Failed}
 
 -- ---- Opening

@@ -6,5 +6,5 @@ pub mod Sessions
 pub mod Advances
 pub mod Reports
 pub mod Texts
-pub mod Weaving
-pub mod Joining
+pub mod MergedText
+pub mod JoinedTexts

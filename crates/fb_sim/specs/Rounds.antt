@@ -32,16 +32,16 @@ use Rattle.fb_sim.specs.Serial.{AreWithin, AreTrace, IsRightly, WritesPart}
 use Rattle.fb_sim.specs.declared.options.Options.{Options}
 use Rattle.fb_sim.specs.declared.outcome.RunError.{RunError}
 use Rattle.fb_sim.specs.declared.outcome.RunError.TheVariants.{Refused, Memory, Write, BadOption, Failed}
-use Rattle.fb_sim.specs.declared.drive.Finish.{Finish}
-use Rattle.fb_sim.specs.declared.drive.Finish.TheVariants.{AtEnd, AtMark}
+use Rattle.fb_sim.specs.declared.rounds.all_rounds.Finish.{Finish}
+use Rattle.fb_sim.specs.declared.rounds.all_rounds.Finish.TheVariants.{AtEnd, AtMark}
 use Rattle.fb_sim.specs.Texts.{AreTextsOf}
-use Rattle.fb_sim.specs.declared.held.Held.{Held}
+use Rattle.fb_sim.specs.declared.rounds.unwritten_lines.UnwrittenLines.{UnwrittenLines}
 use Rattle.fb_sim.specs.declared.progress.Round.{Round}
 use Rattle.fb_sim.specs.declared.progress.Round.TheVariants.{Going, Ended, Stopped}
-use Rattle.fb_sim.specs.declared.tally.Tally.{Tally}
-use Rattle.fb_sim.specs.declared.tally.Written.{Written}
-use Rattle.fb_sim.specs.declared.trial.Leg.{Leg}
-use Rattle.fb_sim.specs.declared.trial.Leg.TheVariants as legs
+use Rattle.fb_sim.specs.declared.rounds.tally.Tally.{Tally}
+use Rattle.fb_sim.specs.declared.rounds.tally.Written.{Written}
+use Rattle.fb_sim.specs.declared.rounds.first_rounds.FirstRounds.{FirstRounds}
+use Rattle.fb_sim.specs.declared.rounds.first_rounds.FirstRounds.TheVariants as legs
 
 -- ---- What was handed out
 
@@ -160,30 +160,30 @@ FailsRound i o ls old new (Refused r) = ⊥
 FailsRound i o ls old new BadOption = ⊥
 FailsRound i o ls old new Failed = ⊥
 
--- Lines of the system that are held, and how many they are.
-pub record IsHeldOf (i : Inputs) (held : Held) : Type 0 where
-  pub belong : All (λ p. All (BelongsTo (system_of i)) p.items) held.lists.items
-  pub counted : held.count ≡ length (flat held.lists.items)
-  pub few : held.count < 10 ^ 12
-  pub texts : IfSome held.texts (AreTextsOf i held.lists.items)
+-- Lines of the system that are unwritten, and their count.
+pub record AreUnwrittenOf (i : Inputs) (unwritten : UnwrittenLines) : Type 0 where
+  pub belong : All (λ p. All (BelongsTo (system_of i)) p.items) unwritten.lists.items
+  pub counted : unwritten.count ≡ length (flat unwritten.lists.items)
+  pub few : unwritten.count < 10 ^ 12
+  pub texts : IfSome unwritten.texts (AreTextsOf i unwritten.lists.items)
 
--- Some steps, each in its turn, led to the core. These lines were handed out of it, and then those that are held, whichever list in the order of the trace they become.
-pub record HoldsTo (i : Inputs) (limit horizon : ℕ) (core : CoreState) (held : Held) (ls : List Line) : Type 0 where
-  pub of : IsHeldOf i held
-  pub come : (all : Vec run.Line) → IsMerged held.lists.items all.items → HasCome i limit horizon core (ls ++ map (line_of (system_of i)) all.items)
+-- Some steps, each in its turn, led to the core. These lines were handed out of it, and then those that are unwritten, whichever list in the order of the trace they become.
+pub record HoldsTo (i : Inputs) (limit horizon : ℕ) (core : CoreState) (unwritten : UnwrittenLines) (ls : List Line) : Type 0 where
+  pub of : AreUnwrittenOf i unwritten
+  pub come : (all : Vec run.Line) → IsMerged unwritten.lists.items all.items → HasCome i limit horizon core (ls ++ map (line_of (system_of i)) all.items)
 
--- Where these lines were written, and others are held, some turns of single resources and a round write those that are held: the writer gets their text, of this many bytes and this many lines. The round holds the next ones.
-abbrev pub RoundsWithCounts : (i : Inputs) (o : Options) (core : CoreState) (held : Held) (ls : List Line) → HoldsTo i o.steps o.horizon core held ls → (old new : Option (List ℕ)) → Result (Round × Held × Tally) RunError → Type 0
-RoundsWithCounts i o core held ls holds old new (Ok (round, next, tally)) =
+-- Where these lines were written, and others are unwritten, some turns of single resources and a round write the unwritten ones: the writer gets their text, of this many bytes and this many lines. The round leaves the next ones unwritten.
+abbrev pub RoundsWithCounts : (i : Inputs) (o : Options) (core : CoreState) (unwritten : UnwrittenLines) (ls : List Line) → HoldsTo i o.steps o.horizon core unwritten ls → (old new : Option (List ℕ)) → Result (Round × UnwrittenLines × Tally) RunError → Type 0
+RoundsWithCounts i o core unwritten ls holds old new (Ok (round, next, tally)) =
     (all : Vec run.Line)
-    × (merged : IsMerged held.lists.items all.items)
+    × (merged : IsMerged unwritten.lists.items all.items)
     × Appends old new (text_of i o.form (map (line_of (system_of i)) all.items))
     × (tally.bytes ≡ bounded (length (text_of i o.form (map (line_of (system_of i)) all.items))))
     × (tally.final_lines ≡ length all.items)
-    × IsHeldOf i next
+    × AreUnwrittenOf i next
     × ((later : Vec run.Line) → IsMerged next.lists.items later.items
     → IsAfter i o.steps o.horizon (core_of i o.steps (holds.come all merged).steps) ((ls ++ map (line_of (system_of i)) all.items) ++ map (line_of (system_of i)) later.items) round)
-RoundsWithCounts i o core held ls holds old new (Err e) = FailsRound i o ls old new e
+RoundsWithCounts i o core unwritten ls holds old new (Err e) = FailsRound i o ls old new e
 
 -- ---- A run
 
@@ -231,9 +231,9 @@ pub record HasRunOut (i : Inputs) (o : Options) (finish : Finish) (w : Written) 
   pub lined : w.lines ≡ bounded (length out)
 
 -- where the first rounds have led, with the text of their lines
-abbrev pub IsLeg : Inputs → Options → Leg → Written → (text : List ℕ) → Type 0
-IsLeg i o (legs.Going core) w text = HasBegun i o core w text
-IsLeg i o (legs.Over finish) w text = HasRunOut i o finish w text
+abbrev pub AreFirstRounds : Inputs → Options → FirstRounds → Written → (text : List ℕ) → Type 0
+AreFirstRounds i o (legs.Going core) w text = HasBegun i o core w text
+AreFirstRounds i o (legs.Over finish) w text = HasRunOut i o finish w text
 
 -- The writer got the first bytes of the trace, of whole lines.
 pub record WritesFront (given : Given) (o : Options) (old new : Option (List ℕ)) : Type 0 where

@@ -11,20 +11,20 @@ use Rattle.fb_trace.specs.declared.marks.MarkedText.{MarkedText}
 use Rattle.fb_resource.specs.declared.resource.WindowDone.{WindowDone}
 use Rattle.fb_window.specs.Jobs.{Does, JobModel}
 use Rattle.fb_window.specs.Texts.{IsTextOf}
-use Rattle.fb_sim.specs.declared.marked.FinalTexts.{FinalTexts}
-use Rattle.fb_sim.specs.declared.work.Dones.{Dones}
-use Rattle.fb_sim.specs.declared.work.TextedDone.{TextedDone}
+use Rattle.fb_sim.specs.declared.rounds.job_texts.FinalTexts.{FinalTexts}
+use Rattle.fb_sim.specs.declared.rounds.workers.RoundDone.{RoundDone}
+use Rattle.fb_sim.specs.declared.rounds.workers.JobDone.{JobDone}
 
 -- If there is a text, it is that of the lines that a job gave.
 abbrev pub HasText : Inputs → WindowDone → Option MarkedText → Type 0
 HasText i d t = IfSome t (λ m. IsTextOf i m.form d m)
 
 -- The job is done, and so is its text if there is one.
-abbrev pub DoesWithText : JobModel → TextedDone → Type 0
+abbrev pub DoesWithText : JobModel → JobDone → Type 0
 DoesWithText j d = Does j d.done × HasText j.inputs d.done d.text
 
 -- All jobs are done, and so are their texts if there are any.
-pub record AreDone (jobs : List JobModel) (r : Dones) : Type 0 where
+pub record AreDone (jobs : List JobModel) (r : RoundDone) : Type 0 where
   pub done : AllZip Does jobs r.dones.items
   pub texts : (i : Inputs) → Each (λ j. j.inputs ≡ i) jobs → IfSome r.texts (λ ts. AllZip (HasText i) r.dones.items ts.items)
 
@@ -40,7 +40,7 @@ AreTextsFrom i lists ts = AllZip (λ p t. IsTextFrom i p.items t) lists ts
 abbrev pub AreTextsOf : Inputs → (lists : List (Vec Line)) → FinalTexts → Type 0
 AreTextsOf i lists t = AllZip (IsMarkedText i t.form) (map (λ p. p.items) lists) t.all.items
 
--- These texts are held, in this form.
-abbrev pub AreHeldIn : (form : Form) → (held : Option FinalTexts) → (texts : List MarkedText) → Type 0
-AreHeldIn form None ts = ⊥
-AreHeldIn form (Some t) ts = (t.form ≡ form) × (ts ≡ t.all.items)
+-- These are texts of unwritten lines, in this form.
+abbrev pub AreUnwrittenIn : (form : Form) → (unwritten : Option FinalTexts) → (texts : List MarkedText) → Type 0
+AreUnwrittenIn form None ts = ⊥
+AreUnwrittenIn form (Some t) ts = (t.form ≡ form) × (ts ≡ t.all.items)

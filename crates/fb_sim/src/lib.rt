@@ -5,20 +5,13 @@
 //! also reports the progress of a run. This crate has no rule about simulation.
 //!
 //! Read in this order: `options` and `outcome`; `reading`, the steps before a run; `serial` with `one_agenda`, a run on
-//! one thread. A run with workers: `runs` with `trial`, `drive` and `rounds`; `pace`, `progress`, `tally`, `work`,
-//! `held`, `marked`, `joining`, `printing` and `weave`. Then `simulation` and `state`; `with_progress`, a run that
-//! reports its progress.
+//! one thread. A run with workers: `runs`, `progress`, and `rounds`, whose page explains the choice between rounds, turns
+//! and one agenda. Then `simulation` and `state`; `with_progress`, a run that reports its progress.
 #![tactic(auto)]
 
-mod drive;
-mod held;
-mod joining;
-mod marked;
 mod one_agenda;
 pub mod options;
 pub mod outcome;
-pub mod pace;
-mod printing;
 pub mod progress;
 pub mod reading;
 pub mod rounds;
@@ -26,19 +19,15 @@ pub mod runs;
 pub mod serial;
 pub mod simulation;
 pub mod state;
-mod tally;
-mod trial;
-mod weave;
 pub mod with_progress;
-mod work;
 
 pub use fb_trace::Outcome;
 pub use fb_types::run::Form;
 pub use options::{Inputs, Options};
 pub use outcome::{Refusal, RunError};
-pub use pace::NoClock;
 pub use progress::Round;
 pub use reading::{discard, open};
+pub use rounds::pace::NoClock;
 pub use rounds::round;
 pub use runs::{open_core, run, run_with_clock};
 pub use serial::{check, run_serial};

@@ -12,11 +12,11 @@ ghost use Rattle.fb_sim.specs.OneAgenda.{RunsThrough};
 ghost use Rattle.fb_sim.specs.Rounds.{FailsRun, RunsOn};
 ghost use Rattle.fb_sim.specs.Serial.{AreWithin, Declares, Writes};
 
-use crate::drive::later;
 use crate::options::Options;
 use crate::outcome::RunError;
-use crate::pace::{AgendaTrial, Pace, Verdict};
+use crate::rounds::all_rounds::with_written;
 use crate::rounds::hand_out;
+use crate::rounds::pace::{AgendaTrial, Pace, Verdict};
 use crate::runs::close;
 use fb_sim_machine::{Machine, Pause};
 use fb_system::System;
@@ -52,7 +52,7 @@ fn run_through<W: Write>(
         let pause = machine.go_on(system, options.horizon, options.steps, MANY_LINES)?;
         match hand_out(out, system, options.form, machine.lines()) {
             Ok(bytes) => written = written.saturating_add(bytes),
-            Err(error) => return Err(later(written, error)),
+            Err(error) => return Err(with_written(written, error)),
         }
         match pause {
             Pause::Lines => machine.clear_lines(),

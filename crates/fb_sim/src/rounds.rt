@@ -1,9 +1,26 @@
-//! One round: each resource runs to its bound, the messages are exchanged, and the lines that have become final are
-//! written.
+//! Runs with several workers: rounds, and the choice between rounds, turns and one agenda.
 //!
-//! `round` is the round that callers make themselves. A run and a simulation that is advanced use `round_with_counts`:
-//! turns of single resources before the window, a cap and a number of workers that depend on the round before, and no
-//! board with one worker. Both write the same lines.
+//! One round: each resource runs to its bound, the messages are exchanged, and the lines that have become final are
+//! written. `round` is the round that callers make themselves. A run, and a simulation that is advanced, use
+//! `round_with_counts`, which writes the same lines. It differs in four choices, all for speed. No contract depends on
+//! them, and no byte of the trace does.
+//!
+//! 1. **Rounds or one agenda** (`first_rounds`, `pace`). A run times its first rounds, for some milliseconds. Their text
+//!    waits in memory. Then it runs one agenda of all resources from the opening, and writes nothing. If that is quicker,
+//!    the whole run is made so (`crate::one_agenda`); otherwise the text is written, and `all_rounds` goes on.
+//! 2. **Turns before a round** (`tally`). After a light round, of fewer than two busy resources or few lines, the next
+//!    one has one worker, and up to 256 turns are made before it. A turn lets one resource take its events of the least
+//!    tick, and costs no look at the others but at when their next events are.
+//! 3. **Longer or shorter windows** (`tally`). A window is at most 1,024 ticks, and fewer if earlier windows gave more
+//!    lines than a processor's cache holds.
+//! 4. **Who makes the text** (`unwritten_lines`). Lines that have become final in a round are written in the next one,
+//!    so that their text is made while workers run jobs. There are three ways. Each worker makes the text of its job, with
+//!    a mark at each tick (`job_texts`), and `join_texts` joins these. Or several threads make the text of all lines, each a
+//!    part (`make_text`), from lists that stay where they are (`merge_text`). Or few lines are merged and written by one
+//!    thread.
+//!
+//! Read in this order: `workers`, who runs jobs; `tally`; `unwritten_lines` with `merge_text`, `make_text`, `job_texts`
+//! and `join_texts`; this file; `all_rounds`; `first_rounds` with `pace`.
 
 ghost use Rattle.std.specs.Global.{Vec};
 ghost use Rattle.std.specs.Prelude.{◌≡◌, ◌≤◌, List, None, map, length, vec_len, if◌then◌else◌, All, IfOk, IfErr, IfSome};
@@ -20,19 +37,30 @@ ghost use Rattle.fb_window.specs.Reached.{KeepHorizon};
 ghost use Rattle.fb_window.specs.Settling.{IsMerged, settled_of};
 ghost use Rattle.fb_sim.specs.Serial.{AreWithin};
 ghost use Rattle.fb_sim.specs.Rounds as spec;
-ghost use Rattle.fb_sim.specs.Rounds.{RoundsWithCounts, HasCome, HoldsTo, IsHeldOf, IsHomeAgain, IsOnItsWay, Rounds, WritesPartOf, lines_out};
+ghost use Rattle.fb_sim.specs.Rounds.{RoundsWithCounts, HasCome, HoldsTo, AreUnwrittenOf, IsHomeAgain, IsOnItsWay, Rounds, WritesPartOf, lines_out};
 ghost use Rattle.fb_sim.specs.Texts.{AreDone};
-ghost use Rattle.fb_sim.specs.Weaving.{IsWovenText, all_bytes};
+ghost use Rattle.fb_sim.specs.MergedText.{IsMergedText, all_bytes};
 ghost use Rattle.fb_sim.specs.declared.outcome.RunError.TheVariants.{Memory};
 
-use crate::held::{Held, Standing};
-use crate::marked::final_texts;
+pub(crate) mod all_rounds;
+pub(crate) mod first_rounds;
+mod job_texts;
+mod join_texts;
+mod make_text;
+mod merge_text;
+pub mod pace;
+pub(crate) mod tally;
+mod unwritten_lines;
+pub(crate) mod workers;
+
 use crate::options::Options;
 use crate::outcome::RunError;
-use crate::printing::write_texts;
 use crate::progress::Round;
-use crate::tally::{LONGEST_WINDOW, RoundPlan, Tally};
-use crate::work::{BareWindows, Dones, Hands, apart};
+use crate::rounds::job_texts::final_texts;
+use crate::rounds::make_text::write_texts;
+use crate::rounds::tally::{LONGEST_WINDOW, RoundPlan, Tally};
+use crate::rounds::unwritten_lines::{RoundState, UnwrittenLines};
+use crate::rounds::workers::{Jobs, RoundDone, Workers, apart};
 use fb_phase::{Gate, run_all};
 use fb_resource::WindowDone;
 use fb_system::System;
@@ -101,8 +129,8 @@ fn run_jobs<R: Threads + Wait + Sync, P: Gate>(
     alloc: Global,
     jobs: Vec<Job>,
     workers: usize,
-    hands: &Hands<'_, P>,
-) -> Result<Dones, RunError>
+    pool: &Workers<'_, P>,
+) -> Result<RoundDone, RunError>
     requires few_jobs { vec_len jobs ≤ 256 }
     requires some { 1 ≤ workers }
     requires few { workers ≤ 64 }
@@ -110,10 +138,10 @@ fn run_jobs<R: Threads + Wait + Sync, P: Gate>(
     ensures memory { IfErr result (λ e. e ≡ Memory) }
 {
     if workers == 1 {
-        let dones = run_here(rt, alloc, jobs, hands.gate)?;
-        return Ok(Dones { dones, texts: None });
+        let dones = run_here(rt, alloc, jobs, pool.gate)?;
+        return Ok(RoundDone { dones, texts: None });
     }
-    let all = hands.run(rt, alloc, jobs, workers)?;
+    let all = pool.run(rt, alloc, jobs, workers)?;
     Ok(apart(alloc, all)?)
 }
 
@@ -122,16 +150,16 @@ const LONG_TEXT: usize = 8192;
 
 /// How many threads make the text of lines while a crew of this many workers runs jobs. With four workers one thread
 /// would mostly take longer for it than the others for the jobs, but not where it only joins the texts of jobs.
-fn text_threads(workers: usize, held: &Held) -> usize
+fn text_threads(workers: usize, unwritten: &UnwrittenLines) -> usize
     ensures { 1 ≤ result }
 {
-    if held.has_text() || held.count() < LONG_TEXT {
+    if unwritten.has_text() || unwritten.count() < LONG_TEXT {
         return 1;
     }
     (workers / 2).max(1)
 }
 
-/// Runs all jobs, of which this many are busy, and makes the text of lines if some are held. Where there is a crew, this
+/// Runs all jobs, of which this many are busy, and makes the text of lines if some are unwritten. Where there is a crew, this
 /// thread makes the text while the others run jobs, and then takes its share of those that are left. Threads that help
 /// it with the text take the place of as many of the crew, which come late. Without a crew as many threads as workers
 /// make it afterwards.
@@ -142,39 +170,39 @@ fn run_round<R: Threads + Wait + Sync, P: Gate>(
     options: Options,
     jobs: Vec<Job>,
     busy: usize,
-    held: Option<Held>,
-    hands: &Hands<'_, P>,
-) -> Result<(Vec<Vec<u8>>, Dones), RunError>
+    unwritten: Option<UnwrittenLines>,
+    pool: &Workers<'_, P>,
+) -> Result<(Vec<Vec<u8>>, RoundDone), RunError>
     requires options { AreWithin options }
     requires few_jobs { vec_len jobs ≤ 256 }
-    requires held { IfSome held (IsHeldOf system.now) }
-    ensures text { IfOk result (λ r. IfSome held (λ h. IsWovenText system.now options.form (map (λ p. p.items) h.lists.items) (all_bytes r.0.items))) }
+    requires unwritten { IfSome unwritten (AreUnwrittenOf system.now) }
+    ensures text { IfOk result (λ r. IfSome unwritten (λ h. IsMergedText system.now options.form (map (λ p. p.items) h.lists.items) (all_bytes r.0.items))) }
     ensures done { IfOk result (λ r. AreDone jobs.items r.1) }
     ensures memory { IfErr result (λ e. e ≡ Memory) }
 {
-    let Some(held) = held else {
+    let Some(unwritten) = unwritten else {
         let seats = workers_for(busy, options.workers);
-        let dones = run_jobs(rt, alloc, jobs, seats, hands)?;
+        let dones = run_jobs(rt, alloc, jobs, seats, pool)?;
         return Ok((Vec::new(alloc), dones));
     };
     let form = options.form;
     let workers = options.workers as usize;
-    let Some(crew) = hands.crew else {
+    let Some(crew) = pool.crew else {
         let seats = workers_for(busy, options.workers);
-        let dones = run_jobs(rt, alloc, jobs, seats, hands)?;
-        let texts = held.text(rt, alloc, system, form, workers)?;
+        let dones = run_jobs(rt, alloc, jobs, seats, pool)?;
+        let texts = unwritten.text(rt, alloc, system, form, workers)?;
         return Ok((texts, dones));
     };
-    let threads = text_threads(workers, &held);
+    let threads = text_threads(workers, &unwritten);
     let seats = workers_for(busy.saturating_add(1), options.workers);
     let late = (threads - 1).saturating_sub(workers.saturating_sub(seats));
     let mut phase = crew.begin(rt, alloc, jobs, seats, late)?;
-    let texts = held.text(rt, alloc, system, form, threads);
+    let texts = unwritten.text(rt, alloc, system, form, threads);
     crew.call_late(rt, alloc, &mut phase);
     // To drop many lines takes a while: the workers do it.
-    hands.work.leave(rt, held.into_lists());
+    pool.work.leave(rt, unwritten.into_lists());
     // Also where there is no memory for the text, the phase is finished.
-    let all = crew.finish(rt, alloc, hands.work, phase, hands.gate)?;
+    let all = crew.finish(rt, alloc, pool.work, phase, pool.gate)?;
     Ok((texts?, apart(alloc, all)?))
 }
 
@@ -184,7 +212,7 @@ struct WindowResult {
     /// How far the run is.
     reach: Reach,
     /// The lines that have become final.
-    finals: Held,
+    finals: UnwrittenLines,
     /// How many resources had something to do.
     busy: usize,
     /// How many lines they gave.
@@ -193,9 +221,9 @@ struct WindowResult {
 
 impl WindowResult {
     /// What a round gives that has written this many bytes, of this many lines.
-    fn after(self, bytes: u128, final_lines: u128) -> (Round, Held, Tally)
+    fn after(self, bytes: u128, final_lines: u128) -> (Round, UnwrittenLines, Tally)
         ensures round { (all : Vec Line) → result.0 ≡ spec.round_of (settled_of self.reach all) }
-        ensures held { result.1 ≡ self.finals }
+        ensures unwritten { result.1 ≡ self.finals }
         ensures bytes { result.2.bytes ≡ bytes }
         ensures lines { result.2.final_lines ≡ final_lines }
     {
@@ -227,25 +255,25 @@ fn only_if<T: Drop>(is_used: bool, value: Option<T>) -> Option<T>
 }
 
 /// Runs each resource to its bound, with the workers, and puts all back together. A bound is at most this many ticks
-/// past the least event. Meanwhile it makes the text of lines, in parts, if some are held.
+/// past the least event. Meanwhile it makes the text of lines, in parts, if some are unwritten.
 fn window<R: Threads + Wait + Sync, P: Gate>(
     rt: &R,
     alloc: Global,
     system: &System,
     core: Core,
-    held: Option<Held>,
+    unwritten: Option<UnwrittenLines>,
     plan: RoundPlan,
-    hands: &Hands<'_, P>,
+    pool: &Workers<'_, P>,
 ) -> Result<(Vec<Vec<u8>>, WindowResult), RunError>
     requires options { AreWithin plan.options }
     requires ticks { 1 ≤ plan.ticks }
     requires come { (ls : List model.Line) × IsOnItsWay system.now plan.options.steps plan.options.horizon core ls }
-    requires held { IfSome held (IsHeldOf system.now) }
-    ensures text { IfOk result (λ r. IfSome held (λ h. IsWovenText system.now plan.options.form (map (λ p. p.items) h.lists.items) (all_bytes r.0.items))) }
+    requires unwritten { IfSome unwritten (AreUnwrittenOf system.now) }
+    ensures text { IfOk result (λ r. IfSome unwritten (λ h. IsMergedText system.now plan.options.form (map (λ p. p.items) h.lists.items) (all_bytes r.0.items))) }
     ensures home { (ls : List model.Line) (way : IsOnItsWay system.now plan.options.steps plan.options.horizon core ls)
         → IfOk result (λ r. (all : Vec Line) → IsMerged r.1.finals.lists.items all.items
         → IsHomeAgain system.now plan.options.steps plan.options.horizon (core_of system.now plan.options.steps way.steps) ls (settled_of r.1.reach all)) }
-    ensures held { IfOk result (λ r. IsHeldOf system.now r.1.finals) }
+    ensures unwritten { IfOk result (λ r. AreUnwrittenOf system.now r.1.finals) }
     ensures memory { IfErr result (λ e. e ≡ Memory) }
 {
     system.facts();
@@ -254,14 +282,14 @@ fn window<R: Threads + Wait + Sync, P: Gate>(
     let (away, jobs) = core.jobs(alloc, system, bounds)?;
     let busy = busy_in(jobs.as_slice());
     // The text of lines that come after others which were kept would be of no use.
-    hands.work.set_text(away.keeps_nothing());
-    let (texts, done) = run_round(rt, alloc, system, options, jobs, busy, held, hands)?;
-    let Dones { dones, texts: made } = done;
+    pool.work.set_text(away.keeps_nothing());
+    let (texts, done) = run_round(rt, alloc, system, options, jobs, busy, unwritten, pool)?;
+    let RoundDone { dones, texts: made } = done;
     let lines = lines_in(dones.as_slice());
     let made = only_if(away.keeps_nothing(), made);
     let (reach, finals) = away.settle_apart(alloc, system, dones)?;
     let made = final_texts(alloc, system, options.form, &finals, made)?;
-    let finals = Held::of(finals, made)?;
+    let finals = UnwrittenLines::of(finals, made)?;
     let result = WindowResult {
         reach,
         finals,
@@ -301,37 +329,37 @@ pub(crate) fn hand_out<W: Write>(
     }
 }
 
-/// A round of a run, as planned, with what it has done. It writes the lines that the round before held, and holds those
-/// that have become final in it. Where many are held, their text is made while workers run its window. No byte is written
-/// before its window has ended, and no memory is allocated from the first byte to the last.
+/// A round of a run, as planned, with what it has done. It writes the lines that the round before left unwritten, and
+/// leaves those that have become final in it. The text of many lines is made while workers run its window. No byte is
+/// written before its window has ended, and no memory is allocated from the first byte to the last.
 pub(crate) fn round_with_counts<R: Threads + Wait + Sync, W: Write, P: Gate>(
     rt: &R,
     alloc: Global,
     system: &System,
-    standing: Standing,
+    round_state: RoundState,
     plan: RoundPlan,
     out: &mut W,
-    hands: &Hands<'_, P>,
-) -> Result<(Round, Held, Tally), RunError>
+    pool: &Workers<'_, P>,
+) -> Result<(Round, UnwrittenLines, Tally), RunError>
     requires options { AreWithin plan.options }
     requires ticks { 1 ≤ plan.ticks }
-    requires holds { (ws : List model.Line) × HoldsTo system.now plan.options.steps plan.options.horizon standing.core standing.held ws }
-    ensures { (ws : List model.Line) (holds : HoldsTo system.now plan.options.steps plan.options.horizon standing.core standing.held ws)
-        → RoundsWithCounts system.now plan.options standing.core standing.held ws holds (W.contents out.old) (W.contents out.new) result }
+    requires holds { (ws : List model.Line) × HoldsTo system.now plan.options.steps plan.options.horizon round_state.core round_state.unwritten ws }
+    ensures { (ws : List model.Line) (holds : HoldsTo system.now plan.options.steps plan.options.horizon round_state.core round_state.unwritten ws)
+        → RoundsWithCounts system.now plan.options round_state.core round_state.unwritten ws holds (W.contents out.old) (W.contents out.new) result }
 {
     system.facts();
-    let Standing { core, held } = standing;
+    let RoundState { core, unwritten } = round_state;
     let options = plan.options;
     // What becomes final in the turns of single resources is handed out after the next window.
     let core = core.walk(alloc, system, options.horizon, plan.turns)?;
-    if held.is_shared(options.workers) {
-        let lines = held.count();
-        let (texts, result) = window(rt, alloc, system, core, Some(held), plan, hands)?;
+    if unwritten.is_shared(options.workers) {
+        let lines = unwritten.count();
+        let (texts, result) = window(rt, alloc, system, core, Some(unwritten), plan, pool)?;
         let bytes = write_texts(out, texts.as_slice())?;
         return Ok(result.after(bytes, lines as u128));
     }
-    let (_, result) = window(rt, alloc, system, core, None, plan, hands)?;
-    let (bytes, lines) = held.hand_out(alloc, system, options.form, out)?;
+    let (_, result) = window(rt, alloc, system, core, None, plan, pool)?;
+    let (bytes, lines) = unwritten.hand_out(alloc, system, options.form, out)?;
     Ok(result.after(bytes, lines))
 }
 
@@ -366,7 +394,7 @@ pub fn round<R: Threads + Wait + Sync, W: Write, P: Gate>(
     let bounds = core.bounds(options.horizon, LONGEST_WINDOW);
     let (away, jobs) = core.jobs(alloc, system, bounds)?;
     let workers = options.workers as usize;
-    let dones = run_all(rt, alloc, &BareWindows, jobs, workers, gate)?;
+    let dones = run_all(rt, alloc, &Jobs, jobs, workers, gate)?;
     let settled = away.settle(alloc, system, dones)?;
     let (round, lines) = parted(settled);
     hand_out(out, system, options.form, &lines)?;

@@ -9,14 +9,14 @@ ghost use Rattle.fb_sim.specs.Given.{Given};
 ghost use Rattle.fb_sim.specs.Serial.{AreWithin, Declares, Writes};
 ghost use Rattle.fb_sim.specs.Rounds.{FailsRun, HasCome, IsShort};
 
-use crate::drive::outcome_of;
 use crate::one_agenda::{is_quicker, run_one_agenda};
 use crate::options::{Inputs, Options};
 use crate::outcome::RunError;
-use crate::pace::{NoClock, threads_for};
 use crate::reading::open;
-use crate::trial::{reserve_text, run_first, run_rest};
-use crate::work::{Hands, Windows, workers_on};
+use crate::rounds::all_rounds::outcome_of;
+use crate::rounds::first_rounds::{reserve_text, run_first, run_rest};
+use crate::rounds::pace::{NoClock, threads_for};
+use crate::rounds::workers::{TextJobs, Workers, workers_on};
 use fb_phase::{Crew, Gate};
 use fb_resource::Resource;
 use fb_system::System;
@@ -73,29 +73,41 @@ fn run_rounds<R: Threads + Wait + Sync, W: Write, P: Gate, C: Clock + CpuClock>(
     system: &System,
     options: Options,
     out: &mut W,
-    hands: &Hands<'_, P>,
+    pool: &Workers<'_, P>,
     clock: &C,
 ) -> Result<Outcome, RunError>
     requires { AreWithin options }
     ensures trace { (given : Given) → Declares given system.now → IfOk result (λ o. Writes given options (W.contents out.old) (W.contents out.new) (ending_of o)) }
     ensures failed { (given : Given) → Declares given system.now → IfErr result (FailsRun given options (W.contents out.old) (W.contents out.new)) }
 {
-    let workers = workers_on(hands.threads, options.workers);
+    let workers = workers_on(pool.threads, options.workers);
     let fewer = Options { workers, ..options };
     let core = open_core(alloc, system, options.steps)?;
     let mut text = Vec::new(alloc);
     reserve_text(&mut text);
-    let (leg, begun, pace) = run_first(rt, alloc, system, core, fewer, &mut text, hands, clock)?;
+    let (first_rounds, begun, pace) = run_first(
+        rt, alloc, system, core, fewer, &mut text, pool, clock,
+    )?;
     if let Some(pace) = pace {
         // Where one agenda is quicker than the first rounds, it runs from the opening.
         if is_quicker(alloc, system, options, pace, clock)? {
             // Neither the resources nor the text are needed any more: the run makes its own.
-            drop(leg);
+            drop(first_rounds);
             drop(text);
             return run_one_agenda(alloc, system, options, out);
         }
     }
-    let (finish, written) = run_rest(rt, alloc, system, leg, begun, text, fewer, out, hands)?;
+    let (finish, written) = run_rest(
+        rt,
+        alloc,
+        system,
+        first_rounds,
+        begun,
+        text,
+        fewer,
+        out,
+        pool,
+    )?;
     let end = outcome_of(finish, options.horizon);
     close(out, system, end, written.bytes)?;
     Ok(end)
@@ -118,8 +130,8 @@ fn run_workers<R: Threads + Wait + Sync, W: Write, P: Gate, C: Clock + CpuClock>
     let threads = threads_for(rt, options.workers);
     let others = (threads - 1) as usize;
     let crew = Crew::new(alloc);
-    let work = Windows::new(alloc, options.form);
-    let hands = Hands::living(gate, &work, &crew, threads);
+    let work = TextJobs::new(alloc, options.form);
+    let pool = Workers::living(gate, &work, &crew, threads);
     // The first closure gets a thread. If none can be started, it is called last, and ends at once.
     let (_, ended) = join_mut(
         rt,
@@ -128,7 +140,7 @@ fn run_workers<R: Threads + Wait + Sync, W: Write, P: Gate, C: Clock + CpuClock>
             requires { AreWithin options }
             ensures { (given : Given) → Declares given system.entry.now → IfOk result (λ o. Writes given options (W.contents out.entry.now) (W.contents out.exit.now) (ending_of o)) × IfErr result (FailsRun given options (W.contents out.entry.now) (W.contents out.exit.now)) }
         {
-            let ended = run_rounds(rt, alloc, system, options, out, &hands, clock);
+            let ended = run_rounds(rt, alloc, system, options, out, &pool, clock);
             crew.dismiss();
             ended
         },

@@ -5,14 +5,14 @@ ghost use Rattle.fb_sim.specs.Advances.{Advances, Finishes, IsOpened, FailsToOpe
 ghost use Rattle.fb_sim.specs.Sessions.{IsAhead};
 ghost use Rattle.fb_sim.specs.declared.state.Stage.TheVariants as going;
 
-use crate::drive::{Finish, run_on};
 use crate::options::{Inputs, Options};
 use crate::outcome::RunError;
 use crate::reading::open;
+use crate::rounds::all_rounds::{Finish, run_on};
+use crate::rounds::tally::Written;
+use crate::rounds::workers::{TextJobs, Workers};
 use crate::runs::{close, open_core};
 use crate::state::{SessionState, Stage};
-use crate::tally::Written;
-use crate::work::{Hands, Windows};
 use fb_phase::Gate;
 use fb_system::System;
 use fb_trace::Outcome;
@@ -157,9 +157,9 @@ impl Simulation {
             workers: self.workers,
             form: self.form,
         };
-        let work = Windows::new(self.alloc, self.form);
-        let hands = Hands::started(gate, &work);
-        let (finish, written) = run_on(rt, self.alloc, &self.system, core, options, out, &hands)?;
+        let work = TextJobs::new(self.alloc, self.form);
+        let pool = Workers::started(gate, &work);
+        let (finish, written) = run_on(rt, self.alloc, &self.system, core, options, out, &pool)?;
         match finish {
             Finish::AtEnd(core) => {
                 self.to = to;

@@ -9,11 +9,11 @@ ghost use Rattle.fb_trace.specs.Progress.{bounded};
 ghost use Rattle.fb_sim.specs.declared.state.Stage.TheVariants as going;
 ghost use Rattle.fb_sim.specs.Reports.{AreReports, Came, Comes, Ends, GoesOn, HasReported, Hears, hundredth, report_text, session};
 
-use crate::drive::later;
 use crate::options::{Inputs, Options};
 use crate::outcome::RunError;
+use crate::rounds::all_rounds::with_written;
+use crate::rounds::tally::Written;
 use crate::simulation::Simulation;
-use crate::tally::Written;
 use fb_phase::OpenGate;
 use fb_trace::{Outcome, write_front};
 use std::alloc::{AllocError, Global};
@@ -70,7 +70,7 @@ fn go_on<R: Threads + Wait + Sync, W: Write>(
             *tally = tally.with(written);
             Ok(outcome)
         }
-        Err(error) => Err(later(tally.bytes, error)),
+        Err(error) => Err(with_written(tally.bytes, error)),
     }
 }
 
@@ -193,7 +193,7 @@ fn go_through<R: Threads + Wait + Sync, W: Write, E: Write>(
                 is_heard,
             },
             Err(error) => ReportedRun {
-                end: Err(later(tally.bytes, error)),
+                end: Err(with_written(tally.bytes, error)),
                 is_heard,
             },
         },

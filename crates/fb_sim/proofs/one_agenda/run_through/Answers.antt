@@ -52,7 +52,7 @@ returns-in-Err-clause-failed g c =
     let new = g.W.Write.contents c.hand_out.new.out in
     let good : AreGood i = record { accepted = c.facts.ensures.accepted; limits = c.facts.ensures.limits } in
     let inv = c.loop-pause.invariant in
-    rw c.later.ensures
+    rw c.with_written.ensures
     (gone_short i o c.loop-pause.machine c.go_on.new.self old mid c.loop-pause.written inv.gone inv.none good new c.in_ok-pause.pause
     (c.in_ok-pause.ensures.pauses inv.gone.at inv.gone.is) c.in-Err.error (rw c.lines.ensures at c.in-Err.ensures.part))
 

@@ -6,74 +6,74 @@ use Rattle.fb_laws.specs.Finality.{core_of}
 use Rattle.fb_laws.specs.Sound.{AreGood}
 use Rattle.fb_trace.specs.Progress.{bounded}
 use Rattle.fb_sim.specs.Rounds.{WritesPartOf}
-use Rattle.fb_sim.specs.Weaving.{all_bytes}
+use Rattle.fb_sim.specs.MergedText.{all_bytes}
 use Rattle.fb_sim.specs.declared.outcome.RunError.TheVariants.{Memory}
 use Rattle.fb_sim.proofs.HandedOut.{part_by_text, whole_by_text}
 use Rattle.fb_sim.proofs.Texts.{merged_list}
-use Rattle.fb_sim.proofs.WindowIs.{held_failed, held_out_of_memory, held_passed, held_whole, home_since, walk_keeps, walked_on}
+use Rattle.fb_sim.proofs.WindowIs.{held_failed, unwritten_out_of_memory, held_passed, unwritten_whole, home_since, walk_keeps, walked_on}
 use Rattle.fb_sim.proofs.rounds.round_with_counts.Goals as goal
 
 pub walk-requires-clause-system : goal.walk-requires-clause-system
 walk-requires-clause-system g c =
     let h = c.requires.holds.1 in
-    let all = merged_list c.args.alloc c.args.standing.held.lists.items c.args.standing.held.count h.of.few h.of.counted in
+    let all = merged_list c.args.alloc c.args.round_state.unwritten.lists.items c.args.round_state.unwritten.count h.of.few h.of.counted in
     sym (h.come all.0 all.1).of.inputs
 
 pub walk-requires-clause-clocks : goal.walk-requires-clause-clocks
 walk-requires-clause-clocks g c =
     let o = c.args.plan.options in
     let h = c.requires.holds.1 in
-    let all = merged_list c.args.alloc c.args.standing.held.lists.items c.args.standing.held.count h.of.few h.of.counted in
-    walk_keeps c.args.system.now o.steps o.horizon c.args.standing.core _ (h.come all.0 all.1) (record { accepted = c.facts.ensures.accepted; limits = c.facts.ensures.limits })
+    let all = merged_list c.args.alloc c.args.round_state.unwritten.lists.items c.args.round_state.unwritten.count h.of.few h.of.counted in
+    walk_keeps c.args.system.now o.steps o.horizon c.args.round_state.core _ (h.come all.0 all.1) (record { accepted = c.facts.ensures.accepted; limits = c.facts.ensures.limits })
 
 pub window-requires-clause-come : goal.window-requires-clause-come
 window-requires-clause-come g c κs w =
     let h = c.requires.holds.1 in
-    let all = merged_list c.args.alloc c.args.standing.held.lists.items c.args.standing.held.count h.of.few h.of.counted in
+    let all = merged_list c.args.alloc c.args.round_state.unwritten.lists.items c.args.round_state.unwritten.count h.of.few h.of.counted in
     let o = c.args.plan.options in
     let on = c.in_ok-core.ensures in
-    let walked = walked_on c.args.system.now o.steps o.horizon c.args.standing.core _ (h.come all.0 all.1) c.args.plan.turns _ on.system on.steps on.pending on.walks in
+    let walked = walked_on c.args.system.now o.steps o.horizon c.args.round_state.core _ (h.come all.0 all.1) c.args.plan.turns _ on.system on.steps on.pending on.walks in
     (_, walked.way)
 
 pub window-requires-2-clause-come : goal.window-requires-2-clause-come
 window-requires-2-clause-come g c κs w =
     let h = c.requires.holds.1 in
-    let all = merged_list c.args.alloc c.args.standing.held.lists.items c.args.standing.held.count h.of.few h.of.counted in
+    let all = merged_list c.args.alloc c.args.round_state.unwritten.lists.items c.args.round_state.unwritten.count h.of.few h.of.counted in
     let o = c.args.plan.options in
     let on = c.in_ok-core.ensures in
-    let walked = walked_on c.args.system.now o.steps o.horizon c.args.standing.core _ (h.come all.0 all.1) c.args.plan.turns _ on.system on.steps on.pending on.walks in
+    let walked = walked_on c.args.system.now o.steps o.horizon c.args.round_state.core _ (h.come all.0 all.1) c.args.plan.turns _ on.system on.steps on.pending on.walks in
     (_, walked.way)
 
 pub returns-in_err-core : goal.returns-in_err-core
 returns-in_err-core g c ls h =
     let o = c.args.plan.options in
-    let s = c.args.standing in
+    let s = c.args.round_state in
     let old = g.W.Write.contents c.args.out.now in
-    held_passed c.args.system.now o s.core s.held ls h old old _ Memory c.from_residual.ensures.1 (held_out_of_memory c.args.system.now o s.core s.held ls h old old Memory refl refl)
+    held_passed c.args.system.now o s.core s.unwritten ls h old old _ Memory c.from_residual.ensures.1 (unwritten_out_of_memory c.args.system.now o s.core s.unwritten ls h old old Memory refl refl)
 
 pub returns-in_err-texts : goal.returns-in_err-texts
 returns-in_err-texts g c ls h =
     let o = c.args.plan.options in
-    let s = c.args.standing in
+    let s = c.args.round_state in
     let old = g.W.Write.contents c.args.out.now in
     let e = c.in_err-texts.field-0.0 in
-    held_passed c.args.system.now o s.core s.held ls h old old _ e c.from_residual-in_err-texts.ensures.1 (held_out_of_memory c.args.system.now o s.core s.held ls h old old e c.in_err-texts.ensures.memory refl)
+    held_passed c.args.system.now o s.core s.unwritten ls h old old _ e c.from_residual-in_err-texts.ensures.1 (unwritten_out_of_memory c.args.system.now o s.core s.unwritten ls h old old e c.in_err-texts.ensures.memory refl)
 
 pub returns-in_err-bytes : goal.returns-in_err-bytes
 returns-in_err-bytes g c ls h =
     let i = c.args.system.now in
     let o = c.args.plan.options in
-    let s = c.args.standing in
+    let s = c.args.round_state in
     let old = g.W.Write.contents c.args.out.now in
     let new = g.W.Write.contents c.write_texts.new.out in
     let e = c.in_err-bytes.field-0.0 in
     let good : AreGood i = record { accepted = c.facts.ensures.accepted; limits = c.facts.ensures.limits } in
     let text = all_bytes c.in_ok-texts.texts.items in
     let same : all_bytes c.as_slice.result.now ≡ text = ap all_bytes c.as_slice.ensures.value in
-    held_passed i o s.core s.held ls h old new _ e c.from_residual-in_err-bytes.ensures.1
-    (held_failed i o s.core s.held ls h old new good e
+    held_passed i o s.core s.unwritten ls h old new _ e c.from_residual-in_err-bytes.ensures.1
+    (held_failed i o s.core s.unwritten ls h old new good e
     (inr
-    (part_by_text i o.form s.held.lists.items old new c.args.alloc s.held.count text c.in_ok-texts.ensures.text h.of.few h.of.counted e
+    (part_by_text i o.form s.unwritten.lists.items old new c.args.alloc s.unwritten.count text c.in_ok-texts.ensures.text h.of.few h.of.counted e
     (subst (λ (t : List ℕ). WritesPartOf old new t e) same c.in_err-bytes.ensures.part))))
 
 -- the text was made beside the window
@@ -81,52 +81,52 @@ pub returns-then-is_shared : goal.returns-then-is_shared
 returns-then-is_shared g c ls h =
     let i = c.args.system.now in
     let o = c.args.plan.options in
-    let s = c.args.standing in
+    let s = c.args.round_state in
     let old = g.W.Write.contents c.args.out.now in
     let new = g.W.Write.contents c.write_texts.new.out in
     let text = all_bytes c.in_ok-texts.texts.items in
     let same : all_bytes c.as_slice.result.now ≡ text = ap all_bytes c.as_slice.ensures.value in
     let whole = c.in_ok-bytes.ensures.whole in
     let bytes = c.in_ok-bytes.bytes in
-    let hands =
-    whole_by_text i o.form s.held.lists.items old new c.args.alloc s.held.count text c.in_ok-texts.ensures.text h.of.few h.of.counted bytes
+    let pool =
+    whole_by_text i o.form s.unwritten.lists.items old new c.args.alloc s.unwritten.count text c.in_ok-texts.ensures.text h.of.few h.of.counted bytes
     (subst (λ (t : List ℕ). Appends old new t) same whole.0) (subst (λ (t : List ℕ). bytes ≡ bounded (length t)) same whole.1) in
-    held_whole i o s.core s.held ls h old new c.in_ok-texts.result.reach c.in_ok-texts.result.finals bytes s.held.count c.after.result c.after.ensures.round c.after.ensures.held c.after.ensures.bytes
+    unwritten_whole i o s.core s.unwritten ls h old new c.in_ok-texts.result.reach c.in_ok-texts.result.finals bytes s.unwritten.count c.after.result c.after.ensures.round c.after.ensures.unwritten c.after.ensures.bytes
     (c.after.ensures.lines ∙ c.count-lines.ensures)
     (λ ks come all merged.
     let on = c.in_ok-core.ensures in
     let walked = walked_on i o.steps o.horizon s.core ks come c.args.plan.turns _ on.system on.steps on.pending on.walks in
-    home_since i o.steps o.horizon (core_of i o.steps come.steps) ks _ walked _ (c.in_ok-texts.ensures.home ks walked.way all merged)) c.in_ok-texts.ensures.held hands
+    home_since i o.steps o.horizon (core_of i o.steps come.steps) ks _ walked _ (c.in_ok-texts.ensures.home ks walked.way all merged)) c.in_ok-texts.ensures.unwritten pool
 
 pub returns-in_err-result : goal.returns-in_err-result
 returns-in_err-result g c ls h =
     let o = c.args.plan.options in
-    let s = c.args.standing in
+    let s = c.args.round_state in
     let old = g.W.Write.contents c.args.out.now in
     let e = c.in_err-result.field-0.0 in
-    held_passed c.args.system.now o s.core s.held ls h old old _ e c.from_residual-in_err-result.ensures.1 (held_out_of_memory c.args.system.now o s.core s.held ls h old old e c.in_err-result.ensures.memory refl)
+    held_passed c.args.system.now o s.core s.unwritten ls h old old _ e c.from_residual-in_err-result.ensures.1 (unwritten_out_of_memory c.args.system.now o s.core s.unwritten ls h old old e c.in_err-result.ensures.memory refl)
 
 pub returns-in_err-bytes-2 : goal.returns-in_err-bytes-2
 returns-in_err-bytes-2 g c ls h =
     let i = c.args.system.now in
     let o = c.args.plan.options in
-    let s = c.args.standing in
+    let s = c.args.round_state in
     let old = g.W.Write.contents c.args.out.now in
     let new = g.W.Write.contents c.hand_out.new.out in
     let e = c.in_err-bytes-2.field-0.0 in
     let good : AreGood i = record { accepted = c.facts.ensures.accepted; limits = c.facts.ensures.limits } in
-    held_passed i o s.core s.held ls h old new _ e c.from_residual-in_err-bytes-2.ensures.1 (held_failed i o s.core s.held ls h old new good e c.in_err-bytes-2.ensures.failed)
+    held_passed i o s.core s.unwritten ls h old new _ e c.from_residual-in_err-bytes-2.ensures.1 (held_failed i o s.core s.unwritten ls h old new good e c.in_err-bytes-2.ensures.failed)
 
 pub returns : goal.returns
 returns g c ls h =
     let i = c.args.system.now in
     let o = c.args.plan.options in
-    let s = c.args.standing in
+    let s = c.args.round_state in
     let old = g.W.Write.contents c.args.out.now in
     let new = g.W.Write.contents c.hand_out.new.out in
-    held_whole i o s.core s.held ls h old new c.in_ok-result.result.reach c.in_ok-result.result.finals c.in_ok-bytes-2.bytes c.in_ok-bytes-2.lines c.after-2.result c.after-2.ensures.round c.after-2.ensures.held c.after-2.ensures.bytes
+    unwritten_whole i o s.core s.unwritten ls h old new c.in_ok-result.result.reach c.in_ok-result.result.finals c.in_ok-bytes-2.bytes c.in_ok-bytes-2.lines c.after-2.result c.after-2.ensures.round c.after-2.ensures.unwritten c.after-2.ensures.bytes
     c.after-2.ensures.lines
     (λ ks come all merged.
     let on = c.in_ok-core.ensures in
     let walked = walked_on i o.steps o.horizon s.core ks come c.args.plan.turns _ on.system on.steps on.pending on.walks in
-    home_since i o.steps o.horizon (core_of i o.steps come.steps) ks _ walked _ (c.in_ok-result.ensures.home ks walked.way all merged)) c.in_ok-result.ensures.held c.in_ok-bytes-2.ensures.whole
+    home_since i o.steps o.horizon (core_of i o.steps come.steps) ks _ walked _ (c.in_ok-result.ensures.home ks walked.way all merged)) c.in_ok-result.ensures.unwritten c.in_ok-bytes-2.ensures.whole

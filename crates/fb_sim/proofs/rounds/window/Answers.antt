@@ -12,7 +12,7 @@ use Rattle.fb_window.specs.Reached.{KeepHorizon}
 use Rattle.fb_window.specs.Reaching.{OfEachCore}
 use Rattle.fb_window.specs.Settling.{IsMerged}
 use Rattle.fb_sim.specs.Texts.{AreTextsFrom, AreTextsOf}
-use Rattle.fb_sim.specs.declared.marked.FinalTexts.{FinalTexts}
+use Rattle.fb_sim.specs.declared.rounds.job_texts.FinalTexts.{FinalTexts}
 use Rattle.fb_sim.proofs.TextsAre.{jobs_are_of, texts_if_used}
 use Rattle.fb_sim.proofs.WindowIs.{are_done, is_home, keep}
 use Rattle.fb_sim.proofs.rounds.window.Goals as goal
@@ -73,8 +73,8 @@ returns-clause-home g c ls h =
     (record { accepted = c.facts.ensures.accepted; limits = c.facts.ensures.limits }) (kept.2 ∙ c.bounds-bounds.ensures.horizon) c.bounds-bounds.ensures.legal _ c.bounds-bounds.ensures.bounds
     (c.in_ok-reach.ensures.settles all (subst (λ (v : Vec (Vec Line)). IsMerged v.items all.items) c.in_ok-finals.ensures.lists m))
 
-pub returns-clause-held : goal.returns-clause-held
-returns-clause-held g c =
+pub returns-clause-unwritten : goal.returns-clause-unwritten
+returns-clause-unwritten g c =
     let i = c.args.system.now in
     let inputs : c.args.system.now ≡ c.in_ok-away.away.system = sym (c.in_ok-away.ensures.kept.0 ∙ c.requires.come.1.of.inputs) in
     let same = c.in_ok-finals.ensures.lists in

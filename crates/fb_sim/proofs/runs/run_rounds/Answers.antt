@@ -41,13 +41,13 @@ run_rest-requires-clause-options g c κs w =
       workers_most = omega arith;
     }
 
-pub returns-in_err-leg-clause-failed : goal.returns-in_err-leg-clause-failed
-returns-in_err-leg-clause-failed g c given is =
+pub returns-in_err-first_rounds-clause-failed : goal.returns-in_err-first_rounds-clause-failed
+returns-in_err-first_rounds-clause-failed g c given is =
     let o = c.args.options in
     let old = g.W.Write.contents c.args.out.now in
-    let e = c.in_err-leg.field-0.0 in
-    err_is (FailsRun given o old old) c.from_residual-in_err-leg.result e c.from_residual-in_err-leg.ensures.1
-    (subst (λ (f : RunError). FailsRun given o old old f) (sym c.in_err-leg.ensures.memory) (fails_wanting given o c.requires old))
+    let e = c.in_err-first_rounds.field-0.0 in
+    err_is (FailsRun given o old old) c.from_residual-in_err-first_rounds.result e c.from_residual-in_err-first_rounds.ensures.1
+    (subst (λ (f : RunError). FailsRun given o old old f) (sym c.in_err-first_rounds.ensures.memory) (fails_wanting given o c.requires old))
 
 pub returns-in_err-is_quicker-clause-failed : goal.returns-in_err-is_quicker-clause-failed
 returns-in_err-is_quicker-clause-failed g c given is =

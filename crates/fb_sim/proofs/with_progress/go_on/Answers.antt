@@ -16,4 +16,4 @@ returns-in-Err g c =
     let old = g.W.Write.contents c.args.out.now in
     let new = g.W.Write.contents c.go_on.new.out in
     let n = c.args.tally.now in
-    subst (λ (e : RunError). GoesOn s t c.args.to old new n n (Err e)) (sym c.later.ensures) (goes_short s t c.args.to old new n n c.in-Err.error c.in-Err.ensures refl)
+    subst (λ (e : RunError). GoesOn s t c.args.to old new n n (Err e)) (sym c.with_written.ensures) (goes_short s t c.args.to old new n n c.in-Err.error c.in-Err.ensures refl)

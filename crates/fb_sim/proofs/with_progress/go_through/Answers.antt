@@ -43,7 +43,7 @@ returns-in-Err-finish-clause-ends g c =
     let quiet = g.E.Write.contents c.args.err.now in
     let err = g.E.Write.contents c.go_far-end.new.err in
     let comes : Comes i o t first mid quiet err 100 m (Ok c.in-Ok.field-0) = subst (λ (r : Result Outcome RunError). Comes i o t first mid quiet err 100 m r) c.in-Ok.is c.go_far-end.ensures in
-    subst (λ (e : RunError). Fails i o first new e) (sym c.later.ensures) (ends_short i o t first mid quiet err m c.in-Ok.field-0 comes new c.in-Err-finish.error c.in-Err-finish.ensures)
+    subst (λ (e : RunError). Fails i o first new e) (sym c.with_written.ensures) (ends_short i o t first mid quiet err m c.in-Ok.field-0 comes new c.in-Err-finish.error c.in-Err-finish.ensures)
 
 pub returns-in-Err-finish-clause-reported : goal.returns-in-Err-finish-clause-reported
 returns-in-Err-finish-clause-reported g c =
@@ -57,4 +57,4 @@ returns-in-Err-finish-clause-reported g c =
     let err = g.E.Write.contents c.go_far-end.new.err in
     let comes : Comes i o t first mid quiet err 100 m (Ok c.in-Ok.field-0) = subst (λ (r : Result Outcome RunError). Comes i o t first mid quiet err 100 m r) c.in-Ok.is c.go_far-end.ensures in
     let new = g.W.Write.contents c.finish.new.out in
-    subst (λ (e : RunError). HasReported i o first new quiet err m.is_heard (Err e)) (sym c.later.ensures) (reports_short i o t first mid quiet err m c.in-Ok.field-0 comes new c.in-Err-finish.error c.in-Err-finish.ensures)
+    subst (λ (e : RunError). HasReported i o first new quiet err m.is_heard (Err e)) (sym c.with_written.ensures) (reports_short i o t first mid quiet err m c.in-Ok.field-0 comes new c.in-Err-finish.error c.in-Err-finish.ensures)

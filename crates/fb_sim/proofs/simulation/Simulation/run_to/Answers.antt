@@ -2,8 +2,8 @@ use Rattle.std.proofs.Common.{Ok, sym, subst}
 use Rattle.fb_sim.specs.Advances.{RunsTo}
 use Rattle.fb_sim.specs.Rounds.{RunsOn}
 use Rattle.fb_sim.specs.Sessions.{IsAtTick, stage_of}
-use Rattle.fb_sim.specs.declared.drive.Finish.{Finish}
-use Rattle.fb_sim.specs.declared.drive.Finish.TheVariants.{AtEnd, AtMark}
+use Rattle.fb_sim.specs.declared.rounds.all_rounds.Finish.{Finish}
+use Rattle.fb_sim.specs.declared.rounds.all_rounds.Finish.TheVariants.{AtEnd, AtMark}
 use Rattle.fb_trace.specs.declared.last.Outcome.TheVariants.{End, Stop}
 use Rattle.fb_sim.specs.declared.state.Stage.TheVariants as going
 use Rattle.fb_sim.specs.declared.state.SessionState.{SessionState}

@@ -1,6 +1,0 @@
-use Rattle.std.proofs.Common.{◌≡◌, ◌<◌, ◌^◌, ◌-◌, length, take}
-use Rattle.fb_trace.specs.Merging.{flat}
-use Rattle.fb_sim.proofs.held.count_in.Given as goal
-
-abbrev pub invariant-loop-list : goal.invariant-loop-list
-invariant-loop-list l = l.count < 2 ^ 64 - 1 → l.count ≡ length (flat (take l.list-index l.lists))

@@ -1,4 +1,0 @@
-use Rattle.fb_sim.proofs.joining.joined_text.Goals as goal
-
-pub returns : goal.returns
-returns c = λ i form lists h. c.in_ok-join_all.ensures i form lists h (c.in_ok-rests.ensures i form lists h)

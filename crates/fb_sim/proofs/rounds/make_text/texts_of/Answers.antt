@@ -1,0 +1,18 @@
+use Rattle.std.proofs.Common.{All, Bor, List, IfOk, rules, subst, map, ap, ◌∙◌}
+use Rattle.fb_types.specs.Headline.{system_of}
+use Rattle.fb_types.specs.declared.run.Line.{Line}
+use Rattle.fb_system.specs.Lines.{BelongsTo}
+use Rattle.fb_sim.specs.MergedText.{IsMergedText, all_bytes}
+use Rattle.fb_sim.proofs.MergedText.{slices_each}
+use Rattle.fb_sim.proofs.rounds.make_text.texts_of.Goals as goal
+
+pub texts_by-requires : goal.texts_by-requires
+texts_by-requires g c =
+    let belong : All (λ q. All (BelongsTo (system_of c.args.system.now)) q.now) c.as_slice.result.now =
+    slices_each (BelongsTo (system_of c.args.system.now)) c.as_slice.result.now c.args.lists.now (ap (map (λ (q : Bor (List Line)). q.now)) c.as_slice.ensures.value ∙ c.in_ok-whole.ensures) c.requires in
+    search (rules, belong)
+
+pub returns : goal.returns
+returns g c =
+    subst (λ (lists : List (List Line)). IfOk c.texts_by.result (λ v. IsMergedText c.args.system.now c.args.form lists (all_bytes v.items)))
+    (ap (map (λ (q : Bor (List Line)). q.now)) c.as_slice.ensures.value ∙ c.in_ok-whole.ensures) c.texts_by.ensures

@@ -1,0 +1,11 @@
+use Rattle.std.proofs.Common.{◌≡◌, length, take}
+use Rattle.std.specs.Io.KnownBytes.{Appends}
+use Rattle.fb_trace.specs.Progress.{bounded}
+use Rattle.fb_sim.specs.MergedText.{all_bytes}
+use Rattle.fb_sim.proofs.rounds.make_text.write_texts.Given as goal
+
+abbrev pub invariant-loop-text : goal.invariant-loop-text
+invariant-loop-text g l = record {
+  got : Appends (g.W.Write.contents l.initial.out) (g.W.Write.contents l.out) (all_bytes (take l.text-index l.texts));
+  counted : l.written ≡ bounded (length (all_bytes (take l.text-index l.texts)));
+}
