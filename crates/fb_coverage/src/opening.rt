@@ -69,8 +69,7 @@ pub(crate) fn port_table(alloc: Global, system: &System, side: Side) -> Result<T
     ensures { IfOk result (λ table. table.rows ≡ port_rows system.now side) }
 {
     let mut table = Table::new(alloc);
-    // for the prover: what holds of every accepted system
-    system.facts();
+    system.facts(); // for the prover: what holds of every accepted system
     for instance in 0..system.count() {
         table.push(port_row(alloc, system, side, instance as u32)?)?;
     }

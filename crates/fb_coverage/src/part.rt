@@ -66,8 +66,7 @@ pub(crate) fn basic_of(system: &System, instance: u32) -> Option<&BasicType>
 pub(crate) fn is_used(system: &System, name: &Name) -> bool
     ensures { result ≡ is_used system.now name.now }
 {
-    // for the prover: what holds of every accepted system
-    system.facts();
+    system.facts(); // for the prover: what holds of every accepted system
     for instance in 0..system.count() {
         let Some(basic) = basic_of(system, instance as u32) else {
             continue;

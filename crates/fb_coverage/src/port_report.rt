@@ -55,8 +55,7 @@ pub(crate) fn put_instances(
 ) -> Result<(), AllocError>
     ensures { OnOk result (text.new.items ≡ text.old.items ++ instances_text system.now marks.now) }
 {
-    // for the prover: what holds of every accepted system
-    system.facts();
+    system.facts(); // for the prover: what holds of every accepted system
     for instance in 0..system.count() {
         let number = instance as u32;
         if basic_of(system, number).is_some() {

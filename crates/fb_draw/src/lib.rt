@@ -15,5 +15,5 @@ pub mod graph;
 mod network;
 mod resource;
 
-pub use graph::draw;
 pub use fb_text::type_words;
+pub use graph::draw;

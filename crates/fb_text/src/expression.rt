@@ -41,11 +41,7 @@ fn binary_text(operator: BinaryOperator) -> &'static [u8]
 
 /// Adds an expression. It is as it was written, but for blanks, letter case and the forms of literals.
 #[cycle(expression)]
-pub fn put_expression(
-    alloc: Global,
-    text: &mut Vec<u8>,
-    expr: &Expr,
-) -> Result<(), AllocError>
+pub fn put_expression(alloc: Global, text: &mut Vec<u8>, expr: &Expr) -> Result<(), AllocError>
     ensures { OnOk result (text.new.items ≡ text.old.items ++ spec.expression_text expr.now) }
 {
     match expr {

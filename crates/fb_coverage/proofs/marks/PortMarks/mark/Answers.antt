@@ -1,6 +1,5 @@
 use Rattle.std.proofs.Common.{Bool, sym, ◌∙◌, ap}
 use Rattle.fb_coverage.specs.Sets as spec
-use Rattle.fb_coverage.specs.declared.marks.PortMarks.{PortMarks}
 use Rattle.fb_coverage.specs.declared.table.Table.{Table}
 use Rattle.fb_coverage.proofs.marks.PortMarks.mark.Goals as goal
 
