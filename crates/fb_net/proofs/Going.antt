@@ -16,7 +16,7 @@ use Rattle.fb_system.specs.declared.next_target.NextTarget.{NextTarget}
 use Rattle.fb_types.specs.declared.run.Carried.{Carried}
 use Rattle.fb_types.specs.declared.value.Value.{Value}
 use Rattle.fb_system.specs.Ports.{AreTogether, IsCarried, IsTarget, link_of}
-use Rattle.fb_net.specs.Emitting.{GoesTo, PutsOut, message_to, others, out_at, out_to}
+use Rattle.fb_net.specs.Emitting.{GoesTo, PutsOut, message_to, out_at, out_to}
 use Rattle.fb_net.specs.Outs.{IsOut, out_of}
 use Rattle.fb_net.specs.declared.outbox.Out.{Out}
 use Rattle.fb_net.specs.declared.outbox.Out.TheVariants.{Local}
@@ -143,37 +143,3 @@ pub all_gone :
 all_gone sys r carried targets before index outs o gone leads is =
     let none : slice_get targets index ≡ None = sym leads ∙ ap (leads_to sys) is in
     last_gone sys r carried targets before index outs gone (following targets index none)
-
--- ---- The first target, and the others
-
--- where nothing goes
-pub none_to_go :
-    (sys : System) (r : ℕ) (carried : List (Port × Value)) (targets : List Port) (outs : List Out) (o : Option NextTarget)
-    → leads_to sys o ≡ slice_get targets 0 → o ≡ None → map (out_of sys) outs ≡ map (out_of sys) outs ++ spread sys r carried targets
-none_to_go sys r carried [] outs o leads is = sym (append-nil (map (out_of sys) outs))
-none_to_go sys r carried (q ∷ qs) outs o leads is = let none : None ≡ Some q = sym (ap (leads_to sys) is) ∙ leads in absurd (cc)
-
--- what is after the first
-pub others-at : (targets : List Port) (index : ℕ) → slice_get targets (index + 1) ≡ slice_get (others targets) index
-others-at [] index = refl
-others-at (q ∷ qs) index = let next : index + 1 ≡ suc index = omega arith in ap (slice_get (q ∷ qs)) next
-
-pub others-short : (targets : List Port) (n : ℕ) → length targets ≤ n + 1 → length (others targets) ≤ n
-others-short [] n few = omega arith
-others-short (q ∷ qs) n few = omega arith
-
-first_and_others : (targets : List Port) → 1 ≤ length targets → take 1 targets ++ others targets ≡ targets
-first_and_others [] some = absurd (omega arith)
-first_and_others (q ∷ qs) some = refl
-
--- The first target has it, and then the others have.
-pub others_gone :
-    (sys : System) (r : ℕ) (carried : List (Port × Value)) (targets : List Port) (before outs new : List Out)
-    → HaveGone sys r carried targets before 1 outs → map (out_of sys) new ≡ map (out_of sys) outs ++ spread sys r carried (others targets)
-    → map (out_of sys) new ≡ map (out_of sys) before ++ spread sys r carried targets
-others_gone sys r carried targets before outs new gone sent =
-    sent
-    ∙ ap (λ (os : List reactions.Out). os ++ spread sys r carried (others targets)) gone.sent
-    ∙ append_assoc (map (out_of sys) before) (spread sys r carried (take 1 targets)) (spread sys r carried (others targets))
-    ∙ ap (λ (os : List reactions.Out). map (out_of sys) before ++ os)
-    (sym (spread-append sys r carried (take 1 targets) (others targets)) ∙ ap (spread sys r carried) (first_and_others targets gone.within))

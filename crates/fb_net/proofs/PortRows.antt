@@ -1,9 +1,10 @@
 -- What the rows of event ports say, where a step of taking an event needs it.
-use Rattle.std.proofs.Common.{◌≡◌, ℕ, Bool, true, false, cond, List, [], ◌∷◌, length, refl, sym, subst, ap, ◌∙◌, arith}
+use Rattle.std.proofs.Common.{◌≡◌, ◌≢◌, ℕ, Bool, true, false, cond, List, [], ◌∷◌, length, refl, sym, subst, ap, ◌∙◌, arith}
 use Rattle.std.specs.Prelude.{◌↔◌, IsTrue, Option, Some, slice_get}
-use Rattle.fb_types.specs.Blocks.{Basic, Composite}
+use Rattle.fb_types.specs.Blocks.{Basic, Composite, Event}
 use Rattle.fb_types.specs.Numbers.{event_input, event_output, path_at, port_of, ports_at}
 use Rattle.fb_types.specs.Systems.{System}
+use Rattle.fb_types.specs.declared.event_kind.EventKind.{EventKind}
 use Rattle.fb_types.specs.declared.library.BasicType.{BasicType}
 use Rattle.fb_types.specs.declared.library.CompositeType.{CompositeType}
 use Rattle.fb_types.specs.declared.run.InstanceVariable.{InstanceVariable}
@@ -11,8 +12,8 @@ use Rattle.fb_types.specs.declared.run.Target.{Target}
 use Rattle.fb_types.specs.declared.value.Value.{Value}
 use Rattle.fb_system.specs.Ends.{IsSourceOf, LeadsTo}
 use Rattle.fb_system.specs.IndexLists.{AreIndexes}
-use Rattle.fb_system.specs.Ports.{AreTogether, IsTarget}
-use Rattle.fb_system.specs.PortRows.{IsOneWith, IsWith, names_of, variables_of}
+use Rattle.fb_system.specs.Ports.{AreTogether, IsCompositeAt, IsTarget}
+use Rattle.fb_system.specs.PortRows.{IsOneWith, IsWith, names_of, port_names, port_variables, variables_of}
 use Rattle.fb_system.specs.declared.next_target.NextTarget.{NextTarget}
 use Rattle.fb_system.specs.declared.port_row.With.{With}
 use Rattle.fb_system.specs.declared.port_row.With.TheVariants.{Nothing, One}
@@ -35,16 +36,26 @@ path-of_port sys at = go at.is_output
     go true = refl
     go false = refl
 
--- an event goes to a basic block at an event input
-pub basic_input : (sys : System) (at : Target) (t : BasicType) → IsTarget sys at → sys.kind (path_at sys at.instance) ≡ Some (Basic t) → at.is_output ≡ false
-basic_input sys at t target is = go at.is_output refl
+-- an event goes to a leaf at an event input
+leaf_input : (sys : System) (at : Target) → IsTarget sys at → ((c : CompositeType) → sys.kind (path_at sys at.instance) ≢ Some (Composite c)) → at.is_output ≡ false
+leaf_input sys at target leaf = go at.is_output refl
   where
-    differ : (c : CompositeType) → Some (Basic t) ≡ Some (Composite c) → ⊥
-    differ c e = cc
-
     go : (b : Bool) → at.is_output ≡ b → at.is_output ≡ false
     go false e = e
-    go true e = (let composite = target.composite e in absurd (differ composite.0 (sym is ∙ composite.1)))
+    go true e = (let composite = target.composite e in absurd (leaf composite.0 composite.1))
+
+pub basic_input : (sys : System) (at : Target) (t : BasicType) → IsTarget sys at → sys.kind (path_at sys at.instance) ≡ Some (Basic t) → at.is_output ≡ false
+basic_input sys at t target is = leaf_input sys at target (λ c composite. (let both : Some (Basic t) ≡ Some (Composite c) = sym is ∙ composite in cc))
+
+pub event_block_input : (sys : System) (at : Target) (kind : EventKind) → IsTarget sys at → sys.kind (path_at sys at.instance) ≡ Some (Event kind) → at.is_output ≡ false
+event_block_input sys at kind target is = leaf_input sys at target (λ c composite. (let both : Some (Event kind) ≡ Some (Composite c) = sym is ∙ composite in cc))
+
+-- a composite is no basic block, and neither is an event block
+pub composite-no_basic : (sys : System) (k : ℕ) → IsCompositeAt sys k → (b : BasicType) → sys.kind (path_at sys k) ≢ Some (Basic b)
+composite-no_basic sys k composite b is = let both : Some (Basic b) ≡ Some (Composite composite.0) = sym is ∙ composite.1 in absurd (cc)
+
+pub event-no_basic : (sys : System) (k : ℕ) (kind : EventKind) → sys.kind (path_at sys k) ≡ Some (Event kind) → (b : BasicType) → sys.kind (path_at sys k) ≢ Some (Basic b)
+event-no_basic sys k kind event b is = let both : Some (Basic b) ≡ Some (Event kind) = sym is ∙ event in absurd (cc)
 
 -- ---- A part of a row that is known
 
@@ -54,8 +65,8 @@ none_with sys at w e h = subst (λ (x : With). IsWith sys at x) e h
 pub one_with : (sys : System) (at : Target) (w : With) (v : ℕ) (s : Option Source) → w ≡ One v s → IsWith sys at w → IsOneWith sys at v s
 one_with sys at w v s e h = subst (λ (x : With). IsWith sys at x) e h
 
-pub leads_to : (sys : System) (from : Target) (o : Option NextTarget) (r : NextTarget) → LeadsTo sys from 0 o → o ≡ Some r → LeadsTo sys from 0 (Some r)
-leads_to sys from o r h e = subst (λ (x : Option NextTarget). LeadsTo sys from 0 x) e h
+pub leads_to : (sys : System) (from : Target) (index : ℕ) (o : Option NextTarget) (r : NextTarget) → LeadsTo sys from index o → o ≡ Some r → LeadsTo sys from index (Some r)
+leads_to sys from index o r h e = subst (λ (x : Option NextTarget). LeadsTo sys from index x) e h
 
 pub source_of : (sys : System) (to : InstanceVariable) (o p : Option Source) → IsSourceOf sys to o → o ≡ p → IsSourceOf sys to p
 source_of sys to o p h e = subst (λ (x : Option Source). IsSourceOf sys to x) e h
@@ -66,15 +77,11 @@ near sys r a b here together lies = (λ on. together.0 on ∙ lies, λ e. togeth
 
 -- ---- The variables WITH an event input
 
-pub none_in : (sys : System) (at : Target) → at.is_output ≡ false → IsWith sys at Nothing → AreIndexes (ports_at sys (path_at sys at.instance)).inputs (names_in sys at) []
-none_in sys at input h =
-    let its = ports_at sys (path_at sys at.instance) in subst (λ (b : Bool). AreIndexes (variables_of its b) (names_of its b at.event) []) input h
-
-pub one_in :
-    (sys : System) (at : Target) (v : ℕ) (s : Option Source) → at.is_output ≡ false → IsOneWith sys at v s
-    → AreIndexes (ports_at sys (path_at sys at.instance)).inputs (names_in sys at) (v ∷ [])
-one_in sys at v s input h =
-    let its = ports_at sys (path_at sys at.instance) in subst (λ (b : Bool). AreIndexes (variables_of its b) (names_of its b at.event) (v ∷ [])) input h.indexes
+pub indexes_in :
+    (sys : System) (at : Target) (indexes : List ℕ) → at.is_output ≡ false → AreIndexes (port_variables sys at) (port_names sys at) indexes
+    → AreIndexes (ports_at sys (path_at sys at.instance)).inputs (names_in sys at) indexes
+indexes_in sys at indexes input h =
+    let its = ports_at sys (path_at sys at.instance) in subst (λ (b : Bool). AreIndexes (variables_of its b) (names_of its b at.event) indexes) input h
 
 pub source_in :
     (sys : System) (at : Target) (v : ℕ) (s : Option Source) → at.is_output ≡ false → IsOneWith sys at v s
@@ -83,22 +90,16 @@ source_in sys at v s input h = subst (λ (b : Bool). IsSourceOf sys (record { in
 
 -- ---- The variables WITH an event output
 
-pub one_out :
-    (sys : System) (at : Target) (v : ℕ) (s : Option Source) → at.is_output ≡ true → IsOneWith sys at v s
-    → AreIndexes (ports_at sys (path_at sys at.instance)).outputs (names_out sys at) (v ∷ [])
-one_out sys at v s output h =
-    let its = ports_at sys (path_at sys at.instance) in subst (λ (b : Bool). AreIndexes (variables_of its b) (names_of its b at.event) (v ∷ [])) output h.indexes
+pub indexes_out :
+    (sys : System) (at : Target) (indexes : List ℕ) → at.is_output ≡ true → AreIndexes (port_variables sys at) (port_names sys at) indexes
+    → AreIndexes (ports_at sys (path_at sys at.instance)).outputs (names_out sys at) indexes
+indexes_out sys at indexes output h =
+    let its = ports_at sys (path_at sys at.instance) in subst (λ (b : Bool). AreIndexes (variables_of its b) (names_of its b at.event) indexes) output h
 
 pub source_out :
     (sys : System) (at : Target) (v : ℕ) (s : Option Source) → at.is_output ≡ true → IsOneWith sys at v s
     → IsSourceOf sys (record { instance = at.instance; variable = v; is_output = true }) s
 source_out sys at v s output h = subst (λ (b : Bool). IsSourceOf sys (record { instance = at.instance; variable = v; is_output = b }) s) output h.comes
-
--- where an event output leads
-pub leads_out :
-    (sys : System) (at : Target) (o : Option NextTarget) → at.is_output ≡ true → LeadsTo sys at 0 o
-    → LeadsTo sys (record { instance = at.instance; event = at.event; is_output = true }) 0 o
-leads_out sys at o output h = subst (λ (b : Bool). LeadsTo sys (record { instance = at.instance; event = at.event; is_output = b }) 0 o) output h
 
 -- the value that is alone
 pub only_value : (vs : List Value) (v : Value) → length vs ≡ 1 → Some v ≡ slice_get vs 0 → vs ≡ v ∷ []

@@ -54,14 +54,17 @@ read_all vs names of_name n indexes values values_read past stand w h lies =
     ∙ map-twice (of_name w) (variable_at vs) indexes
     ∙ ap (map (of_name w)) stand.named
 
--- one variable WITH the event
-pub one-shown : (i : Inputs) (f : Forest) (at : Target) (indexes : List ℕ) (value : Value) (values : List Value)
-    → AreIndexes (ports_at (system_of i) (path_at (system_of i) at.instance)).outputs (names_out (system_of i) at) indexes → length indexes ≡ 1
-    → ((w : World) → IsForest i f w → InForest i f at.instance → value ≡ shown_at i f at.instance w (get_or indexes 0 0))
+-- no variable WITH the event, and one
+pub none-shown : (i : Inputs) (f : Forest) (at : Target) (values : List Value)
+    → AreIndexes (ports_at (system_of i) (path_at (system_of i) at.instance)).outputs (names_out (system_of i) at) [] → values ≡ [] → AreShown i f at values
+none-shown i f at values stand empty w h lies =
+    empty ∙ ap (map (from_inside (system_of i) f.resource w (path_at (system_of i) at.instance))) stand.named
+
+pub one-shown : (i : Inputs) (f : Forest) (at : Target) (index : ℕ) (value : Value) (values : List Value)
+    → AreIndexes (ports_at (system_of i) (path_at (system_of i) at.instance)).outputs (names_out (system_of i) at) (index ∷ [])
+    → ((w : World) → IsForest i f w → InForest i f at.instance → value ≡ shown_at i f at.instance w index)
     → values ≡ value ∷ [] → AreShown i f at values
-one-shown i f at [] value values stand one shown is w h lies = absurd (omega arith)
-one-shown i f at (index ∷ []) value values stand one shown is w h lies =
+one-shown i f at index value values stand shown is w h lies =
     is
     ∙ ap (λ (v : Value). v ∷ []) (shown w h lies)
     ∙ ap (map (from_inside (system_of i) f.resource w (path_at (system_of i) at.instance))) stand.named
-one-shown i f at (index ∷ other ∷ indexes) value values stand one shown is w h lies = absurd (omega arith)

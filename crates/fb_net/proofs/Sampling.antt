@@ -166,28 +166,17 @@ sampling-represents i k at old new x y values ready input here are changes writt
       timer = timer;
     })
 
--- no variables WITH the event: nothing is sampled
-pub none-sampled : (i : Inputs) (f : Forest) (at : Target) (indexes : List ℕ) (values : List Value)
-    → AreIndexes (ports_at (system_of i) (path_at (system_of i) at.instance)).inputs (names_in (system_of i) at) indexes → length indexes ≡ 0 → values ≡ []
-    → AreSampled i f at values
-none-sampled i f at [] values stand none empty w h lies =
+-- no variable WITH the event, and one
+pub none-sampled : (i : Inputs) (f : Forest) (at : Target) (values : List Value)
+    → AreIndexes (ports_at (system_of i) (path_at (system_of i) at.instance)).inputs (names_in (system_of i) at) [] → values ≡ [] → AreSampled i f at values
+none-sampled i f at values stand empty w h lies =
     empty ∙ ap (map (sample_at (system_of i) f.resource w (path_at (system_of i) at.instance))) stand.named
-none-sampled i f at (index ∷ indexes) values stand none empty w h lies = absurd (omega arith)
 
--- one variable WITH the event
-pub one-sampled : (i : Inputs) (f : Forest) (at : Target) (indexes : List ℕ) (value : Value) (values : List Value)
-    → AreIndexes (ports_at (system_of i) (path_at (system_of i) at.instance)).inputs (names_in (system_of i) at) indexes → length indexes ≡ 1
-    → ((w : World) → IsForest i f w → InForest i f at.instance → value ≡ sampled_from (system_of i) f.resource w (data_input (system_of i) at.instance (get_or indexes 0 0)))
+pub one-sampled : (i : Inputs) (f : Forest) (at : Target) (index : ℕ) (value : Value) (values : List Value)
+    → AreIndexes (ports_at (system_of i) (path_at (system_of i) at.instance)).inputs (names_in (system_of i) at) (index ∷ [])
+    → ((w : World) → IsForest i f w → InForest i f at.instance → value ≡ sampled_from (system_of i) f.resource w (data_input (system_of i) at.instance index))
     → values ≡ value ∷ [] → AreSampled i f at values
-one-sampled i f at [] value values stand one sampled is w h lies = absurd (omega arith)
-one-sampled i f at (index ∷ []) value values stand one sampled is w h lies =
+one-sampled i f at index value values stand sampled is w h lies =
     is
     ∙ ap (λ (v : Value). v ∷ []) (sampled w h lies)
     ∙ ap (map (sample_at (system_of i) f.resource w (path_at (system_of i) at.instance))) stand.named
-one-sampled i f at (index ∷ other ∷ indexes) value values stand one sampled is w h lies = absurd (omega arith)
-
--- the index that is alone
-pub one_index : (vs : List Variable) (names : List Name) (indexes : List ℕ) → length indexes ≡ 1 → AreIndexes vs names indexes → AreIndexes vs names (get_or indexes 0 0 ∷ [])
-one_index vs names [] one stand = absurd (omega arith)
-one_index vs names (index ∷ []) one stand = stand
-one_index vs names (index ∷ other ∷ indexes) one stand = absurd (omega arith)

@@ -1,29 +1,25 @@
 -- What each step of taking an event rests on, and what it leaves.
-use Rattle.std.specs.Prelude.{◌≡◌, ◌≢◌, ◌<◌, ◌≤◌, ℕ, List, Some, true, Result, Ok, Err, length, map}
-use Rattle.fb_types.specs.Blocks.{Basic, Kind}
+use Rattle.std.specs.Prelude.{◌≡◌, ◌≢◌, ◌<◌, ◌≤◌, ℕ, Bool, List, Some, true, false, Result, length, map}
+use Rattle.fb_types.specs.Blocks.{Basic, Event as EventOf, Kind}
 use Rattle.fb_types.specs.Headline.{Inputs, system_of}
 use Rattle.fb_types.specs.Numbers.{emission_of, line_of, path_at, ports_at}
 use Rattle.fb_types.specs.Reactions.{Outcome, World}
 use Rattle.fb_types.specs.Systems.{System}
+use Rattle.fb_types.specs.declared.event_kind.EventKind.{EventKind}
 use Rattle.fb_types.specs.declared.library.BasicType.{BasicType}
 use Rattle.fb_types.specs.declared.library.Ports.{Ports}
 use Rattle.fb_types.specs.declared.run.Emission.{Emission}
 use Rattle.fb_types.specs.declared.run.Event.{Event}
 use Rattle.fb_types.specs.declared.run.Halt.{Halt}
-use Rattle.fb_types.specs.declared.run.Halt.TheVariants as halt
 use Rattle.fb_types.specs.declared.run.Target.{Target}
 use Rattle.fb_types.specs.declared.value.Value.{Value}
-use Rattle.fb_laws.specs.Typed.{IsTypedEvent}
-use Rattle.fb_net.specs.Arrivals.{Arrives, ComesTo, HasReacted, IsReady, AreTypedAt, WritesAndEmits}
-use Rattle.fb_net.specs.Emitting.{EmitsSo, HasEmitted}
+use Rattle.fb_laws.specs.Typed.{IsTypedEvent, IsTypedSystem}
+use Rattle.fb_system.specs.Ports.{IsCompositeAt, IsPort}
+use Rattle.fb_net.specs.Arrivals.{Arrives, AreTypedAt, ComesTo, HasReacted, IsReady, WritesAndEmits}
+use Rattle.fb_net.specs.Emitting.{HasEmitted}
 use Rattle.fb_net.specs.Events.{HasTaken, IsEventIn, Remembered, event_of}
 use Rattle.fb_net.specs.Outs.{StillAreOuts}
-use Rattle.fb_net.specs.Samples.{names_in, names_out}
-use Rattle.fb_net.specs.declared.end.End.{End}
-use Rattle.fb_net.specs.declared.end.End.TheVariants as end
 use Rattle.fb_net.specs.declared.taking.Taking.{Taking}
-use Rattle.fb_system.specs.IndexLists.{AreIndexes}
-use Rattle.fb_system.specs.Ports.{IsPort}
 use Rattle.fb_net.specs.Worlds.{IsForest, Stands}
 use Rattle.fb_net.specs.declared.resource.Forest.{Forest}
 
@@ -40,13 +36,6 @@ HasKind t k kind = (system_in t).kind (path_at (system_in t) k) ≡ Some kind
 
 abbrev pub IsNoBasic : Taking → (instance : ℕ) → Type 0
 IsNoBasic t k = (b : BasicType) → (system_in t).kind (path_at (system_in t) k) ≢ Some (Basic b)
-
--- The variables WITH an event input, or WITH an event output, are those at these indexes.
-abbrev pub AreInputs : Taking → Target → (indexes : List ℕ) → Type 0
-AreInputs t at = AreIndexes (ports_in t at.instance).inputs (names_in (system_in t) at)
-
-abbrev pub AreOutputs : Taking → Target → (indexes : List ℕ) → Type 0
-AreOutputs t at = AreIndexes (ports_in t at.instance).outputs (names_out (system_in t) at)
 
 -- ---- Before
 
@@ -66,6 +55,32 @@ pub record MayArrive (t : Taking) (at : Target) : Type 0 where
   pub stands : Stands t.system.now t.forest.now at.instance
   pub ready : MayBegin t
 
+-- An event may be taken at an event input of an event block or a composite, which keeps what its variables sample.
+pub record MaySample (t : Taking) (at : Target) : Type 0 where
+  pub arrives : MayArrive t at
+  pub input : at.is_output ≡ false
+  pub no_basic : IsNoBasic t at.instance
+
+-- An event may be taken at an event input of an event block, where each variable holds a value of its type.
+pub record MayReact (t : Taking) (kind : EventKind) (at : Target) : Type 0 where
+  pub arrives : MayArrive t at
+  pub input : at.is_output ≡ false
+  pub of_kind : HasKind t at.instance (EventOf kind)
+  pub sound : IsTypedSystem (system_in t)
+  pub typed : AreTypedAt t.system.now t.forest.now
+
+-- An event may be taken at an event input of a basic block.
+pub record MayChart (t : Taking) (b : BasicType) (at : Target) : Type 0 where
+  pub arrives : MayArrive t at
+  pub input : at.is_output ≡ false
+  pub of_kind : HasKind t at.instance (Basic b)
+
+-- An event may be taken at a port of a composite: an event input, or an event output.
+pub record MayCross (t : Taking) (at : Target) (is_output : Bool) : Type 0 where
+  pub arrives : MayArrive t at
+  pub side : at.is_output ≡ is_output
+  pub composite : IsCompositeAt (system_in t) at.instance
+
 -- An event of the resource may be taken.
 pub record MayTake (t : Taking) (e : Event) : Type 0 where
   pub event : IsEventIn t.system.now t.forest.now.resource e
@@ -79,51 +94,47 @@ pub record MayTake (t : Taking) (e : Event) : Type 0 where
 abbrev pub ArePutOut : Taking → Taking → Type 0
 ArePutOut old new = StillAreOuts old.system.now old.forest.now old.outbox.now new.forest.now new.outbox.now
 
--- the result of a step that came to an end
-abbrev pub ended : End → Result (Unit {0}) Halt
-ended end.Done = Ok tt
-ended (end.Stop r) = Err (halt.Stop r)
-ended end.Memory = Err halt.Memory
-
--- A step has the result that the model gives it.
-abbrev pub HasDone : (World → ℕ → Outcome) → Taking → Taking → Type 0
-HasDone step old new = ComesTo old.system.now step old.forest.now old.outbox.now new.forest.now new.outbox.now
-
--- An event has arrived at a port, and this is how the reaction ended.
-abbrev pub HasArrived : Taking → Target → (left : ℕ) → Result (Unit {0}) Halt → Taking → (after : ℕ) → Type 0
-HasArrived old at left end new after =
-    HasReacted old.system.now (Arrives old.system.now old.key.now at left) old.forest.now old.outbox.now end new.forest.now after new.outbox.now
-
--- An instance has emitted, whatever was put out before.
-abbrev pub EmitsAll : Taking → (instance : ℕ) → List Emission → Taking → Type 0
-EmitsAll old k es new = EmitsSo old.system.now old.key.now k old.forest.now old.outbox.now es new.forest.now new.outbox.now
-
--- An instance has emitted, and all that was put out belongs to the system.
-abbrev pub EmitsWell : Taking → (instance : ℕ) → List Emission → Taking → Type 0
-EmitsWell old k es new = HasEmitted old.system.now old.key.now k old.forest.now old.outbox.now es new.forest.now new.outbox.now
-
--- A basic block has written the event that it took, with the values that it sampled, and what it emits.
-abbrev pub HasWritten : Taking → Target → List Value → List Emission → Taking → Type 0
-HasWritten old at values es new =
-    WritesAndEmits old.system.now old.key.now at.instance
-    (line_of (system_in old) (record { key = old.key.now; taken = true; instance = at.instance; event = at.event; values = values }))
-    (map (emission_of (ports_in old at.instance)) es) old.forest.now old.outbox.now new.forest.now new.outbox.now
-
 -- The blocks are of the same resource, and each instance has its block.
 pub record AreKept (i : Inputs) (old new : Forest) : Type 0 where
   pub resource : new.resource ≡ old.resource
   pub whole : (w : World) → IsForest i old w → (v : World) × IsForest i new v
 
--- However a step ends, also where memory runs out: the taking is of the same system and key, and lends what it lent.
+-- A taking is of the same system and key, and lends what it lent.
 pub record IsSame (old new : Taking) : Type 0 where
   pub system : new.system.now ≡ old.system.now
   pub key : new.key.now ≡ old.key.now
   pub forest : new.forest.ghost_name ≡ old.forest.ghost_name
   pub outbox : new.outbox.ghost_name ≡ old.outbox.ghost_name
 
--- The step keeps what a taking is about, and its blocks stay those of the system.
 abbrev pub IsKept : Taking → Taking → Type 0
 IsKept old new = AreKept old.system.now old.forest.now new.forest.now
+
+-- However a step ends, also where memory runs out: the taking is the same, and its blocks stay those of the system.
+pub record StaysWhole (old new : Taking) : Type 0 where
+  pub same : IsSame old new
+  pub kept : IsKept old new
+
+-- A step has the result that the model gives it.
+pub record HasDone (step : World → ℕ → Outcome) (old new : Taking) : Type 0 where
+  pub comes : ComesTo old.system.now step old.forest.now old.outbox.now new.forest.now new.outbox.now
+  pub outs : ArePutOut old new
+
+-- An event has arrived at a port, and this is how the reaction ended.
+pub record HasArrived (old : Taking) (at : Target) (left : ℕ) (end : Result (Unit {0}) Halt) (new : Taking) (after : ℕ) : Type 0 where
+  pub reacted : HasReacted old.system.now (Arrives old.system.now old.key.now at left) old.forest.now old.outbox.now end new.forest.now after new.outbox.now
+  pub outs : Remembered end (ArePutOut old new)
+  pub fewer : after ≤ left
+
+-- An instance has emitted, and all that was put out belongs to the system.
+abbrev pub EmitsWell : Taking → (instance : ℕ) → List Emission → Taking → Type 0
+EmitsWell old k es new = HasEmitted old.system.now old.key.now k old.forest.now old.outbox.now es new.forest.now new.outbox.now
+
+-- A basic block has written the event that it took, with the values that it sampled, and what it emits.
+pub record HasWritten (old : Taking) (at : Target) (values : List Value) (es : List Emission) (new : Taking) : Type 0 where
+  pub wrote : WritesAndEmits old.system.now old.key.now at.instance
+      (line_of (system_in old) (record { key = old.key.now; taken = true; instance = at.instance; event = at.event; values = values }))
+      (map (emission_of (ports_in old at.instance)) es) old.forest.now old.outbox.now new.forest.now new.outbox.now
+  pub outs : ArePutOut old new
 
 -- An event was taken: what it came to, what it puts out, and how many steps are left.
 pub record WasTaken (old : Taking) (e : Event) (left : ℕ) (end : Result (Unit {0}) Halt) (new : Taking) (after : ℕ) : Type 0 where

@@ -1,9 +1,9 @@
 //! An event that arrives at the blocks of a resource.
 
 ghost use Rattle.std.specs.Prelude.{◌≡◌};
-ghost use Rattle.fb_net.specs.Events.{key_at};
+ghost use Rattle.fb_net.specs.Events.{event_in, key_at};
 
-use fb_types::{Key, Message, Target};
+use fb_types::{Event, Key, Message, Target};
 
 /// An event of a resource, whose time has come. It has the class and the numbers of its key.
 #[derive(Clone, Copy)]
@@ -19,6 +19,22 @@ pub enum Arrival<'a> {
 }
 
 impl Arrival<'_> {
+    /// An event that waits, as it arrives. Its number is in its key.
+    #[inline(always)]
+    pub(crate) fn of(event: &Event) -> Arrival<'_>
+        ensures { event_in result ≡ event.now }
+    {
+        match event {
+            Event::Stimulus(row) => Arrival::Stimulus(*row),
+            Event::Timer(instance) => Arrival::Timer(*instance),
+            Event::Arrival(message) => Arrival::Message(message),
+            Event::Local(target) => Arrival::Local {
+                target: *target,
+                number: 0,
+            },
+        }
+    }
+
     /// The key under which the event comes at a tick, in milliseconds, in a resource.
     #[inline(always)]
     pub fn key(&self, tick: u64, resource: u32) -> Key

@@ -50,43 +50,19 @@ pub fn react_basic(
     // Also where memory runs out.
     ensures whole { (w : World) × IsForest system.now forest.new w }
 {
+    // for the prover: the inputs are accepted
     system.facts();
     let (first, below) = forest.way(system, at.instance);
     let blocks = &mut forest.blocks;
     react_at(blocks, first, below, block, at.event, values, meter, emits)
 }
 
-/// The reaction of the basic block on a way, where it is: goes down by the first index, and on by those below.
+/// The reaction of the basic block on a way: goes down by the first index, and on by those below. It calls itself for
+/// each composite.
 ///
 /// # Errors
 /// As of `react_basic`.
-#[inline(always)]
 fn react_at(
-    blocks: &mut Items<Block>,
-    first: usize,
-    below: &[u32],
-    block: &BasicType,
-    event: u32,
-    values: &[Value],
-    meter: &mut Meter,
-    emits: &mut Emits,
-) -> Result<(), Halt>
-    requires sound { IsSound block.now }
-    requires event { event < length block.now.ports.event_inputs }
-    requires ready { IsReadyAt block.now blocks.old (first ∷ below.now) }
-    ensures reacted { Changed (HasCharted block.now event values.now meter.old.left emits.old meter.new.left emits.new) blocks.old (first ∷ below.now) result blocks.new }
-    ensures fewer { meter.new.left ≤ meter.old.left }
-    ensures well_formed { let IsFit = IsWellFormed block.now in All IsFit emits.old → All IsFit emits.new }
-{
-    match below {
-        [] => react_here(blocks, first, block, event, values, meter, emits),
-        [_, ..] => react_below(blocks, first, below, block, event, values, meter, emits),
-    }
-}
-
-/// The reaction of the basic block on a way that may go down into composites. This function calls itself for each
-/// composite, so it is a call.
-fn react_below(
     blocks: &mut Items<Block>,
     first: usize,
     below: &[u32],
@@ -112,7 +88,7 @@ fn react_below(
             match slot.components_mut() {
                 Some(components) => {
                     let next = *next as usize;
-                    react_below(components, next, rest, block, event, values, meter, emits)
+                    react_at(components, next, rest, block, event, values, meter, emits)
                 }
                 None => unreachable!(),
             }
@@ -120,8 +96,7 @@ fn react_below(
     }
 }
 
-/// The reaction of the basic block at an index among `blocks`. It is inlined into both ways that lead here: `react` is a
-/// call anyway, and another one around it would only pass its arguments on.
+/// The reaction of the basic block at an index among `blocks`.
 #[inline(always)]
 fn react_here(
     blocks: &mut Items<Block>,

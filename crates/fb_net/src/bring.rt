@@ -49,6 +49,7 @@ pub(crate) fn set_slots(forest: &mut Forest, system: &System, instance: u32, set
     requires within { All (λ s. s.index < length (ports_at system.now (path_at system.now instance)).inputs) sets.now }
     ensures { Changes system.now forest.old instance (slots_set system.now instance sets.now) forest.new }
 {
+    // for the prover: the inputs are accepted
     system.facts();
     for set in sets {
         let Some(shell) = forest.shell_mut(instance) else {
@@ -58,27 +59,12 @@ pub(crate) fn set_slots(forest: &mut Forest, system: &System, instance: u32, set
     }
 }
 
-/// Puts the values that a message carries into the held copies of the resource.
-#[inline(always)]
-pub fn hold_carried(forest: &mut Forest, system: &System, values: &MessageValues)
-    requires { All (IsCarried system.now) values.now }
-    ensures { HoldsAll system.now forest.old values.now forest.new }
-{
-    // A message without values costs one comparison.
-    if values.is_empty() {
-        return;
-    }
-    hold_some(forest, system, values);
-}
-
-/// The same as `hold_carried`, where there are values.
-#[inline(never)]
-fn hold_some(forest: &mut Forest, system: &System, values: &MessageValues)
+/// Puts the values that a message carries into the held copies of the resource. One alone is in place.
+pub(crate) fn hold_carried(forest: &mut Forest, system: &System, values: &MessageValues)
     requires { All (IsCarried system.now) values.now }
     ensures { HoldsAll system.now forest.old values.now forest.new }
 {
     match values.only() {
-        // A single value, which was in place.
         Ok(item) => {
             let output = InstanceVariable {
                 instance: item.instance,
@@ -91,8 +77,7 @@ fn hold_some(forest: &mut Forest, system: &System, values: &MessageValues)
     }
 }
 
-/// The same as `hold_carried`, for the values of a list.
-#[inline(never)]
+/// Puts the values of a list into the held copies of the resource.
 fn hold_each(forest: &mut Forest, system: &System, carried: &[Carried])
     requires { All (IsCarried system.now) carried.now }
     ensures { HoldsAll system.now forest.old carried.now forest.new }

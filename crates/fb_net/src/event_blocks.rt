@@ -47,6 +47,7 @@ pub fn react_event(
     ensures whole { (w : World) × IsForest system.now forest.new w }
     ensures only_memory { IfErr result (λ halt. halt ≡ Halt.Memory) }
 {
+    // for the prover: the inputs are accepted
     system.facts();
     let (first, below) = forest.way(system, at.instance);
     let seat = forest.seat_of(at.instance);
@@ -58,36 +59,12 @@ pub fn react_event(
     react_at(blocks, first, below, at.event, tick, inputs, emits, ask)
 }
 
-/// The reaction of the event block on a way to an event: goes down by the first index, and on by those below.
+/// The reaction of the event block on a way to an event: goes down by the first index, and on by those below. It calls
+/// itself for each composite.
 ///
 /// # Errors
 /// As of `react_event`.
-#[inline(always)]
 fn react_at(
-    blocks: &mut Items<Block>,
-    first: usize,
-    below: &[u32],
-    event: u32,
-    tick: u64,
-    inputs: &[Value],
-    emits: &mut Emits,
-    ask: &mut TimerAsk,
-) -> Result<(), Halt>
-    requires early { tick ≤ 10 ^ 12 }
-    requires event { IsTypedAt inputs.now blocks.old (first ∷ below.now) }
-    requires fresh { emits.old ≡ [] }
-    ensures reacted { Changed (HasTurned (λ s. reaction_to s event tick inputs.now) ask.new emits.new) blocks.old (first ∷ below.now) result blocks.new }
-    ensures only_memory { IfErr result (λ halt. halt ≡ Halt.Memory) }
-{
-    match below {
-        // Most event blocks are in no composite.
-        [] => react_here(blocks, first, event, tick, inputs, emits, ask),
-        [_, ..] => react_below(blocks, first, below, event, tick, inputs, emits, ask),
-    }
-}
-
-/// The reaction of the event block on a way that may go down into composites. It calls itself for each composite.
-fn react_below(
     blocks: &mut Items<Block>,
     first: usize,
     below: &[u32],
@@ -112,7 +89,7 @@ fn react_below(
             match slot.components_mut() {
                 Some(components) => {
                     let next = *next as usize;
-                    react_below(components, next, rest, event, tick, inputs, emits, ask)
+                    react_at(components, next, rest, event, tick, inputs, emits, ask)
                 }
                 None => unreachable!(),
             }
@@ -175,41 +152,19 @@ pub fn expire_event(
     ensures whole { (w : World) × IsForest system.now forest.new w }
     ensures only_memory { IfErr result (λ halt. halt ≡ Halt.Memory) }
 {
+    // for the prover: the inputs are accepted
     system.facts();
     let (first, below) = forest.way(system, instance);
     let blocks = &mut forest.blocks;
     expire_at(blocks, first, below, tick, emits, ask)
 }
 
-/// The reaction of the event block on a way to its timer: goes down by the first index, and on by those below.
+/// The reaction of the event block on a way to its timer: goes down by the first index, and on by those below. It calls
+/// itself for each composite.
 ///
 /// # Errors
 /// As of `react_event`.
-#[inline(always)]
 fn expire_at(
-    blocks: &mut Items<Block>,
-    first: usize,
-    below: &[u32],
-    tick: u64,
-    emits: &mut Emits,
-    ask: &mut TimerAsk,
-) -> Result<(), Halt>
-    requires early { tick ≤ 10 ^ 12 }
-    requires event { IsEventAt blocks.old (first ∷ below.now) }
-    requires fresh { emits.old ≡ [] }
-    ensures reacted { Changed (HasTurned (λ s. expiry_of s tick) ask.new emits.new) blocks.old (first ∷ below.now) result blocks.new }
-    ensures only_memory { IfErr result (λ halt. halt ≡ Halt.Memory) }
-{
-    match below {
-        // Most event blocks are in no composite.
-        [] => expire_here(blocks, first, tick, emits, ask),
-        [_, ..] => expire_below(blocks, first, below, tick, emits, ask),
-    }
-}
-
-/// The reaction of the event block on a way to its timer, where the way may go down into composites. It calls itself for
-/// each composite.
-fn expire_below(
     blocks: &mut Items<Block>,
     first: usize,
     below: &[u32],
@@ -232,7 +187,7 @@ fn expire_below(
             match slot.components_mut() {
                 Some(components) => {
                     let next = *next as usize;
-                    expire_below(components, next, rest, tick, emits, ask)
+                    expire_at(components, next, rest, tick, emits, ask)
                 }
                 None => unreachable!(),
             }

@@ -12,9 +12,9 @@
 //! - before the first event: `Tree::build`, with `opening_charts`, `opening_blocks`, `opening_trees`, `opening_roots`,
 //!   `opening_shells`, `opening_seats` and `opening_copies`;
 //! - one event: `arrival` and `tree`; `taking`, what the steps share; `take`, by the kind of event; `arrive`, where it
-//!   arrives, and `end`, how that ends; `samples`, what an event samples and what composites show from inside; `bring`,
-//!   slots and held copies that are set; `event_blocks` and `basic_blocks`, the reactions of leaves; `outbox` and `emit`,
-//!   emissions with their lines, local events and messages. What goes out has no keys.
+//!   arrives; `samples`, what an event samples and what composites show from inside; `bring`, slots and held copies that
+//!   are set; `event_blocks` and `basic_blocks`, the reactions of leaves; `outbox` and `emit`, emissions with their lines,
+//!   local events and messages. What goes out has no keys.
 #![tactic(auto)]
 
 pub mod arrival;
@@ -23,7 +23,6 @@ mod basic_blocks;
 pub mod block;
 mod bring;
 mod emit;
-mod end;
 mod event_blocks;
 pub mod held_copies;
 pub mod laws;

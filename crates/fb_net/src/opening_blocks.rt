@@ -58,6 +58,7 @@ fn basic_of(
     ensures represents { IfOk result (λ s. let b = opening_block system.now (path_at system.now instance) in BasicRepresents block.now s b.memory b.variables) }
     ensures charts { OnOk result (AreCharts system.now charts.new) }
 {
+    // for the prover: the inputs are accepted
     system.facts();
     let chart = chart_at(alloc, block, index, charts)?;
     let mut state = BasicState::open(alloc, block, chart)?;
@@ -82,6 +83,7 @@ pub fn block_of(
     ensures components { IfOk result (λ b. (c : CompositeType) → kind_at system.now (path_at system.now instance) ≡ Some (Composite c) → components_of b ≡ components) }
     ensures charts { OnOk result (AreCharts system.now charts.new) }
 {
+    // for the prover: the inputs are accepted
     system.facts();
     match system.kind(instance) {
         TypeNumber::Event(kind) => Ok(Block::Event(EventState::new(kind))),

@@ -61,6 +61,7 @@ fn hold(
     ensures covered { OnOk result (Covers system.now resource held.new to) }
     ensures kept { OnOk result (KeepsCovers system.now resource held.old held.new) }
 {
+    // for the prover: the inputs are accepted
     system.facts();
     if let Some(source) = system.source(to) {
         if system.resource(source.instance) != resource {
@@ -109,6 +110,7 @@ pub(crate) fn held_of(
 ) -> Result<HeldCopies, AllocError>
     ensures { IfOk result (CoversAll system.now resource) }
 {
+    // for the prover: there are at most 4,096 instances
     system.facts();
     let mut held = HeldCopies::new(alloc);
     for instance in 0..system.count() as u32 {

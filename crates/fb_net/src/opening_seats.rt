@@ -20,6 +20,7 @@ pub(crate) fn seat_all(
     ensures seated { OnOk result (AreSeated system.now (instance_count system.now) forest.new) }
     ensures alone { IsSeatedAlone forest.old forest.new }
 {
+    // for the prover: there are at most 4,096 instances
     system.facts();
     for instance in 0..system.count() as u32 {
         // There are no more shells than instances, and so their number fits.

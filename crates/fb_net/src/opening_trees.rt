@@ -23,6 +23,7 @@ pub(crate) fn blocks_of(
     ensures grown { IfOk result (AreGrown system.now depth instances.now) }
     ensures charts { OnOk result (AreCharts system.now charts.new) }
 {
+    // for the prover: the inputs are accepted
     system.facts();
     let mut blocks = Items::new(alloc);
     for instance in instances {

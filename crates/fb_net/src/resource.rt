@@ -76,6 +76,7 @@ impl Forest {
         requires { IsInstance system.now instance }
         ensures { result.0 ∷ result.1.now ≡ way_in system.now self.now.roots instance }
     {
+        // for the prover: the inputs are accepted
         system.facts();
         match system.route(instance) {
             [] => unreachable!(),
@@ -110,6 +111,7 @@ impl Forest {
         requires stands { Stands system.now self.now instance }
         ensures { slice_get self.now.shells (seat_in self.now.seats instance) ≡ Some result.now }
     {
+        // for the prover: the inputs are accepted
         system.facts();
         let seat = self.seat_of(instance);
         &self.shells.as_slice()[seat]
@@ -158,6 +160,7 @@ impl Forest {
         requires whole { (w : World) × IsForest system.now self.now w }
         ensures { Shows system.now self.now source.now.variable result.now }
     {
+        // for the prover: the inputs are accepted
         system.facts();
         if !source.here {
             return self.held(&source.variable);
@@ -171,21 +174,10 @@ impl Forest {
         }
     }
 
-    /// What a data input of an instance that is in the resource samples: what its source shows, or else what a
-    /// stimulus has set.
+    /// What a data input of an instance that is in the resource samples: what its source shows, if it is connected to
+    /// one, or else what a stimulus has set.
     #[inline(always)]
-    pub(crate) fn sampled(&self, system: &System, input: InstanceVariable) -> &Value
-        requires variable { IsVariable system.now input }
-        requires input { input.is_output ≡ false }
-        requires stands { Stands system.now self.now input.instance }
-        ensures { Samples system.now self.now input result.now }
-    {
-        self.sampled_from(system, input, &system.placed_source(input))
-    }
-
-    /// The same as `sampled`, where it is known what the input is connected to, if anything.
-    #[inline(always)]
-    pub(crate) fn sampled_from(
+    pub(crate) fn sampled(
         &self,
         system: &System,
         input: InstanceVariable,
@@ -207,22 +199,10 @@ impl Forest {
         }
     }
 
-    /// What a data output of a composite that is in the resource shows from inside: what its inner source shows, or
-    /// else what it showed before.
+    /// What a data output of a composite that is in the resource shows from inside: what its inner source shows, if it
+    /// is connected to one, or else what it showed before.
     #[inline(always)]
-    pub(crate) fn shown_inside(&self, system: &System, output: InstanceVariable) -> &Value
-        requires variable { IsVariable system.now output }
-        requires output { output.is_output ≡ true }
-        requires stands { Stands system.now self.now output.instance }
-        requires composite { IsComposite system.now output }
-        ensures { ShowsInside system.now self.now output result.now }
-    {
-        self.shown_inside_from(system, output, &system.placed_source(output))
-    }
-
-    /// The same as `shown_inside`, where it is known what the output is connected to inside, if anything.
-    #[inline(always)]
-    pub(crate) fn shown_inside_from(
+    pub(crate) fn shown_inside(
         &self,
         system: &System,
         output: InstanceVariable,
@@ -250,6 +230,7 @@ impl Forest {
         requires stands { Stands system.now self.old output.instance }
         ensures { Changes system.now self.old output.instance (output_shown (variable_of system.now output).name value.now) self.new }
     {
+        // for the prover: the inputs are accepted
         system.facts();
         let Some(shell) = self.shell_mut(output.instance) else {
             unreachable!()
@@ -266,6 +247,7 @@ impl Forest {
         requires takes { TakesSamples system.now input }
         ensures { Changes system.now self.old input.instance (input_sampled (variable_of system.now input).name value) self.new }
     {
+        // for the prover: the inputs are accepted
         system.facts();
         let Some(shell) = self.shell_mut(input.instance) else {
             unreachable!()
@@ -280,6 +262,7 @@ impl Forest {
         requires { IsVariable system.now output }
         ensures { Holds system.now self.old output value self.new }
     {
+        // for the prover: the inputs are accepted
         system.facts();
         self.held.set(&output, value);
     }

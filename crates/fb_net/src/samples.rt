@@ -3,19 +3,54 @@
 ghost use Rattle.std.specs.Prelude.{◌≡◌, false, true, length, IfOk};
 ghost use Rattle.fb_types.specs.OfSystem.{path_at, ports_at};
 ghost use Rattle.fb_system.specs.IndexLists.{AreIndexes};
-ghost use Rattle.fb_system.specs.OfSystem.{IsCompositeAt, IsPort};
+ghost use Rattle.fb_system.specs.OfSystem.{IsCompositeAt, IsPort, IsWith};
 ghost use Rattle.fb_net.specs.Samples.{AreSampled, AreShown};
 ghost use Rattle.fb_net.specs.OfSystem.{names_in, names_out};
 ghost use Rattle.fb_net.specs.Worlds.{Stands};
 
 use crate::resource::Forest;
-use fb_system::System;
+use fb_system::{System, With};
 use fb_types::{InstanceVariable, Target, Values};
 use std::alloc::{AllocError, Global};
 
-/// What the data inputs WITH an event input sample, in the order in which they are declared. They are at `indexes`, and
-/// the instance is in the resource.
+/// What the data inputs WITH an event input sample, in the order in which they are declared. The instance is in the
+/// resource. One value alone takes no memory.
+#[inline(always)]
 pub(crate) fn sampled_values(
+    alloc: Global,
+    forest: &Forest,
+    system: &System,
+    at: Target,
+    with: &With,
+) -> Result<Values, AllocError>
+    requires port { IsPort system.now at }
+    requires input { at.is_output ≡ false }
+    requires stands { Stands system.now forest.now at.instance }
+    requires with { IsWith system.now at with.now }
+    ensures sampled { IfOk result (AreSampled system.now forest.now at) }
+    ensures counted { IfOk result (λ vs. length vs ≡ length (names_in system.now at)) }
+{
+    match with {
+        With::Nothing => Ok(Values::new(alloc)),
+        With::One(variable, source) => {
+            let input = InstanceVariable {
+                instance: at.instance,
+                variable: *variable,
+                is_output: false,
+            };
+            let value = *forest.sampled(system, input, source);
+            Ok(Values::one(alloc, value))
+        }
+        With::Several => {
+            let indexes = system.inputs_with(at.instance, at.event);
+            sampled_each(alloc, forest, system, at, indexes)
+        }
+    }
+}
+
+/// What any number of data inputs WITH an event input sample, which are at `indexes`.
+#[inline(never)]
+fn sampled_each(
     alloc: Global,
     forest: &Forest,
     system: &System,
@@ -29,16 +64,6 @@ pub(crate) fn sampled_values(
     ensures sampled { IfOk result (AreSampled system.now forest.now at) }
     ensures counted { IfOk result (λ vs. length vs ≡ length (names_in system.now at)) }
 {
-    // Mostly there is one value, and there is nothing to walk over.
-    if let [index] = indexes {
-        let input = InstanceVariable {
-            instance: at.instance,
-            variable: *index,
-            is_output: false,
-        };
-        let value = *forest.sampled(system, input);
-        return Ok(Values::one(alloc, value));
-    }
     let mut values = Values::new(alloc);
     for index in indexes {
         let input = InstanceVariable {
@@ -46,14 +71,51 @@ pub(crate) fn sampled_values(
             variable: *index,
             is_output: false,
         };
-        values.push(*forest.sampled(system, input))?;
+        let source = system.placed_source(input);
+        values.push(*forest.sampled(system, input, &source))?;
     }
     Ok(values)
 }
 
 /// What a composite, which is in the resource, shows from inside of the data outputs WITH an event output, in the
-/// order in which they are declared. They are at `indexes`.
+/// order in which they are declared. One value alone takes no memory.
+#[inline(always)]
 pub(crate) fn shown_values(
+    alloc: Global,
+    forest: &Forest,
+    system: &System,
+    at: Target,
+    with: &With,
+) -> Result<Values, AllocError>
+    requires port { IsPort system.now at }
+    requires output { at.is_output ≡ true }
+    requires stands { Stands system.now forest.now at.instance }
+    requires composite { IsCompositeAt system.now at.instance }
+    requires with { IsWith system.now at with.now }
+    ensures shown { IfOk result (AreShown system.now forest.now at) }
+    ensures counted { IfOk result (λ vs. length vs ≡ length (names_out system.now at)) }
+{
+    match with {
+        With::Nothing => Ok(Values::new(alloc)),
+        With::One(variable, source) => {
+            let output = InstanceVariable {
+                instance: at.instance,
+                variable: *variable,
+                is_output: true,
+            };
+            let value = *forest.shown_inside(system, output, source);
+            Ok(Values::one(alloc, value))
+        }
+        With::Several => {
+            let indexes = system.outputs_with(at.instance, at.event);
+            shown_each(alloc, forest, system, at, indexes)
+        }
+    }
+}
+
+/// What a composite shows from inside of any number of data outputs WITH an event output, which are at `indexes`.
+#[inline(never)]
+fn shown_each(
     alloc: Global,
     forest: &Forest,
     system: &System,
@@ -68,15 +130,6 @@ pub(crate) fn shown_values(
     ensures shown { IfOk result (AreShown system.now forest.now at) }
     ensures counted { IfOk result (λ vs. length vs ≡ length (names_out system.now at)) }
 {
-    if let [index] = indexes {
-        let output = InstanceVariable {
-            instance: at.instance,
-            variable: *index,
-            is_output: true,
-        };
-        let value = *forest.shown_inside(system, output);
-        return Ok(Values::one(alloc, value));
-    }
     let mut values = Values::new(alloc);
     for index in indexes {
         let output = InstanceVariable {
@@ -84,7 +137,8 @@ pub(crate) fn shown_values(
             variable: *index,
             is_output: true,
         };
-        values.push(*forest.shown_inside(system, output))?;
+        let source = system.placed_source(output);
+        values.push(*forest.shown_inside(system, output, &source))?;
     }
     Ok(values)
 }

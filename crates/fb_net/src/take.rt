@@ -1,8 +1,8 @@
 //! Taking an event, by what it is.
 
-ghost use Rattle.std.specs.Prelude.{◌≡◌, ◌≤◌, ◌^◌, ℕ, None, OnOk};
-ghost use Rattle.fb_net.specs.Events.{Came, event_in};
-ghost use Rattle.fb_net.specs.Steps.{ArePutOut, IsKept, IsSame, MayTake, WasTaken};
+ghost use Rattle.std.specs.Prelude.{ℕ, Ok, OnOk};
+ghost use Rattle.fb_net.specs.Events.{event_in};
+ghost use Rattle.fb_net.specs.Steps.{IsSame, MayTake, StaysWhole, WasTaken};
 
 use crate::arrival::Arrival;
 use crate::bring::{hold_carried, set_slots};
@@ -34,12 +34,8 @@ impl Taking<'_> {
     /// is returned in a register, where that of `arrive`, which may be a stop, goes through memory.
     fn take_timer(&mut self, instance: u32, emits: &mut Emits) -> Result<(), AllocError>
         requires { MayTake self.old (Event.Timer instance) }
-        ensures taken { OnOk result ((left : ℕ) → Came self.old.system.now self.old.key.now (Event.Timer instance) self.old.forest.now self.old.outbox.now left None self.new.forest.now left self.new.outbox.now) }
-        ensures outs { OnOk result (ArePutOut self.old self.new) }
-
-        // Also where memory runs out.
-        ensures kept { IsKept self.old self.new }
-        ensures same { IsSame self.old self.new }
+        ensures taken { OnOk result ((left : ℕ) → WasTaken self.old (Event.Timer instance) left (Ok tt) self.new left) }
+        ensures whole { StaysWhole self.old self.new }
     {
         match self.system.kind(instance) {
             TypeNumber::Event(kind) => {
@@ -81,48 +77,19 @@ impl Taking<'_> {
         ensures taken { WasTaken self.old (event_in arrival.entry) meter.old.left result self.new meter.new.left }
         ensures same { IsSame self.old self.new }
     {
-        match arrival {
-            Arrival::Stimulus(row) => self.take_stimulus(row, meter, emits),
-            Arrival::Timer(instance) => Ok(self.take_timer(instance, emits)?),
-            Arrival::Message(message) => {
-                hold_carried(self.forest, self.system, &message.values);
-                self.arrive(message.target, meter, emits)
-            }
-            Arrival::Local { target, .. } => self.arrive(target, meter, emits),
-        }
-    }
-
-    /// The same as `take_event`, for an event where it waits: nothing is made of it.
-    ///
-    /// # Errors
-    /// As `arrive`.
-    #[inline(always)]
-    pub fn take_waiting(
-        &mut self,
-        event: &Event,
-        meter: &mut Meter,
-        emits: &mut Emits,
-    ) -> Result<(), Halt>
-        requires { MayTake self.old event.now }
-        ensures taken { WasTaken self.old event.now meter.old.left result self.new meter.new.left }
-        ensures same { IsSame self.old self.new }
-    {
-        // The compiler drops the hint to inline a function that is too large with all that is always inlined into it. So
-        // `arrive` is so inlined here once, for local events and for messages.
-        //
         // A call puts its result into memory, and then that of each arm would go there. So that of the call for a
         // stimulus is read, and that of the others stays in registers.
-        let at = match event {
-            Event::Stimulus(row) => {
-                self.take_stimulus(*row, meter, emits)?;
+        let at = match arrival {
+            Arrival::Stimulus(row) => {
+                self.take_stimulus(row, meter, emits)?;
                 return Ok(());
             }
-            Event::Timer(instance) => return Ok(self.take_timer(*instance, emits)?),
-            Event::Arrival(message) => {
+            Arrival::Timer(instance) => return Ok(self.take_timer(instance, emits)?),
+            Arrival::Message(message) => {
                 hold_carried(self.forest, self.system, &message.values);
                 message.target
             }
-            Event::Local(target) => *target,
+            Arrival::Local { target, .. } => target,
         };
         self.arrive(at, meter, emits)
     }

@@ -72,6 +72,7 @@ impl Tree {
         ensures opened { IfOk result (λ t. IsForest system.now t (world_of (opening_state system.now) resource)) }
         ensures resource { IfOk result (λ t. t.resource ≡ resource) }
     {
+        // for the prover: there are at most 256 resources
         system.facts();
         let resource = resource as usize;
         let roots = roots_of(alloc, system, resource)?;
@@ -158,7 +159,7 @@ impl Tree {
         // Also where memory runs out.
         ensures whole { (w : World) × IsForest system.now self.new w }
     {
-        // There are at most 256 resources, so that the number of one fits.
+        // for the prover: there are at most 256 resources
         system.facts();
         let key = arrival.key(tick, self.forest.resource as u32);
         let mut taking = Taking {
@@ -197,6 +198,7 @@ impl Tree {
         // Also where memory runs out.
         ensures whole { (w : World) × IsForest system.now self.new w }
     {
+        // for the prover: there are at most 256 resources
         system.facts();
         let mut taking = Taking {
             system,
@@ -204,6 +206,6 @@ impl Tree {
             forest: &mut self.forest,
             outbox,
         };
-        taking.take_waiting(event, meter, &mut self.emits)
+        taking.take_event(Arrival::of(event), meter, &mut self.emits)
     }
 }

@@ -1,9 +1,8 @@
-use Rattle.std.proofs.Common.{◌≡◌, ◌∷◌, [], ◌++◌, ◌∙◌, List, length, sym, ap, arith}
+use Rattle.std.proofs.Common.{◌∷◌, [], ◌++◌, ◌∙◌, List, sym, ap}
 use Rattle.std.proofs.lemmas.Result.{on_ok_weaker}
-use Rattle.fb_net.specs.Emitting.{carried_by, message_to}
+use Rattle.fb_net.specs.Emitting.{carried_by}
 use Rattle.fb_net.specs.declared.outbox.Out.{Out}
 use Rattle.fb_net.specs.declared.outbox.Out.TheVariants.{Local}
-use Rattle.fb_net.proofs.Emitting.{carried_only}
 use Rattle.fb_net.proofs.Going.{kept_to, sent_to}
 use Rattle.fb_net.proofs.emit.put_out.Goals as goal
 
@@ -14,16 +13,6 @@ returns-then-reached c =
     c.push_reserved.ensures.items
     ∙ ap (λ (os : List Out). os ++ Local n.target ∷ []) c.in_ok-reserve.ensures.items
     ∙ ap (λ (o : Out). c.args.outs.now.items ++ o ∷ []) (sym (kept_to n carried c.if-reached.true))
-
-pub returns-in-Some : goal.returns-in-Some
-returns-in-Some c =
-    let n = c.args.reached.now in
-    let carried = carried_by c.args.instance c.args.indexes.now c.args.values.now in
-    let one : length c.args.indexes.now ≡ 1 = omega (arith, c.in-len1.len_at_least, c.in-len1.len_below) in
-    let only = carried_only c.args.instance c.args.indexes.now c.args.values.now c.in-Some.value.now one c.in-Some.ensures.value in
-    on_ok_weaker c.put_message_with.result
-    (λ sent. sent ∙ ap (λ (o : Out). c.args.outs.now.items ++ o ∷ []) (sym (sent_to n carried c.if-reached.false ∙ ap (message_to n) only)))
-    c.put_message_with.ensures
 
 pub returns : goal.returns
 returns c =

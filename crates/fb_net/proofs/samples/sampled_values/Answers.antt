@@ -1,27 +1,40 @@
-use Rattle.std.proofs.Common.{◌≡◌, length, arith}
+use Rattle.std.proofs.Common.{[], ◌∙◌, length, ap, arith}
 use Rattle.fb_types.specs.Headline.{system_of}
-use Rattle.fb_types.specs.Numbers.{path_at, ports_at}
-use Rattle.fb_types.specs.Reactions.{sampled_from}
-use Rattle.fb_net.specs.Samples.{names_in}
-use Rattle.fb_net.proofs.Reading.{read_all, read_more, sampled_at}
-use Rattle.fb_net.proofs.Sampling.{one-sampled}
+use Rattle.fb_net.proofs.PortRows.{indexes_in, none_with, one_with, source_in}
+use Rattle.fb_net.proofs.Sampling.{none-sampled, one-sampled}
 use Rattle.fb_net.proofs.samples.sampled_values.Goals as goal
 
-pub returns-clause-sampled : goal.returns-clause-sampled
-returns-clause-sampled c =
+pub returns-in-Nothing-clause-sampled : goal.returns-in-Nothing-clause-sampled
+returns-in-Nothing-clause-sampled c =
     let sys = system_of c.args.system.now in
-    let p = path_at sys c.args.at.instance in
-    read_all (ports_at sys p).inputs (names_in sys c.args.at) (λ w n. sampled_from sys c.args.forest.now.resource w (record { at = p; name = n })) c.loop-index.index-index c.args.indexes.now c.loop-index.values
-    c.loop-index.invariant c.loop-index-test.false c.requires.indexes
+    none-sampled c.args.system.now c.args.forest.now c.args.at c.new.result (indexes_in sys c.args.at [] c.requires.input (none_with sys c.args.at c.args.with.now c.in-Nothing.is c.requires.with)) c.new.ensures
 
-pub returns-in-len1-clause-sampled : goal.returns-in-len1-clause-sampled
-returns-in-len1-clause-sampled c =
-    let one : length c.args.indexes.now ≡ 1 = omega (arith, c.in-len1.len_at_least, c.in-len1.len_below) in
-    one-sampled c.args.system.now c.args.forest.now c.args.at c.args.indexes.now c.sampled-value.result.now c.one.result c.requires.indexes one c.sampled-value.ensures c.one.ensures
+pub returns-in-Nothing-clause-counted : goal.returns-in-Nothing-clause-counted
+returns-in-Nothing-clause-counted c =
+    let sys = system_of c.args.system.now in
+    ap length c.new.ensures ∙ ap length (indexes_in sys c.args.at [] c.requires.input (none_with sys c.args.at c.args.with.now c.in-Nothing.is c.requires.with)).named
 
-pub loop-index-preserved : goal.loop-index-preserved
-loop-index-preserved c =
-    let i = c.args.system.now in
-    let f = c.args.forest.now in
-    let k = c.args.at.instance in
-    read_more i f k (sampled_at i f k) c.loop-index.index-index c.args.indexes.now c.loop-index.values c.push.new.self c.sampled.result.now c.loop-index.invariant c.loop-index-test.true c.in_ok-push.ensures.ok c.sampled.ensures
+pub sampled-value-requires-clause-variable : goal.sampled-value-requires-clause-variable
+sampled-value-requires-clause-variable c =
+    let sys = system_of c.args.system.now in
+    let one = indexes_in sys c.args.at _ c.requires.input (one_with sys c.args.at c.args.with.now _ _ c.in-One.is c.requires.with).indexes in
+    record { instance = c.requires.port.instance; variable = one.within 0 0 (omega arith) }
+
+pub sampled-value-requires-clause-source : goal.sampled-value-requires-clause-source
+sampled-value-requires-clause-source c =
+    let sys = system_of c.args.system.now in source_in sys c.args.at _ _ c.requires.input (one_with sys c.args.at c.args.with.now _ _ c.in-One.is c.requires.with)
+
+pub returns-in-One-clause-sampled : goal.returns-in-One-clause-sampled
+returns-in-One-clause-sampled c =
+    let sys = system_of c.args.system.now in
+    let one = indexes_in sys c.args.at _ c.requires.input (one_with sys c.args.at c.args.with.now _ _ c.in-One.is c.requires.with).indexes in
+    one-sampled c.args.system.now c.args.forest.now c.args.at c.in-One.variable c.sampled-value.result.now c.one.result one c.sampled-value.ensures c.one.ensures
+
+pub returns-in-One-clause-counted : goal.returns-in-One-clause-counted
+returns-in-One-clause-counted c =
+    let sys = system_of c.args.system.now in
+    let one = indexes_in sys c.args.at _ c.requires.input (one_with sys c.args.at c.args.with.now _ _ c.in-One.is c.requires.with).indexes in
+    ap length c.one.ensures ∙ ap length one.named
+
+pub sampled_each-requires-clause-indexes : goal.sampled_each-requires-clause-indexes
+sampled_each-requires-clause-indexes c = c.inputs_with-indexes.ensures

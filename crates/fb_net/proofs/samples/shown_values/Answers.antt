@@ -1,27 +1,40 @@
-use Rattle.std.proofs.Common.{◌≡◌, length, arith}
+use Rattle.std.proofs.Common.{[], ◌∙◌, length, ap, arith}
 use Rattle.fb_types.specs.Headline.{system_of}
-use Rattle.fb_types.specs.Numbers.{path_at, ports_at}
-use Rattle.fb_types.specs.Reactions.{from_inside}
-use Rattle.fb_net.specs.Samples.{names_out}
-use Rattle.fb_net.proofs.Reading.{one-shown, read_all, read_more, shown_at}
+use Rattle.fb_net.proofs.PortRows.{indexes_out, none_with, one_with, source_out}
+use Rattle.fb_net.proofs.Reading.{none-shown, one-shown}
 use Rattle.fb_net.proofs.samples.shown_values.Goals as goal
 
-pub returns-clause-shown : goal.returns-clause-shown
-returns-clause-shown c =
+pub returns-in-Nothing-clause-shown : goal.returns-in-Nothing-clause-shown
+returns-in-Nothing-clause-shown c =
     let sys = system_of c.args.system.now in
-    let p = path_at sys c.args.at.instance in
-    read_all (ports_at sys p).outputs (names_out sys c.args.at) (λ w n. from_inside sys c.args.forest.now.resource w p n) c.loop-index.index-index c.args.indexes.now c.loop-index.values
-    c.loop-index.invariant c.loop-index-test.false c.requires.indexes
+    none-shown c.args.system.now c.args.forest.now c.args.at c.new.result (indexes_out sys c.args.at [] c.requires.output (none_with sys c.args.at c.args.with.now c.in-Nothing.is c.requires.with)) c.new.ensures
 
-pub returns-in-len1-clause-shown : goal.returns-in-len1-clause-shown
-returns-in-len1-clause-shown c =
-    let indexes = c.args.indexes.now in
-    let one : length indexes ≡ 1 = omega (arith, c.in-len1.len_at_least, c.in-len1.len_below) in
-    one-shown c.args.system.now c.args.forest.now c.args.at indexes c.shown_inside-value.result.now c.one.result c.requires.indexes one c.shown_inside-value.ensures c.one.ensures
+pub returns-in-Nothing-clause-counted : goal.returns-in-Nothing-clause-counted
+returns-in-Nothing-clause-counted c =
+    let sys = system_of c.args.system.now in
+    ap length c.new.ensures ∙ ap length (indexes_out sys c.args.at [] c.requires.output (none_with sys c.args.at c.args.with.now c.in-Nothing.is c.requires.with)).named
 
-pub loop-index-preserved : goal.loop-index-preserved
-loop-index-preserved c =
-    let i = c.args.system.now in
-    let f = c.args.forest.now in
-    let k = c.args.at.instance in
-    read_more i f k (shown_at i f k) c.loop-index.index-index c.args.indexes.now c.loop-index.values c.push.new.self c.shown_inside.result.now c.loop-index.invariant c.loop-index-test.true c.in_ok-push.ensures.ok c.shown_inside.ensures
+pub shown_inside-value-requires-clause-variable : goal.shown_inside-value-requires-clause-variable
+shown_inside-value-requires-clause-variable c =
+    let sys = system_of c.args.system.now in
+    let one = indexes_out sys c.args.at _ c.requires.output (one_with sys c.args.at c.args.with.now _ _ c.in-One.is c.requires.with).indexes in
+    record { instance = c.requires.port.instance; variable = one.within 0 0 (omega arith) }
+
+pub shown_inside-value-requires-clause-source : goal.shown_inside-value-requires-clause-source
+shown_inside-value-requires-clause-source c =
+    let sys = system_of c.args.system.now in source_out sys c.args.at _ _ c.requires.output (one_with sys c.args.at c.args.with.now _ _ c.in-One.is c.requires.with)
+
+pub returns-in-One-clause-shown : goal.returns-in-One-clause-shown
+returns-in-One-clause-shown c =
+    let sys = system_of c.args.system.now in
+    let one = indexes_out sys c.args.at _ c.requires.output (one_with sys c.args.at c.args.with.now _ _ c.in-One.is c.requires.with).indexes in
+    one-shown c.args.system.now c.args.forest.now c.args.at c.in-One.variable c.shown_inside-value.result.now c.one.result one c.shown_inside-value.ensures c.one.ensures
+
+pub returns-in-One-clause-counted : goal.returns-in-One-clause-counted
+returns-in-One-clause-counted c =
+    let sys = system_of c.args.system.now in
+    let one = indexes_out sys c.args.at _ c.requires.output (one_with sys c.args.at c.args.with.now _ _ c.in-One.is c.requires.with).indexes in
+    ap length c.one.ensures ∙ ap length one.named
+
+pub shown_each-requires-clause-indexes : goal.shown_each-requires-clause-indexes
+shown_each-requires-clause-indexes c = c.outputs_with-indexes.ensures

@@ -1,68 +1,69 @@
-use Rattle.std.proofs.Common.{false, [], ◌∷◌, Result, refl, sym, ap, subst, length, ◌∙◌, arith}
-use Rattle.fb_types.specs.Headline.{system_of}
-use Rattle.fb_types.specs.declared.run.Halt.{Halt}
-use Rattle.fb_types.specs.declared.run.Target.{Target}
-use Rattle.fb_net.specs.Events.{Remembered}
-use Rattle.fb_net.specs.Steps.{ArePutOut, HasArrived}
-use Rattle.fb_net.proofs.PortRows.{none_in, none_with, one_in, one_with, source_in}
-use Rattle.fb_net.proofs.Sampling.{none-sampled, one-sampled}
+use Rattle.std.proofs.Common.{List, ◌∙◌, refl, subst, sym}
+use Rattle.fb_types.specs.declared.value.Value.{Value}
+use Rattle.fb_net.specs.Leaves.{ChartEnded}
+use Rattle.fb_net.specs.Outs.{StillAreOuts}
+use Rattle.fb_net.proofs.Charting.{chart-reacts}
+use Rattle.fb_net.proofs.PutOut.{blocks-changed, remembered-always}
+use Rattle.fb_net.proofs.Wholes.{kept-same, kept-then, kept-world}
 use Rattle.fb_net.proofs.taking.Taking.arrive_basic.Goals as goal
 
-pub react_with-requires-clause-sampled : goal.react_with-requires-clause-sampled
-react_with-requires-clause-sampled c =
-    let at : Target = record { instance = c.args.instance; event = c.args.event; is_output = false } in
-    let sys = system_of c.args.self.now.system.now in
-    none-sampled c.args.self.now.system.now c.args.self.now.forest.now at [] c.new-values.result
-    (none_in sys at refl (none_with sys at c.in-Some.port.now.with c.in-Nothing.is c.in-Some.ensures.with)) refl c.new-values.ensures
+pub sampled_values-requires-clause-with : goal.sampled_values-requires-clause-with
+sampled_values-requires-clause-with c = c.row_of-row.ensures.with
 
-pub react_with-requires-clause-counted : goal.react_with-requires-clause-counted
-react_with-requires-clause-counted c =
-    let at : Target = record { instance = c.args.instance; event = c.args.event; is_output = false } in
-    let sys = system_of c.args.self.now.system.now in
-    ap length c.new-values.ensures ∙ ap length (none_in sys at refl (none_with sys at c.in-Some.port.now.with c.in-Nothing.is c.in-Some.ensures.with)).named
+pub react_basic-end-requires-clause-one : goal.react_basic-end-requires-clause-one
+react_basic-end-requires-clause-one c = let stands = c.requires.arrives.stands in (stands.whole.0, stands.whole.1, stands.here)
 
-pub sampled_from-requires-clause-variable : goal.sampled_from-requires-clause-variable
-sampled_from-requires-clause-variable c =
-    let at : Target = record { instance = c.args.instance; event = c.args.event; is_output = false } in
-    let sys = system_of c.args.self.now.system.now in
-    let represents = one_in sys at _ _ refl (one_with sys at c.in-Some.port.now.with _ _ c.in-One.is c.in-Some.ensures.with) in
-    record { instance = c.requires.index.port.instance; variable = represents.within 0 0 (omega arith) }
+pub write_and_emit-requires-clause-index : goal.write_and_emit-requires-clause-index
+write_and_emit-requires-clause-index c =
+    let arrives = c.requires.arrives in
+    let same = c.react_basic-end.ensures.resource in
+    record {
+      port = arrives.port;
+      stands = record { here = arrives.stands.here ∙ sym same; whole = c.react_basic-end.ensures.whole };
+      ready = record { resource = arrives.ready.resource ∙ sym same };
+    }
 
-pub sampled_from-requires-clause-source : goal.sampled_from-requires-clause-source
-sampled_from-requires-clause-source c =
-    let at : Target = record { instance = c.args.instance; event = c.args.event; is_output = false } in
-    let sys = system_of c.args.self.now.system.now in source_in sys at _ _ refl (one_with sys at c.in-Some.port.now.with _ _ c.in-One.is c.in-Some.ensures.with)
+pub write_and_emit-requires-clause-counted : goal.write_and_emit-requires-clause-counted
+write_and_emit-requires-clause-counted c = c.in_ok-values.ensures.counted
 
-pub react_with-requires-in-One-clause-sampled : goal.react_with-requires-in-One-clause-sampled
-react_with-requires-in-One-clause-sampled c =
-    let at : Target = record { instance = c.args.instance; event = c.args.event; is_output = false } in
-    let sys = system_of c.args.self.now.system.now in
-    let represents = one_in sys at _ _ refl (one_with sys at c.in-Some.port.now.with _ _ c.in-One.is c.in-Some.ensures.with) in
-    one-sampled c.args.self.now.system.now c.args.self.now.forest.now at (c.in-One.variable ∷ []) c.sampled_from.result.now c.one-values.result
-    represents refl c.sampled_from.ensures c.one-values.ensures
+pub returns-clause-arrived : goal.returns-clause-arrived
+returns-clause-arrived c =
+    let i = c.args.self.now.system.now in
+    let f = c.args.self.now.forest.now in
+    let x = c.args.self.now.outbox.now in
+    let end = c.react_basic-end in
+    let z = c.write_and_emit.new.self in
+    let arrives = c.requires.arrives in
+    let ended = subst (λ (vs : List Value). ChartEnded i f c.args.at c.args.block.now vs c.args.meter.now.left end.result end.new.forest end.new.meter.left end.new.emits)
+    c.as_slice.ensures end.ensures.reacted in
+    let wrote = c.in_ok-write_and_emit.ensures.wrote in
+    record {
+      reacted = chart-reacts i c.args.self.now.key.now c.args.at c.args.block.now c.requires.of_kind c.requires.input f end.new.forest z.forest.now
+          x z.outbox.now arrives.ready arrives.stands.here c.in_ok-values.values c.in_ok-values.ensures.sampled c.args.meter.now.left end.new.meter.left end.new.emits
+          wrote.wrote end.result ended;
+      outs = remembered-always (StillAreOuts i f x z.forest.now z.outbox.now) end.result (λ were. wrote.outs (blocks-changed i f end.new.forest x end.ensures.resource were));
+      fewer = end.ensures.fewer;
+    }
 
-pub react_with-requires-in-One-clause-counted : goal.react_with-requires-in-One-clause-counted
-react_with-requires-in-One-clause-counted c =
-    let at : Target = record { instance = c.args.instance; event = c.args.event; is_output = false } in
-    let sys = system_of c.args.self.now.system.now in
-    ap length c.one-values.ensures ∙ ap length (one_in sys at _ _ refl (one_with sys at c.in-Some.port.now.with _ _ c.in-One.is c.in-Some.ensures.with)).named
+pub returns-in_err-values-clause-whole : goal.returns-in_err-values-clause-whole
+returns-in_err-values-clause-whole c = record { same = record { system = refl; key = refl; forest = refl; outbox = refl }; kept = kept-same c.args.self.now.system.now c.args.self.now.forest.now }
 
-pub returns-in-Nothing-clause-reacted : goal.returns-in-Nothing-clause-reacted
-returns-in-Nothing-clause-reacted c =
-    let at : Target = record { instance = c.args.instance; event = c.args.event; is_output = false } in
-    let done = c.react_with in
-    subst (λ (r : Result (Unit {0}) Halt). HasArrived c.args.self.now at c.args.meter.now.left r done.new.self done.new.meter.left) (sym c.of.ensures) done.ensures.reacted
+pub returns-in_err-write_and_emit-clause-whole : goal.returns-in_err-write_and_emit-clause-whole
+returns-in_err-write_and_emit-clause-whole c =
+    let end = c.react_basic-end in
+    let f = c.args.self.now.forest.now in
+    let whole = c.write_and_emit.ensures.whole in
+    record {
+      same = record { system = whole.same.system; key = whole.same.key; forest = whole.same.forest; outbox = whole.same.outbox };
+      kept = kept-then c.args.self.now.system.now f end.new.forest c.write_and_emit.new.self.forest.now (kept-world c.args.self.now.system.now f end.new.forest end.ensures.resource end.ensures.whole) whole.kept;
+    }
 
-pub returns-in-Nothing-clause-outs : goal.returns-in-Nothing-clause-outs
-returns-in-Nothing-clause-outs c =
-    subst (λ (r : Result (Unit {0}) Halt). Remembered r (ArePutOut c.args.self.now c.react_with.new.self)) (sym c.of.ensures) c.react_with.ensures.outs
-
-pub returns-in-One-clause-reacted : goal.returns-in-One-clause-reacted
-returns-in-One-clause-reacted c =
-    let at : Target = record { instance = c.args.instance; event = c.args.event; is_output = false } in
-    let done = c.react_with-in-One in
-    subst (λ (r : Result (Unit {0}) Halt). HasArrived c.args.self.now at c.args.meter.now.left r done.new.self done.new.meter.left) (sym c.of-in-One.ensures) done.ensures.reacted
-
-pub returns-in-One-clause-outs : goal.returns-in-One-clause-outs
-returns-in-One-clause-outs c =
-    subst (λ (r : Result (Unit {0}) Halt). Remembered r (ArePutOut c.args.self.now c.react_with-in-One.new.self)) (sym c.of-in-One.ensures) c.react_with-in-One.ensures.outs
+pub returns-clause-whole : goal.returns-clause-whole
+returns-clause-whole c =
+    let end = c.react_basic-end in
+    let f = c.args.self.now.forest.now in
+    let whole = c.write_and_emit.ensures.whole in
+    record {
+      same = record { system = whole.same.system; key = whole.same.key; forest = whole.same.forest; outbox = whole.same.outbox };
+      kept = kept-then c.args.self.now.system.now f end.new.forest c.write_and_emit.new.self.forest.now (kept-world c.args.self.now.system.now f end.new.forest end.ensures.resource end.ensures.whole) whole.kept;
+    }

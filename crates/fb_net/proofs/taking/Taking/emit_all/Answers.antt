@@ -1,29 +1,53 @@
-use Rattle.std.proofs.Common.{List, subst, sym, arith}
-use Rattle.std.proofs.lemmas.Result.{on_ok_weaker}
-use Rattle.std.specs.Prelude.{All}
+use Rattle.std.proofs.Common.{◌++◌, ◌∷◌, [], ◌∙◌, List, ap, refl, sym, subst, append_assoc}
+use Rattle.std.proofs.lemmas.List.{append-nil}
 use Rattle.fb_types.specs.declared.run.Emission.{Emission}
+use Rattle.fb_types.specs.Headline.{Inputs, system_of}
+use Rattle.fb_types.specs.Numbers.{path_at, ports_at}
+use Rattle.fb_types.specs.declared.key.Key.{Key}
 use Rattle.fb_system.specs.Lines.{IsEmission}
-use Rattle.fb_net.specs.Emitting.{bare}
-use Rattle.fb_net.specs.Steps.{EmitsAll, ports_in}
+use Rattle.fb_net.specs.Steps.{EmitsWell, ports_in}
+use Rattle.fb_net.proofs.Emitting.{middle_fits, nothing_emitted}
+use Rattle.fb_net.proofs.Same.{emitted-after, may-emit-again, stays-whole, still, whole-after}
 use Rattle.fb_net.proofs.taking.Taking.emit_all.Goals as goal
 
-pub emit_bare-requires-clause-emission : goal.emit_bare-requires-clause-emission
-emit_bare-requires-clause-emission c =
-    subst (λ (es : List Emission). All (IsEmission (ports_in c.args.self.now c.args.instance)) es) c.in-Some.ensures.alone c.requires.emissions 0 (bare c.in-Some.event) (omega arith)
+pub loop-emission-init : goal.loop-emission-init
+loop-emission-init c = record {
+  done = [];
+  parts = refl;
+  emitted = nothing_emitted c.args.self.now.system.now c.args.self.now.key.now c.args.instance c.args.self.now.forest.now c.args.self.now.outbox.now;
+  whole = stays-whole c.args.self.now;
+}
 
-pub emit_rest-requires-clause-emissions : goal.emit_rest-requires-clause-emissions
-emit_rest-requires-clause-emissions c =
-    subst (λ (es : List Emission). All (IsEmission (ports_in c.args.self.now c.args.instance)) es) (sym c.in-None.ensures.same) c.requires.emissions
+pub emit_one-requires-clause-index : goal.emit_one-requires-clause-index
+emit_one-requires-clause-index c = may-emit-again c.args.self.now c.loop-emission.self c.args.instance c.loop-emission.invariant.whole c.requires.index
 
-pub returns-in-Some-clause-emitted : goal.returns-in-Some-clause-emitted
-returns-in-Some-clause-emitted c =
-    on_ok_weaker c.emit_bare.result
-    (λ well. subst (λ (es : List Emission). EmitsAll c.args.self.now c.args.instance es c.emit_bare.new.self) (sym c.in-Some.ensures.alone) well.emitted)
-    c.emit_bare.ensures.emitted
+pub emit_one-requires-clause-emission : goal.emit_one-requires-clause-emission
+emit_one-requires-clause-emission c =
+    let e = c.in-Some.emission in
+    let so_far = c.loop-emission.invariant in
+    let parts = so_far.parts ∙ ap (λ (rest : List Emission). so_far.done ++ rest) c.in-Some.ensures in
+    still (λ (i : Inputs) (k : Key). IsEmission (ports_at (system_of i) (path_at (system_of i) c.args.instance)) e) c.args.self.now c.loop-emission.self so_far.whole.same
+    (middle_fits (IsEmission (ports_in c.args.self.now c.args.instance)) so_far.done e c.pop_first.new.self c.args.emits.now parts c.requires.emissions)
 
-pub returns-in-Some-clause-outs : goal.returns-in-Some-clause-outs
-returns-in-Some-clause-outs c = on_ok_weaker c.emit_bare.result (λ well. well.outs) c.emit_bare.ensures.emitted
+pub loop-emission-preserved : goal.loop-emission-preserved
+loop-emission-preserved c =
+    let e = c.in-Some.emission in
+    let so_far = c.loop-emission.invariant in
+    record {
+      done = so_far.done ++ e ∷ [];
+      parts = so_far.parts ∙ ap (λ (rest : List Emission). so_far.done ++ rest) c.in-Some.ensures ∙ sym (append_assoc so_far.done (e ∷ []) c.pop_first.new.self);
+      emitted = emitted-after c.args.self.now c.loop-emission.self c.emit_one.new.self c.args.instance so_far.done (e ∷ []) so_far.whole.same so_far.emitted c.in_ok-emit_one.ensures.emitted;
+      whole = whole-after c.args.self.now c.loop-emission.self c.emit_one.new.self so_far.whole c.emit_one.ensures.whole;
+    }
 
-pub returns-in-None-clause-emitted : goal.returns-in-None-clause-emitted
-returns-in-None-clause-emitted c =
-    on_ok_weaker c.emit_rest.result (subst (λ (es : List Emission). EmitsAll c.args.self.now c.args.instance es c.emit_rest.new.self) c.in-None.ensures.same) c.emit_rest.ensures.emitted
+pub returns-in_err-emit_one-clause-whole : goal.returns-in_err-emit_one-clause-whole
+returns-in_err-emit_one-clause-whole c = whole-after c.args.self.now c.loop-emission.self c.emit_one.new.self c.loop-emission.invariant.whole c.emit_one.ensures.whole
+
+pub returns-clause-emitted : goal.returns-clause-emitted
+returns-clause-emitted c =
+    let so_far = c.loop-emission.invariant in
+    subst (λ (es : List Emission). EmitsWell c.args.self.now c.args.instance es c.loop-emission.self)
+    (sym (so_far.parts ∙ ap (λ (rest : List Emission). so_far.done ++ rest) c.in_default.ensures ∙ append-nil so_far.done)) so_far.emitted
+
+pub returns-clause-whole : goal.returns-clause-whole
+returns-clause-whole c = c.loop-emission.invariant.whole

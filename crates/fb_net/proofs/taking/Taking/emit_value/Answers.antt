@@ -46,7 +46,7 @@ returns-clause-emitted c =
           (subst
           (λ (vs : List Value). map (out_of sys) c.send_out.new.outs.items ≡ map (out_of sys) x.outs.items ++ spread sys (sys.resource (path_at sys k)) (map (carried_of sys) (carried_by k indexes vs)) (sys.targets (event_output sys k e.event)))
           one c.in_ok-send_out.ensures.sent);
-      belong = subst (λ (r : ℕ). All (IsOut sys r) x.outs.items → All (IsOut sys r) c.send_out.new.outs.items) lies c.in_ok-send_out.ensures.outs;
+      belong = subst (λ (r : ℕ). All (IsOut sys r) x.outs.items → All (IsOut sys r) c.send_out.new.outs.items) lies c.in_ok-send_out.ensures.belong;
       lines =
           c.push_reserved.ensures.items
           ∙ ap (λ (vs : List Value). c.reserve.new.self.items ++ line_by key k (record { event = c.args.event; values = vs }) ∷ []) c.one-values.ensures
@@ -56,11 +56,20 @@ returns-clause-emitted c =
     has_emitted i key k f x e g y done c.requires.index.number c.requires.index.stands.here c.requires.index.resource c.args.self.now.named
     (record { event = c.requires.event; values = ap length c.requires.indexes.named })
 
-pub returns-in_err-send_out-clause-kept : goal.returns-in_err-send_out-clause-kept
-returns-in_err-send_out-clause-kept c = kept-changed c.args.self.now.system.now c.args.self.now.forest.now c.publish.new.self c.args.instance _ c.publish.ensures c.requires.index.stands.here
+pub returns-in_err-send_out-clause-whole : goal.returns-in_err-send_out-clause-whole
+returns-in_err-send_out-clause-whole c = record {
+  same = record { system = refl; key = refl; forest = refl; outbox = refl };
+  kept = kept-changed c.args.self.now.system.now c.args.self.now.forest.now c.publish.new.self c.args.instance _ c.publish.ensures c.requires.index.stands.here;
+}
 
-pub returns-in_err-reserve-clause-kept : goal.returns-in_err-reserve-clause-kept
-returns-in_err-reserve-clause-kept c = kept-changed c.args.self.now.system.now c.args.self.now.forest.now c.publish.new.self c.args.instance _ c.publish.ensures c.requires.index.stands.here
+pub returns-in_err-reserve-clause-whole : goal.returns-in_err-reserve-clause-whole
+returns-in_err-reserve-clause-whole c = record {
+  same = record { system = refl; key = refl; forest = refl; outbox = refl };
+  kept = kept-changed c.args.self.now.system.now c.args.self.now.forest.now c.publish.new.self c.args.instance _ c.publish.ensures c.requires.index.stands.here;
+}
 
-pub returns-clause-kept : goal.returns-clause-kept
-returns-clause-kept c = kept-changed c.args.self.now.system.now c.args.self.now.forest.now c.publish.new.self c.args.instance _ c.publish.ensures c.requires.index.stands.here
+pub returns-clause-whole : goal.returns-clause-whole
+returns-clause-whole c = record {
+  same = record { system = refl; key = refl; forest = refl; outbox = refl };
+  kept = kept-changed c.args.self.now.system.now c.args.self.now.forest.now c.publish.new.self c.args.instance _ c.publish.ensures c.requires.index.stands.here;
+}

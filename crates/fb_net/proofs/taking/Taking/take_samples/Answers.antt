@@ -1,51 +1,44 @@
-use Rattle.std.proofs.Common.{length, refl, sym, ap, ◌∙◌, subst}
-use Rattle.std.proofs.lemmas.Bool.{eqb-true}
+use Rattle.std.proofs.Common.{List, refl, subst}
 use Rattle.std.proofs.lemmas.Result.{on_ok_weaker}
-use Rattle.std.specs.Prelude.{OnOk}
 use Rattle.fb_types.specs.Headline.{system_of}
-use Rattle.fb_types.specs.declared.run.Target.{Target}
+use Rattle.fb_types.specs.declared.value.Value.{Value}
 use Rattle.fb_net.specs.Arrivals.{sampling}
-use Rattle.fb_net.specs.Steps.{HasDone, MayArrive}
-use Rattle.fb_net.specs.Samples.{names_in}
-use Rattle.fb_net.proofs.Changing.{samples_none}
-use Rattle.fb_net.proofs.PortRows.{at_input}
+use Rattle.fb_net.specs.Changes.{Changes}
+use Rattle.fb_net.specs.Samples.{all_sampled, names_in}
+use Rattle.fb_net.proofs.PortRows.{indexes_in, one_with}
 use Rattle.fb_net.proofs.PutOut.{lines-put}
-use Rattle.fb_net.proofs.Sampling.{none-sampled, sampling-represents}
-use Rattle.fb_net.proofs.Wholes.{kept-same}
+use Rattle.fb_net.proofs.Same.{done-well}
+use Rattle.fb_net.proofs.Sampling.{sampling-represents}
+use Rattle.fb_net.proofs.Wholes.{kept-changed, kept-same}
 use Rattle.fb_net.proofs.taking.Taking.take_samples.Goals as goal
 
-pub returns-then-is_empty-clause-taken : goal.returns-then-is_empty-clause-taken
-returns-then-is_empty-clause-taken c =
-    let i = c.args.self.now.system.now in
-    let at = c.args.at in
-    let f = c.args.self.now.forest.now in
-    let sampled = none-sampled i f at c.inputs_with-indexes.result.now c.new-values.result c.inputs_with-indexes.ensures (eqb-true _ 0 (sym c.is_empty.ensures ∙ c.if-is_empty.true)) c.new-values.ensures in
-    let kept = samples_none i f at.instance (names_in (system_of i) at) c.new-values.result (ap length c.new-values.ensures) in
-    on_ok_weaker c.write_taken.result
-    (λ written. sampling-represents i c.args.self.now.key.now at f f c.args.self.now.outbox.now c.write_taken.new.outbox c.new-values.result
-    c.requires.index.ready c.requires.input c.requires.index.stands.here sampled kept written c.write_taken.ensures.outs c.write_taken.ensures.timer)
-    c.write_taken.ensures.written
-
-pub returns-then-is_empty-clause-kept : goal.returns-then-is_empty-clause-kept
-returns-then-is_empty-clause-kept c =
-    kept-same c.args.self.now.system.now c.args.self.now.forest.now
-
-pub write_taken-requires-clause-port : goal.write_taken-requires-clause-port
-write_taken-requires-clause-port c = c.requires.index.port
-
-pub returns-then-is_empty-clause-outs : goal.returns-then-is_empty-clause-outs
-returns-then-is_empty-clause-outs c =
-    let f = c.args.self.now.forest.now in
-    on_ok_weaker c.write_taken.result
-    (lines-put c.args.self.now.system.now f f c.args.self.now.outbox.now c.write_taken.new.outbox refl c.write_taken.ensures.outs) c.write_taken.ensures.lines
-
-pub take_values-requires-clause-index : goal.take_values-requires-clause-index
-take_values-requires-clause-index c = subst (λ (t : Target). MayArrive c.args.self.now t) (at_input c.args.at c.requires.input) c.requires.index
-
-pub take_values-requires-clause-indexes : goal.take_values-requires-clause-indexes
-take_values-requires-clause-indexes c = c.inputs_with-indexes.ensures
+pub keep_samples-requires-clause-indexes : goal.keep_samples-requires-clause-indexes
+keep_samples-requires-clause-indexes c = indexes_in (system_of c.args.self.now.system.now) c.args.at _ c.requires.may.input c.indexes_of-indexes.ensures
 
 pub returns-clause-taken : goal.returns-clause-taken
 returns-clause-taken c =
-    let a = c.args.self.now in
-    subst (λ (t : Target). OnOk c.take_values.result (HasDone (sampling a.system.now a.key.now t) a c.take_values.new.self)) (sym (at_input c.args.at c.requires.input)) c.take_values.ensures.taken
+    let i = c.args.self.now.system.now in
+    let at = c.args.at in
+    let f = c.args.self.now.forest.now in
+    let g = c.keep_samples.new.forest in
+    let x = c.args.self.now.outbox.now in
+    let y = c.write_taken.new.outbox in
+    let kept = subst (λ (vs : List Value). Changes i f at.instance (all_sampled (names_in (system_of i) at) vs) g) c.as_slice.ensures c.keep_samples.ensures in
+    done-well (sampling i c.args.self.now.key.now at) c.args.self.now _ c.write_taken.result
+    (on_ok_weaker c.write_taken.result
+    (λ written. sampling-represents i c.args.self.now.key.now at f g x y c.in_ok-values.values
+    c.requires.may.arrives.ready c.requires.may.input c.requires.may.arrives.stands.here c.in_ok-values.ensures.sampled kept written c.write_taken.ensures.outs c.write_taken.ensures.timer)
+    c.write_taken.ensures.written)
+    (on_ok_weaker c.write_taken.result (lines-put i f g x y c.keep_samples.ensures.resource c.write_taken.ensures.outs) c.write_taken.ensures.lines)
+
+pub returns-in_err-values-clause-whole : goal.returns-in_err-values-clause-whole
+returns-in_err-values-clause-whole c = record { same = record { system = refl; key = refl; forest = refl; outbox = refl }; kept = kept-same c.args.self.now.system.now c.args.self.now.forest.now }
+
+pub returns-clause-whole : goal.returns-clause-whole
+returns-clause-whole c = record {
+  same = record { system = refl; key = refl; forest = refl; outbox = refl };
+  kept = kept-changed c.args.self.now.system.now c.args.self.now.forest.now c.keep_samples.new.forest c.args.at.instance _ c.keep_samples.ensures c.requires.may.arrives.stands.here;
+}
+
+pub take_value-requires-clause-one : goal.take_value-requires-clause-one
+take_value-requires-clause-one c = one_with (system_of c.args.self.now.system.now) c.args.at c.args.with.now _ _ c.in-One.is c.requires.with

@@ -27,11 +27,15 @@ returns-clause-taken c =
     record {
       taken =
           stimulus-taken i c.args.self.now.key.now c.args.row row.result row.ensures f mid c.set_slots.ensures c.requires.event.here done.new.self.forest.now
-          c.args.self.now.outbox.now done.new.self.outbox.now c.args.meter.now.left done.new.meter.left done.result done.ensures.reacted;
+          c.args.self.now.outbox.now done.new.self.outbox.now c.args.meter.now.left done.new.meter.left done.result done.ensures.arrived.reacted;
       outs =
           remembered-then (StillAreOuts i mid c.args.self.now.outbox.now done.new.self.forest.now done.new.self.outbox.now)
           (StillAreOuts i f c.args.self.now.outbox.now done.new.self.forest.now done.new.self.outbox.now) done.result
-          (λ outs were. outs (blocks-changed i f mid c.args.self.now.outbox.now (stimulus-kept i c.args.self.now.key.now c.args.row row.result row.ensures f mid c.set_slots.ensures c.requires.event.here).resource were)) done.ensures.outs;
-      fewer = done.ensures.fewer;
-      kept = kept-then i f mid done.new.self.forest.now (stimulus-kept i c.args.self.now.key.now c.args.row row.result row.ensures f mid c.set_slots.ensures c.requires.event.here) done.ensures.kept;
+          (λ outs were. outs (blocks-changed i f mid c.args.self.now.outbox.now (stimulus-kept i c.args.self.now.key.now c.args.row row.result row.ensures f mid c.set_slots.ensures c.requires.event.here).resource were)) done.ensures.arrived.outs;
+      fewer = done.ensures.arrived.fewer;
+      kept = kept-then i f mid done.new.self.forest.now (stimulus-kept i c.args.self.now.key.now c.args.row row.result row.ensures f mid c.set_slots.ensures c.requires.event.here) done.ensures.whole.kept;
     }
+
+pub returns-clause-same : goal.returns-clause-same
+returns-clause-same c =
+    let same = c.arrive.ensures.whole.same in record { system = same.system; key = same.key; forest = same.forest; outbox = same.outbox }

@@ -1,9 +1,0 @@
-use Rattle.std.proofs.Common.{length}
-use Rattle.fb_net.proofs.Same.{EmittedSoFar}
-use Rattle.fb_net.proofs.taking.Taking.emit_others.Given as goal
-
-abbrev pub invariant-loop-emission : goal.invariant-loop-emission
-invariant-loop-emission l = EmittedSoFar l.initial.self l.self l.instance l.initial.emits l.emits
-
-abbrev pub decreases-loop-emission : goal.decreases-loop-emission
-decreases-loop-emission l = length l.emits
