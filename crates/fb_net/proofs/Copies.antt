@@ -24,7 +24,7 @@ use Rattle.fb_net.proofs.Shown.{name_there, variable_is}
 use Rattle.fb_net.proofs.Writing.{AreNumbered}
 use Rattle.fb_net.proofs.Shown.{name_is as shown_name}
 use Rattle.fb_types.proofs.ByIndex.{slice_get-append_left, slice_get-after, element_at}
-use Rattle.fb_net.proofs.Known.{kind_once, kind_there, known_of, once_of, stood}
+use Rattle.fb_net.proofs.Acceptance.{kind_once, kind_there, known_of, once_of, stood}
 
 -- ---- A variable is known by its port
 

@@ -46,10 +46,6 @@ one_carried k index (u ∷ values) v first =
     let same : u ≡ v = cc in
     let carried : Value → List Carried = λ x. record { instance = k; variable = index; value = x } ∷ [] in ap carried same
 
-pub none_carried : (k index : ℕ) (values : List Value) → None ≡ slice_get values 0 → carried_by k (index ∷ []) values ≡ []
-none_carried k index [] first = refl
-none_carried k index (u ∷ values) first = absurd (none-some u first)
-
 -- the value that is carried alone
 pub carried_only : (k : ℕ) (indexes : List ℕ) (values : List Value) (v : Value) → length indexes ≡ 1 → Some v ≡ slice_get values 0
     → carried_by k indexes values ≡ record { instance = k; variable = slice_index_or indexes 0 0; value = v } ∷ []
@@ -68,10 +64,6 @@ middle_fits P done x rest all parts each = go done (subst (λ (xs : List _). All
     go : (xs : List _) → All P (xs ++ x ∷ rest) → P x
     go [] h = h 0 x (omega arith)
     go (y ∷ ys) h = go ys (λ k d lt. h (suc k) d (omega arith))
-
--- what holds of each element holds of those after the first
-pub others_fit : {A : Type 0} (P : A → Type 0) (x : A) (rest all : List A) → all ≡ x ∷ rest → All P all → All P rest
-others_fit P x rest all parts each = λ k d lt. subst (λ (xs : List _). All P xs) parts each (suc k) d (omega arith)
 
 pub are_carried :
     (sys : System) (k : ℕ) (indexes : List ℕ) (values : List Value) → k < length sys.paths

@@ -20,7 +20,7 @@ use Rattle.fb_net.specs.Worlds.{Represents}
 use Rattle.fb_net.specs.declared.block.Block.{Block}
 use Rattle.fb_net.specs.Opening.{AreDeep, AreGrown, Grown, IsDeep}
 use Rattle.fb_types.proofs.ByIndex.{slice_get-append_left, slice_get-append_here, all_at}
-use Rattle.fb_net.proofs.Known.{stood}
+use Rattle.fb_net.proofs.Acceptance.{stood}
 
 -- ---- Elements of lists
 

@@ -22,9 +22,6 @@ use Rattle.fb_net.specs.Samples.{names_in, names_out}
 
 -- ---- A port whose direction is known
 
-pub at_input : (at : Target) → at.is_output ≡ false → at ≡ record { instance = at.instance; event = at.event; is_output = false }
-at_input at e = (let to : Bool → Target = λ b. record { instance = at.instance; event = at.event; is_output = b } in ap to e)
-
 pub at_output : (at : Target) → at.is_output ≡ true → at ≡ record { instance = at.instance; event = at.event; is_output = true }
 at_output at e = (let to : Bool → Target = λ b. record { instance = at.instance; event = at.event; is_output = b } in ap to e)
 
@@ -100,9 +97,3 @@ pub source_out :
     (sys : System) (at : Target) (v : ℕ) (s : Option Source) → at.is_output ≡ true → IsOneWith sys at v s
     → IsSourceOf sys (record { instance = at.instance; variable = v; is_output = true }) s
 source_out sys at v s output h = subst (λ (b : Bool). IsSourceOf sys (record { instance = at.instance; variable = v; is_output = b }) s) output h.comes
-
--- the value that is alone
-pub only_value : (vs : List Value) (v : Value) → length vs ≡ 1 → Some v ≡ slice_get vs 0 → vs ≡ v ∷ []
-only_value [] v one h = absurd (omega arith)
-only_value (u ∷ []) v one h = let same : u ≡ v = cc in ap (λ (x : Value). x ∷ []) same
-only_value (u ∷ x ∷ vs) v one h = absurd (omega arith)

@@ -1,4 +1,16 @@
 //! One event on its way through its resource.
+//!
+//! Read in this order: `take`, by the kind of event; `arrive`, where it arrives; `samples`, what an event samples and
+//! what composites show from inside; `bring`, slots and held copies that are set; `event_blocks` and `basic_blocks`, the
+//! reactions of leaves; `emit`, emissions with their lines, local events and messages.
+
+mod arrive;
+mod basic_blocks;
+mod bring;
+mod emit;
+mod event_blocks;
+mod samples;
+mod take;
 
 ghost use Rattle.std.specs.Prelude.{◌≤◌, ◌^◌};
 ghost use Rattle.fb_types.specs.OfSystem.{IsResource};

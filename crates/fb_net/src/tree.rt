@@ -10,10 +10,10 @@ ghost use Rattle.fb_net.specs.Worlds.{IsForest};
 ghost use Rattle.fb_net.specs.Events.{HasTaken, IsEventIn, Remembered, event_in, event_of, key_at};
 
 use crate::arrival::Arrival;
-use crate::opening_copies::held_of;
-use crate::opening_roots::roots_of;
-use crate::opening_seats::seat_all;
-use crate::opening_trees::blocks_of;
+use crate::opening::copies::held_of;
+use crate::opening::roots::roots_of;
+use crate::opening::seats::seat_all;
+use crate::opening::trees::blocks_of;
 use crate::outbox::Outbox;
 use crate::resource::Forest;
 use crate::taking::Taking;

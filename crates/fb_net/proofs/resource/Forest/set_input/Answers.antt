@@ -1,6 +1,6 @@
 use Rattle.std.proofs.Common.{sym}
 use Rattle.fb_net.proofs.Events.{no_shell}
-use Rattle.fb_net.proofs.Wholes.{seat-there}
+use Rattle.fb_net.proofs.BlocksKept.{seat-there}
 use Rattle.fb_net.proofs.Writing.{input_changes}
 use Rattle.fb_net.proofs.resource.Forest.set_input.Goals as goal
 

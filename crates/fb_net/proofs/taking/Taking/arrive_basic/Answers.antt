@@ -3,8 +3,8 @@ use Rattle.fb_types.specs.declared.value.Value.{Value}
 use Rattle.fb_net.specs.Leaves.{ChartEnded}
 use Rattle.fb_net.specs.Outs.{StillAreOuts}
 use Rattle.fb_net.proofs.Charting.{chart-reacts}
-use Rattle.fb_net.proofs.PutOut.{blocks-changed, remembered-always}
-use Rattle.fb_net.proofs.Wholes.{kept-same, kept-then, kept-world}
+use Rattle.fb_net.proofs.OutboxKept.{blocks-changed, remembered-always}
+use Rattle.fb_net.proofs.BlocksKept.{kept-same, kept-then, kept-world}
 use Rattle.fb_net.proofs.taking.Taking.arrive_basic.Goals as goal
 
 pub sampled_values-requires-clause-with : goal.sampled_values-requires-clause-with

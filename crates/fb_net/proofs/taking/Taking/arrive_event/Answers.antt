@@ -15,9 +15,9 @@ use Rattle.fb_net.specs.declared.outbox.Outbox.{Outbox}
 use Rattle.fb_net.specs.Steps.{AreKept}
 use Rattle.fb_net.proofs.Arriving.{event-reacts, event-typed, ports-of_event}
 use Rattle.fb_net.proofs.PortRows.{event-no_basic}
-use Rattle.fb_net.proofs.PutOut.{timer-asked}
-use Rattle.fb_net.proofs.Same.{already, put-out-after, ready-after, still, whole-after}
-use Rattle.fb_net.proofs.Wholes.{kept-then, kept-world}
+use Rattle.fb_net.proofs.OutboxKept.{timer-asked}
+use Rattle.fb_net.proofs.TakingSteps.{already, put-out-after, ready-after, still, whole-after}
+use Rattle.fb_net.proofs.BlocksKept.{kept-then, kept-world}
 use Rattle.fb_net.proofs.taking.Taking.arrive_event.Goals as goal
 
 pub take_samples-requires-clause-may : goal.take_samples-requires-clause-may

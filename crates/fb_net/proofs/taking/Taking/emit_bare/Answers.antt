@@ -10,7 +10,7 @@ use Rattle.fb_net.specs.Outs.{IsOut, out_of}
 use Rattle.fb_net.specs.declared.outbox.Outbox.{Outbox}
 use Rattle.fb_net.proofs.Emitting.{Doing, has_emitted, line_by, no_indexes}
 use Rattle.fb_net.proofs.Publishing.{nothing_shown}
-use Rattle.fb_net.proofs.Wholes.{kept-same}
+use Rattle.fb_net.proofs.BlocksKept.{kept-same}
 use Rattle.fb_net.proofs.taking.Taking.emit_bare.Goals as goal
 
 pub send_out-requires-clause-first : goal.send_out-requires-clause-first

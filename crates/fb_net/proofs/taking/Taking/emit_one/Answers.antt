@@ -10,7 +10,7 @@ use Rattle.fb_net.specs.Emitting.{carried_by, outputs_at, outputs_shown}
 use Rattle.fb_net.specs.Outs.{IsOut, out_of}
 use Rattle.fb_net.specs.declared.outbox.Outbox.{Outbox}
 use Rattle.fb_net.proofs.Emitting.{Doing, are_carried, has_emitted, line_by}
-use Rattle.fb_net.proofs.Wholes.{kept-changed}
+use Rattle.fb_net.proofs.BlocksKept.{kept-changed}
 use Rattle.fb_net.proofs.taking.Taking.emit_one.Goals as goal
 
 pub indexes_of-indexes-requires-clause-with : goal.indexes_of-indexes-requires-clause-with

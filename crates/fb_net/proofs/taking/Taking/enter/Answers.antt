@@ -10,7 +10,7 @@ use Rattle.fb_net.specs.Outs.{IsOut}
 use Rattle.fb_net.specs.Worlds.{InForest}
 use Rattle.fb_net.proofs.Arriving.{enters, sent-of}
 use Rattle.fb_net.proofs.PortRows.{composite-no_basic}
-use Rattle.fb_net.proofs.Same.{already, done-well, put-out-after, ready-after, still}
+use Rattle.fb_net.proofs.TakingSteps.{already, done-well, put-out-after, ready-after, still}
 use Rattle.fb_net.proofs.taking.Taking.enter.Goals as goal
 
 pub take_samples-requires-clause-may : goal.take_samples-requires-clause-may

@@ -8,8 +8,8 @@ use Rattle.fb_net.specs.Arrivals.{leaving}
 use Rattle.fb_net.proofs.Arriving.{leaves}
 use Rattle.fb_net.proofs.PortRows.{at_output, indexes_out, one_with, source_out}
 use Rattle.fb_net.proofs.Reading.{one-shown}
-use Rattle.fb_net.proofs.Same.{done-well}
-use Rattle.fb_net.proofs.Wholes.{kept-same}
+use Rattle.fb_net.proofs.TakingSteps.{done-well}
+use Rattle.fb_net.proofs.BlocksKept.{kept-same}
 use Rattle.fb_net.proofs.taking.Taking.leave.Goals as goal
 
 pub shown_inside-requires-clause-variable : goal.shown_inside-requires-clause-variable

@@ -8,9 +8,9 @@ use Rattle.fb_net.specs.Samples.{names_in}
 use Rattle.fb_net.proofs.Arriving.{event-reacts}
 use Rattle.fb_net.proofs.Changing.{samples_none}
 use Rattle.fb_net.proofs.PassingOn.{is_emission, no_names, nothing_sampled, passed_came}
-use Rattle.fb_net.proofs.PutOut.{lines-put}
+use Rattle.fb_net.proofs.OutboxKept.{lines-put}
 use Rattle.fb_net.proofs.Sampling.{sampling-represents}
-use Rattle.fb_net.proofs.Wholes.{kept-same}
+use Rattle.fb_net.proofs.BlocksKept.{kept-same}
 use Rattle.fb_net.proofs.taking.Taking.pass_on.Goals as goal
 
 pub write_taken-requires-clause-port : goal.write_taken-requires-clause-port

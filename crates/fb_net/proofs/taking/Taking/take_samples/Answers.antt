@@ -6,10 +6,10 @@ use Rattle.fb_net.specs.Arrivals.{sampling}
 use Rattle.fb_net.specs.Changes.{Changes}
 use Rattle.fb_net.specs.Samples.{all_sampled, names_in}
 use Rattle.fb_net.proofs.PortRows.{indexes_in, one_with}
-use Rattle.fb_net.proofs.PutOut.{lines-put}
-use Rattle.fb_net.proofs.Same.{done-well}
+use Rattle.fb_net.proofs.OutboxKept.{lines-put}
+use Rattle.fb_net.proofs.TakingSteps.{done-well}
 use Rattle.fb_net.proofs.Sampling.{sampling-represents}
-use Rattle.fb_net.proofs.Wholes.{kept-changed, kept-same}
+use Rattle.fb_net.proofs.BlocksKept.{kept-changed, kept-same}
 use Rattle.fb_net.proofs.taking.Taking.take_samples.Goals as goal
 
 pub keep_samples-requires-clause-indexes : goal.keep_samples-requires-clause-indexes

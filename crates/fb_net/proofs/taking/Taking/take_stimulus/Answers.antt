@@ -1,7 +1,7 @@
 use Rattle.fb_net.proofs.ByEvent.{stimulus-kept, stimulus-lies, stimulus-taken, stimulus-typed}
 use Rattle.fb_net.specs.Outs.{StillAreOuts}
-use Rattle.fb_net.proofs.PutOut.{blocks-changed, remembered-then}
-use Rattle.fb_net.proofs.Wholes.{kept-then}
+use Rattle.fb_net.proofs.OutboxKept.{blocks-changed, remembered-then}
+use Rattle.fb_net.proofs.BlocksKept.{kept-then}
 use Rattle.fb_net.proofs.taking.Taking.take_stimulus.Goals as goal
 
 pub arrive-requires-clause-typed : goal.arrive-requires-clause-typed

@@ -10,10 +10,10 @@ use Rattle.fb_net.specs.Samples.{all_sampled, names_in}
 use Rattle.fb_net.specs.Changes.{Changes}
 use Rattle.fb_net.proofs.Changing.{changes_as}
 use Rattle.fb_net.proofs.PortRows.{indexes_in, source_in}
-use Rattle.fb_net.proofs.PutOut.{lines-put}
-use Rattle.fb_net.proofs.Same.{done-well}
+use Rattle.fb_net.proofs.OutboxKept.{lines-put}
+use Rattle.fb_net.proofs.TakingSteps.{done-well}
 use Rattle.fb_net.proofs.Sampling.{one-sampled, sampling-represents}
-use Rattle.fb_net.proofs.Wholes.{kept-changed}
+use Rattle.fb_net.proofs.BlocksKept.{kept-changed}
 use Rattle.fb_net.proofs.taking.Taking.take_value.Goals as goal
 
 pub sampled-value-requires-clause-variable : goal.sampled-value-requires-clause-variable

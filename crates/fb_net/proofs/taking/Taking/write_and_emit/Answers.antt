@@ -3,8 +3,8 @@ use Rattle.std.proofs.lemmas.Result.{on_ok_weaker}
 use Rattle.fb_types.specs.Headline.{system_of}
 use Rattle.fb_types.specs.Numbers.{emission_of, line_of, path_at, ports_at}
 use Rattle.fb_net.proofs.Arriving.{wrote-so}
-use Rattle.fb_net.proofs.PutOut.{lines-put}
-use Rattle.fb_net.proofs.Same.{stays-whole}
+use Rattle.fb_net.proofs.OutboxKept.{lines-put}
+use Rattle.fb_net.proofs.TakingSteps.{stays-whole}
 use Rattle.fb_net.proofs.Sampling.{taken_line}
 use Rattle.fb_net.proofs.taking.Taking.write_and_emit.Goals as goal
 

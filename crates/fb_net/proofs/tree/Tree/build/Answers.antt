@@ -6,7 +6,7 @@ use Rattle.fb_types.specs.Takes.{world_of}
 use Rattle.fb_net.specs.declared.block.Block.{Block}
 use Rattle.fb_net.specs.Opening.{AreGrown, AreRooted, CoversAll}
 use Rattle.fb_net.proofs.Charts.{no_charts}
-use Rattle.fb_net.proofs.Standing.{forest_is, top_deep}
+use Rattle.fb_net.proofs.BlockWays.{forest_is, top_deep}
 use Rattle.fb_net.proofs.tree.Tree.build.Goals as goal
 
 pub blocks_of-requires-clause-charts : goal.blocks_of-requires-clause-charts

@@ -1,9 +1,0 @@
-use Rattle.std.proofs.Common.{List, subst, sym}
-use Rattle.fb_types.specs.declared.run.Carried.{Carried}
-use Rattle.fb_net.specs.Samples.{HoldsAll}
-use Rattle.fb_net.proofs.Changing.{holds_one}
-use Rattle.fb_net.proofs.bring.hold_carried.Goals as goal
-
-pub returns-in-Ok : goal.returns-in-Ok
-returns-in-Ok c =
-    subst (λ (l : List Carried). HoldsAll c.args.system.now c.args.forest.now l c.hold.new.self) (sym c.in-Ok.ensures.one) (holds_one c.in-Ok.item c.hold.ensures)

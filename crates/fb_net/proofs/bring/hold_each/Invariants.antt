@@ -1,6 +1,0 @@
-use Rattle.std.proofs.Common.{take}
-use Rattle.fb_net.specs.Samples.{HoldsAll}
-use Rattle.fb_net.proofs.bring.hold_each.Given as goal
-
-abbrev pub invariant-loop-item : goal.invariant-loop-item
-invariant-loop-item l = HoldsAll l.system l.initial.forest (take l.item-index l.carried) l.forest

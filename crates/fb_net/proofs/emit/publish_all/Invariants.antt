@@ -1,9 +1,0 @@
-use Rattle.std.proofs.Common.{length, take}
-use Rattle.fb_types.specs.Headline.{system_of}
-use Rattle.fb_net.specs.Changes.{Changes}
-use Rattle.fb_net.specs.Emitting.{outputs_at, outputs_shown}
-use Rattle.fb_net.proofs.emit.publish_all.Given as goal
-
-abbrev pub invariant-loop-index : goal.invariant-loop-index
-invariant-loop-index l =
-    Changes l.system l.initial.forest l.instance (outputs_shown (take (length l.yielded) (outputs_at (system_of l.system) l.instance l.indexes l.values))) l.forest

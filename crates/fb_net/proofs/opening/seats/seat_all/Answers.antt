@@ -1,0 +1,31 @@
+use Rattle.std.proofs.Common.{refl, ◌∙◌}
+use Rattle.fb_net.proofs.Seating.{none_seated, seated_away, seated_more}
+use Rattle.fb_net.proofs.opening.seats.seat_all.Goals as goal
+use Rattle.fb_net.proofs.opening.seats.seat_all.Goals.{then-resource-forest+in_ok-shell+in_ok-push-2, else-resource-forest}
+
+pub loop-instance-init : goal.loop-instance-init
+loop-instance-init c = record {
+  seated = none_seated c.args.system.now c.args.forest.now c.requires.seats c.requires.shells;
+  alone = record { resource = refl; roots = refl; blocks = refl; held = refl };
+}
+
+pub loop-instance-preserved : goal.loop-instance-preserved
+loop-instance-preserved c =
+    let i = c.args.system.now in
+    let n = c.loop-instance.instance in
+    let t = c.loop-instance.forest in
+    let was = c.loop-instance.invariant in
+    elim c.if-resource-forest.branch [
+      | then-resource-forest+in_ok-shell+in_ok-push-2 w ↦
+          rw w.forest-is
+          (record {
+            seated = seated_more i n t _ _ w.in_ok-shell.shell _ was.seated c.len-seat.ensures c.in_ok-push.ensures.ok w.in_ok-push-2.ensures.ok w.in_ok-shell.ensures;
+            alone = record { resource = was.alone.resource; roots = was.alone.roots; blocks = was.alone.blocks; held = was.alone.held };
+          })
+      | else-resource-forest w ↦
+          rw w.forest-is
+          (record {
+            seated = seated_away i n t _ _ was.seated c.in_ok-push.ensures.ok (λ e. w.if-resource-forest.false (c.resource.ensures ∙ e));
+            alone = record { resource = was.alone.resource; roots = was.alone.roots; blocks = was.alone.blocks; held = was.alone.held };
+          })
+    ]

@@ -1,6 +1,0 @@
-use Rattle.fb_net.proofs.Reading.{AreReadUpTo, shown_at}
-use Rattle.fb_net.proofs.samples.shown_each.Given as goal
-
-abbrev pub invariant-loop-index : goal.invariant-loop-index
-invariant-loop-index l =
-    AreReadUpTo l.system l.forest l.at.instance (shown_at l.system l.forest l.at.instance) l.index-index l.indexes l.values
