@@ -1,6 +1,6 @@
 -- What the emission of output events makes of a world, of the lines and of what goes out.
 use Rattle.std.proofs.Common.{◌≡◌, ℕ, ◌<◌, false, List, [], ◌∷◌, ◌++◌, map, length, refl, sym, ap, subst, ◌∙◌, suc, append_assoc, arith}
-use Rattle.std.specs.Prelude.{All, None, Some, slice_get, slice_index_or}
+use Rattle.std.specs.Prelude.{All, Some, slice_get, slice_index_or}
 use Rattle.std.proofs.lemmas.List.{map-append}
 use Rattle.std.proofs.lemmas.Option.{none-some}
 use Rattle.std.proofs.lemmas.List.Elements.{All-append, All-push}

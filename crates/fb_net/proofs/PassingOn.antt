@@ -1,7 +1,7 @@
 -- Event blocks that only pass events on.
 use Rattle.std.proofs.Common.{◌≡◌, ◌<◌, ℕ, List, [], ◌∷◌, length, map, Some, sym, ap, subst, ◌∙◌}
 use Rattle.fb_types.specs.Names.{Name}
-use Rattle.fb_types.specs.Blocks.{Emission, Event, bound, inputs_with, outputs_with, ports_of_event_block}
+use Rattle.fb_types.specs.Blocks.{Emission, Event, bound, inputs_with, ports_of_event_block}
 use Rattle.fb_types.specs.EventBlocks.{Reaction, output_of}
 use Rattle.fb_types.specs.Headline.{Inputs, system_of}
 use Rattle.fb_types.specs.Numbers.{emission_of, event_at, pair_up, path_at, ports_at}

@@ -1,5 +1,5 @@
 -- Where an event goes from a port, target after target.
-use Rattle.std.proofs.Common.{◌≡◌, ℕ, suc, ◌+◌, ◌<◌, ◌≤◌, ◌≢◌, ◌==◌, Bool, true, false, List, [], ◌∷◌, ◌++◌, map, take, length, get_or, Option, Some, None, refl, sym, ap, subst, ◌∙◌, inl, inr, append_assoc, arith}
+use Rattle.std.proofs.Common.{◌≡◌, ℕ, ◌+◌, ◌<◌, ◌≤◌, ◌≢◌, ◌==◌, Bool, true, false, List, [], ◌∷◌, ◌++◌, map, take, length, get_or, Option, Some, None, refl, sym, ap, subst, ◌∙◌, inl, inr, append_assoc, arith}
 use mathlib.Core.Bool.{false≢true, not}
 use Rattle.std.specs.Prelude.{◌↔◌, All, IsTrue, if◌then◌else◌, option_map, slice_get}
 use Rattle.std.proofs.lemmas.Bool.{cases_lt}

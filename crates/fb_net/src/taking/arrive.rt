@@ -207,8 +207,8 @@ impl Taking<'_> {
         }
     }
 
-    // Fast path: with one variable, nothing is put together or walked over. Without it `towers` takes some 6 % more
-    // instructions an event.
+    // Fast path: one variable is neither put together nor walked over. Without it, and `emit_value` for emissions, an
+    // event of `towers` takes 13 % more instructions.
 
     /// As `take_samples`, where one variable is WITH the event.
     #[inline(always)]

@@ -263,19 +263,26 @@ impl Taking<'_> {
         Ok(())
     }
 
-    /// Emits output events of an instance in their order, as `emit_one` does. They leave their list, which keeps its
-    /// memory. The error is that memory runs out; each instance has its block then too.
+    /// Emits output events of an instance in their order, as `emit_one` does. What the list has then is open; it keeps
+    /// its memory. The error is that memory runs out; each instance has its block then too.
     pub(crate) fn emit_all(&mut self, instance: u32, emits: &mut Emits) -> Result<(), AllocError>
         requires index { MayEmit self.old instance }
         requires emissions { All (IsEmission (ports_in self.old instance)) emits.old }
         ensures emitted { OnOk result (EmitsWell self.old instance emits.old self.new) }
         ensures whole { StaysWhole self.old self.new }
     {
+        if let Some((event, value)) = emits.only() {
+            return self.emit_only(instance, event, value);
+        }
         while let Some(emission) = emits.pop_first() {
             self.emit_one(instance, emission)?;
         }
         Ok(())
     }
+
+    // Fast paths, for what most events emit: nothing is walked over, and a value is copied once, to where it stays. Without
+    // `emit_only` an event of `charts` takes 2 % more instructions; without `emit_value`, and `take_value` for samples, one
+    // of `towers` takes 13 %. An event that is only passed on is emitted by `emit_bare`.
 
     /// Emits one output event without values: it goes where its connections lead, and it has a line. Errors are as of
     /// `emit_one`.
@@ -359,5 +366,26 @@ impl Taking<'_> {
             values,
         });
         Ok(())
+    }
+
+    /// Emits one output event with one value, which is lent. Errors are as of `emit_one`.
+    #[inline(always)]
+    fn emit_only(&mut self, instance: u32, event: u32, value: &Value) -> Result<(), AllocError>
+        requires index { MayEmit self.old instance }
+        requires emission { IsEmission (ports_in self.old instance) (record { event = event; values = value.now ∷ [] }) }
+        ensures emitted { OnOk result (EmitsWell self.old instance (record { event = event; values = value.now ∷ [] } ∷ []) self.new) }
+        ensures whole { StaysWhole self.old self.new }
+    {
+        let from = Target {
+            instance,
+            event,
+            is_output: true,
+        };
+        let row = row_of(self.system, from);
+        if let With::One(variable, _) = &row.with {
+            return self.emit_value(instance, event, &row.first, *variable, value);
+        }
+        let values = Values::one(*self.outbox.lines.allocator(), *value);
+        self.emit_one(instance, Emission { event, values })
     }
 }

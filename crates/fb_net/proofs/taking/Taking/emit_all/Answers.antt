@@ -1,5 +1,7 @@
-use Rattle.std.proofs.Common.{◌++◌, ◌∷◌, [], ◌∙◌, List, ap, refl, sym, subst, append_assoc}
+use Rattle.std.proofs.Common.{◌++◌, ◌∷◌, [], ◌∙◌, List, ap, refl, sym, subst, append_assoc, arith}
 use Rattle.std.proofs.lemmas.List.{append-nil}
+use Rattle.std.proofs.lemmas.Result.{on_ok_weaker}
+use Rattle.std.specs.Prelude.{All}
 use Rattle.fb_types.specs.declared.run.Emission.{Emission}
 use Rattle.fb_types.specs.Headline.{Inputs, system_of}
 use Rattle.fb_types.specs.Numbers.{path_at, ports_at}
@@ -23,19 +25,19 @@ emit_one-requires-clause-index c = may-emit-again c.args.self.now c.loop-emissio
 
 pub emit_one-requires-clause-emission : goal.emit_one-requires-clause-emission
 emit_one-requires-clause-emission c =
-    let e = c.in-Some.emission in
+    let e = c.in-Some-pop_first.emission in
     let so_far = c.loop-emission.invariant in
-    let parts = so_far.parts ∙ ap (λ (rest : List Emission). so_far.done ++ rest) c.in-Some.ensures in
+    let parts = so_far.parts ∙ ap (λ (rest : List Emission). so_far.done ++ rest) c.in-Some-pop_first.ensures in
     still (λ (i : Inputs) (k : Key). IsEmission (ports_at (system_of i) (path_at (system_of i) c.args.instance)) e) c.args.self.now c.loop-emission.self so_far.whole.same
     (middle_fits (IsEmission (ports_in c.args.self.now c.args.instance)) so_far.done e c.pop_first.new.self c.args.emits.now parts c.requires.emissions)
 
 pub loop-emission-preserved : goal.loop-emission-preserved
 loop-emission-preserved c =
-    let e = c.in-Some.emission in
+    let e = c.in-Some-pop_first.emission in
     let so_far = c.loop-emission.invariant in
     record {
       done = so_far.done ++ e ∷ [];
-      parts = so_far.parts ∙ ap (λ (rest : List Emission). so_far.done ++ rest) c.in-Some.ensures ∙ sym (append_assoc so_far.done (e ∷ []) c.pop_first.new.self);
+      parts = so_far.parts ∙ ap (λ (rest : List Emission). so_far.done ++ rest) c.in-Some-pop_first.ensures ∙ sym (append_assoc so_far.done (e ∷ []) c.pop_first.new.self);
       emitted = emitted-after c.args.self.now c.loop-emission.self c.emit_one.new.self c.args.instance so_far.done (e ∷ []) so_far.whole.same so_far.emitted c.in_ok-emit_one.ensures.emitted;
       whole = whole-after c.args.self.now c.loop-emission.self c.emit_one.new.self so_far.whole c.emit_one.ensures.whole;
     }
@@ -47,7 +49,16 @@ pub returns-clause-emitted : goal.returns-clause-emitted
 returns-clause-emitted c =
     let so_far = c.loop-emission.invariant in
     subst (λ (es : List Emission). EmitsWell c.args.self.now c.args.instance es c.loop-emission.self)
-    (sym (so_far.parts ∙ ap (λ (rest : List Emission). so_far.done ++ rest) c.in_default.ensures ∙ append-nil so_far.done)) so_far.emitted
+    (sym (so_far.parts ∙ ap (λ (rest : List Emission). so_far.done ++ rest) c.in_default-pop_first.ensures ∙ append-nil so_far.done)) so_far.emitted
 
 pub returns-clause-whole : goal.returns-clause-whole
 returns-clause-whole c = c.loop-emission.invariant.whole
+
+-- the only emission
+pub emit_only-requires-clause-emission : goal.emit_only-requires-clause-emission
+emit_only-requires-clause-emission c =
+    subst (λ (es : List Emission). All (IsEmission (ports_in c.args.self.now c.args.instance)) es) c.in-Some.ensures c.requires.emissions 0 (record { event = c.in-Some.event; values = c.in-Some.value.now ∷ [] }) (omega arith)
+
+pub returns-in-Some-clause-emitted : goal.returns-in-Some-clause-emitted
+returns-in-Some-clause-emitted c =
+    on_ok_weaker c.emit_only.result (subst (λ (es : List Emission). EmitsWell c.args.self.now c.args.instance es c.emit_only.new.self) (sym c.in-Some.ensures)) c.emit_only.ensures.emitted

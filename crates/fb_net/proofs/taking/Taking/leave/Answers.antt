@@ -1,4 +1,4 @@
-use Rattle.std.proofs.Common.{◌<◌, cond, true, [], ◌∷◌, ap, length, refl, subst, arith}
+use Rattle.std.proofs.Common.{◌<◌, cond, [], ◌∷◌, length, refl, subst, arith}
 use Rattle.std.proofs.lemmas.Result.{on_ok_weaker}
 use Rattle.fb_types.specs.Headline.{system_of}
 use Rattle.fb_types.specs.Numbers.{path_at, ports_at}
