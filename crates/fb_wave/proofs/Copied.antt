@@ -278,7 +278,7 @@ fails_taken sys form number x y line input left old mid got is taken fault cut =
     goes_on sys ls sent cut.missing y.dump (shown_cut sys form number x y line cut.sent cut.missing input left old mid is taken cut.parts)
     in
     let some : 0 < length cut.missing = cut.short in
-    part_of sys ls (AtHorizon 0) old got sent (cut.missing ++ on.0) n (are_one sys form number x y line input left old mid is taken)
+    part_of sys ls (AtHorizon 0) old got sent (cut.missing ++ on.0) fault.written (are_one sys form number x y line input left old mid is taken)
     (Appends-trans old mid got is.sent cut.sent is.got cut.got) on.1 (rw length-append (omega arith))
     (count_more y.page.written is.sent cut.sent fault.written (ap bounded taken.kept ∙ is.counted) cut.counted)
 

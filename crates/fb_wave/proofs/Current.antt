@@ -32,10 +32,6 @@ split_first (b ∷ bs) = by (b == 10) refl (split_first bs)
     by false other rest =
         (rest.0, ap (λ (l : List ℕ). b ∷ l) rest.1 ∙ ap (λ (t : Bool). cond t (b ∷ []) (b ∷ take_through 10 bs) ++ rest.0) (sym other))
 
--- a writer that fails refuses nothing
-pub write_current : (sys : System) (text : Option (List ℕ)) (y : CurrentLine) (n : ℕ) → IsRefusedLine sys text y (Write n)
-write_current sys text y n = tt
-
 pub cut_current : (sys : System) (text old new : Option (List ℕ)) (x : Progress) (y : CurrentLine) (e : WaveError) → IsCutUnfinished sys x old new e → IsRefusedLine sys text y e
 cut_current sys text old new x y (Write n) fails = tt
 cut_current sys text old new x y Memory fails = tt

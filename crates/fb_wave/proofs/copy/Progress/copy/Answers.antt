@@ -10,7 +10,7 @@ use Rattle.fb_wave.proofs.Forming.{ShowsForm, form_shown}
 use Rattle.fb_wave.proofs.Handing.{ok_passed, on_fault, on_ok, on_passed}
 use Rattle.fb_wave.proofs.Severed.{blames_in, cut_blames, cut_fails, cut_shown, end_no_cut, fails_in, line_no_cut, read_blames, shown_in, uncut_line, write_blames}
 use Rattle.fb_wave.specs.CurrentLines.{IsRefusedLine}
-use Rattle.fb_wave.proofs.Current.{cut_current, end_current, line_current, write_current}
+use Rattle.fb_wave.proofs.Current.{cut_current, end_current, line_current}
 use Rattle.fb_wave.proofs.Unread.{read_current, read_writes_none}
 use Rattle.fb_wave.proofs.copy.Progress.copy.Goals as goal
 
@@ -222,7 +222,7 @@ returns-in_err-next_line-2-clause-current g c names =
 
 pub returns-in_err-flush_much-clause-current : goal.returns-in_err-flush_much-clause-current
 returns-in_err-flush_much-clause-current g c names =
-    on_passed _ _ _ c.from_residual-in_err-flush_much.ensures.1 (write_current _ _ _ c.in_err-flush_much.field-0.0.written)
+    on_passed _ _ _ c.from_residual-in_err-flush_much.ensures.1 tt
 
 pub returns-then-is_cut-clause-current : goal.returns-then-is_cut-clause-current
 returns-then-is_cut-clause-current g c names =
