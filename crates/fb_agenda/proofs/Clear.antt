@@ -8,7 +8,7 @@ use Rattle.fb_types.specs.declared.run.Event.{Event}
 use Rattle.fb_agenda.specs.Agendas.{Contents, IsClear, waiting}
 use Rattle.fb_agenda.specs.Moments.{IsPast}
 use Rattle.fb_agenda.specs.declared.moment.Moment.{Moment}
-use Rattle.fb_agenda.proofs.Apart.{precedes_tick}
+use Rattle.fb_agenda.proofs.Orders.{precedes_tick}
 use Rattle.fb_agenda.proofs.Moments.{either_tick, precedes_resource}
 
 only_later : (c : Contents) (j : Key) → c.running ≡ [] → lookup (same_key j) c.later ≡ None → waiting c j ≡ None

@@ -1,20 +1,19 @@
--- A calendar: its timers, and all its other events.
-use Rattle.std.proofs.Common.{◌≡◌, ◌≢◌, ℕ, Bool, true, false, cond, List, [], ◌++◌, refl, sym, ap, subst, ◌∙◌, Option, Some, None, Result, Ok, Err, ◌⊎◌, inl, inr}
-use Rattle.std.specs.Prelude.{IsSome, IfSome, IfNone, OnOk, OnErr, is_some, option_to_list}
+-- The events outside the queue: timers, and all others.
+use Rattle.std.proofs.Common.{◌||◌, ◌≡◌, ◌≢◌, Bool, true, false, cond, List, ◌++◌, refl, sym, subst, ◌∙◌, Option, Some, None, Result, Ok, Err, ◌⊎◌, inl, inr, ap}
+use Rattle.std.specs.Prelude.{OnOk, OnErr}
 use Rattle.std.specs.Map.{lookup}
-use Rattle.fb_types.specs.Keys.{Precedes, or_else, same_key}
+use Rattle.fb_types.specs.Keys.{same_key}
 use Rattle.fb_types.specs.declared.key.Key.{Key}
 use Rattle.fb_types.specs.declared.run.Event.{Event}
 use Rattle.fb_types.proofs.KeyLaws.{same_key_is}
-use Rattle.fb_types.proofs.Lookups.{or_else_none, or_else_nones}
-use Rattle.fb_agenda.specs.Agendas.{AreRising, IsFirst}
-use Rattle.fb_agenda.specs.Calendars.{AreKept, AreSplit, BeginsAt, Leads, Sets}
+use Rattle.fb_types.proofs.Lookups.{or_else_nones}
+use Rattle.fb_agenda.specs.Agendas.{AreRising}
+use Rattle.fb_agenda.specs.Laters.{AreKept}
+use Rattle.fb_agenda.specs.Lists.{IsPopped, Leads, Sets}
 use Rattle.fb_agenda.specs.Moments.{IsNoLater, IsQuiet}
 use Rattle.fb_agenda.specs.declared.moment.Moment.{Moment}
-use Rattle.fb_agenda.proofs.Calendars.{few_is_first, front_kept, front_left, front_sets, few_none, front_split, lookup_both, many_is_first, many_sets, many_split}
+use Rattle.fb_agenda.proofs.Lists.{few_popped_split, few_sets, few_split, lookup_both, many_popped_split, many_sets, many_split, popped_few, popped_many}
 use Rattle.fb_agenda.proofs.Moments.{quiet_gone, quiet_less, quiet_popped, quiet_put}
-use Rattle.fb_agenda.proofs.Orders.{not_none}
-use Rattle.fb_agenda.proofs.Timing.{none_sets}
 
 -- keys of this kind are still not there
 pub still_none : (P : Key → Type 0) (k : Key) (w : Option Event) (old new : List (Key × Event)) → Sets k w old new → ((j : Key) → P j → lookup (same_key j) old ≡ None)
@@ -26,170 +25,97 @@ still_none P k w old new sets none other j is = sets j ∙ go (same_key k j) ref
     go true same (inr never) = absurd (never (subst (λ (z : Key). P z) (sym (same_key_is k j same)) is))
     go false differs other = none j is
 
-module _ (timers others now_timers now_others : List (Key × Event)) (split : AreSplit timers others) (k : Key) where
-  -- ---- A key of the timers, which the others lose
+pub still_popped : (P : Key → Type 0) (old new : List (Key × Event)) (o : Option (Key × Event)) → IsPopped old new o → ((j : Key) → P j → lookup (same_key j) old ≡ None)
+    → (j : Key) → P j → lookup (same_key j) new ≡ None
+still_popped P old new None popped none j is = ap (lookup (same_key j)) popped.kept ∙ none j is
+still_popped P old new (Some f) popped none j is = still_none P f.0 None old new popped.left none (inl refl) j is
 
-  pub timer_sets : (w : Option Event) → Sets k w timers now_timers → Sets k None others now_others → Sets k w (timers ++ others) (now_timers ++ now_others)
-  timer_sets w here there j =
-      lookup_both j now_timers now_others ∙ ap (λ o. or_else o (lookup (same_key j) now_others)) (here j) ∙ ap (or_else (cond (same_key k j) w (lookup (same_key j) timers))) (there j) ∙ go (same_key k j)
-    where
-      go : (b : Bool) → or_else (cond b w (lookup (same_key j) timers)) (cond b None (lookup (same_key j) others)) ≡ cond b w (lookup (same_key j) (timers ++ others))
-      go true = or_else_none w
-      go false = sym (lookup_both j timers others)
+pub or_false : (a b : Bool) → (a || b) ≡ false → (a ≡ false) × (b ≡ false)
+or_false true b none = absurd cc
+or_false false b none = (refl, none)
 
-  pub timer_split : (w : Option Event) → Sets k w timers now_timers → Sets k None others now_others → AreRising now_timers → AreSplit now_timers now_others
-  timer_split w here there rising = record { rising = rising; apart = λ j some. there j ∙ go j some (same_key k j) refl }
-    where
-      go : (j : Key) → IsSome (lookup (same_key j) now_timers) → (b : Bool) → same_key k j ≡ b → cond b None (lookup (same_key j) others) ≡ None
-      go j some true same = refl
-      go j some false other = split.apart j (subst (λ o. IsSome o) (here j ∙ ap (λ b. cond b w (lookup (same_key j) timers)) other) some)
+module _ (timers others : List (Key × Event)) (f : Bool) (q : Moment) (kept : AreKept timers others f q) where
+  pub quieter : (r : Moment) → IsNoLater r q → AreKept timers others f r
+  quieter r less = record { split = kept.split; only = kept.only; untimed = kept.untimed; marked = kept.marked; quiet = quiet_less q r (timers ++ others) kept.quiet less }
 
-  -- ---- A key of the others, which the timers lose
+  -- ---- The first event is taken
 
-  pub other_sets : (w : Option Event) → Sets k None timers now_timers → Sets k w others now_others → Sets k w (timers ++ others) (now_timers ++ now_others)
-  other_sets w here there j =
-      lookup_both j now_timers now_others ∙ ap (λ o. or_else o (lookup (same_key j) now_others)) (here j) ∙ ap (or_else (cond (same_key k j) None (lookup (same_key j) timers))) (there j) ∙ go (same_key k j)
-    where
-      go : (b : Bool) → or_else (cond b None (lookup (same_key j) timers)) (cond b w (lookup (same_key j) others)) ≡ cond b w (lookup (same_key j) (timers ++ others))
-      go true = refl
-      go false = sym (lookup_both j timers others)
-
-  pub other_split : (w : Option Event) → Sets k None timers now_timers → Sets k w others now_others → AreRising now_timers → AreSplit now_timers now_others
-  other_split w here there rising = record { rising = rising; apart = λ j some. there j ∙ go j (same_key k j) (subst (λ o. IsSome o) (here j) some) }
-    where
-      go : (j : Key) (b : Bool) → IsSome (cond b None (lookup (same_key j) timers)) → cond b w (lookup (same_key j) others) ≡ None
-      go j true some = absurd (not_none {X = Event} None some refl)
-      go j false some = split.apart j some
-
--- ---- What holds of a calendar
-
-module _ (timers others : List (Key × Event)) (has_timer : Bool) (q : Moment) (kept : AreKept timers others has_timer q) (k : Key) where
-  pub no_timer : k.class ≢ 1 → Sets k None timers timers
-  no_timer other = none_sets k timers (kept.only k other)
-
-  pub no_other : has_timer ≡ false → k.class ≡ 1 → Sets k None others others
-  no_other unmarked timer = none_sets k others (kept.marked unmarked k timer)
-
-  pub quieter : (r : Moment) → IsNoLater r q → AreKept timers others has_timer r
-  quieter r less = record { split = kept.split; only = kept.only; marked = kept.marked; quiet = quiet_less q r (timers ++ others) kept.quiet less }
-
-  -- ---- An event is put among the others
-
-  pub put_kept : {A E : Type 0} (e : Event) (new : List (Key × Event)) (r m : Moment) → k.class ≢ 1 → IsNoLater r q → IsNoLater r m → m.tick ≡ k.tick → m.resource ≡ k.resource
-      → (o : Result A E) → OnOk o (Sets k (Some e) others new) → OnErr o (new ≡ others) → AreKept timers new has_timer r
-  put_kept e new r m other less later tick resource (Ok x) sets err = record {
-    split = other_split timers others timers new kept.split k (Some e) (no_timer other) sets kept.split.rising;
-    only = kept.only;
-    marked = λ unmarked. still_none (λ j. j.class ≡ 1) k (Some e) others new sets (kept.marked unmarked) (inr other);
-    quiet = quiet_put q r m k (Some e) (timers ++ others) (timers ++ new) kept.quiet less later tick resource (other_sets timers others timers new kept.split k (Some e) (no_timer other) sets);
-  }
-  put_kept e new r m other less later tick resource (Err x) sets err = subst (λ es. AreKept timers es has_timer r) (sym err) (quieter r less)
-
-  pub put_other : {A E : Type 0} (e : Event) (new : List (Key × Event)) → k.class ≢ 1 → (o : Result A E) → OnOk o (Sets k (Some e) others new) → OnOk o (Sets k (Some e) (timers ++ others) (timers ++ new))
-  put_other e new other (Ok x) sets = other_sets timers others timers new kept.split k (Some e) (no_timer other) sets
-  put_other e new other (Err x) sets = tt
-
-  pub absent_other : {A E : Type 0} → k.class ≢ 1 → (o : Result A E) → OnErr o (lookup (same_key k) others ≡ None) → OnErr o (k.class ≢ 1 → lookup (same_key k) (timers ++ others) ≡ None)
-  absent_other other (Ok x) none = tt
-  absent_other other (Err x) none = λ differs. lookup_both k timers others ∙ or_else_nones (lookup (same_key k) timers) (lookup (same_key k) others) (kept.only k other) none
-
-  -- an event of any kind is put under the key of a timer
-  pub aside_kept : (e : Event) (now_timers now_others : List (Key × Event)) (r m : Moment) → IsNoLater r q → IsNoLater r m → m.tick ≡ k.tick → m.resource ≡ k.resource
-      → Sets k None timers now_timers → AreRising now_timers → Sets k (Some e) others now_others → AreKept now_timers now_others true r
-  aside_kept e now_timers now_others r m less later tick resource here rising there = record {
-    split = other_split timers others now_timers now_others kept.split k (Some e) here there rising;
-    only = still_none (λ j. j.class ≢ 1) k None timers now_timers here kept.only (inl refl);
-    marked = λ unmarked. absurd cc;
-    quiet = quiet_put q r m k (Some e) (timers ++ others) (now_timers ++ now_others) kept.quiet less later tick resource (other_sets timers others now_timers now_others kept.split k (Some e) here there);
-  }
-
-  -- ---- A timer is set or cleared
-
-  pub timer_kept : (w : Option Event) (now_timers now_others : List (Key × Event)) (r : Moment) → (w ≡ None) ⊎ (k.class ≡ 1) → Sets k w timers now_timers → AreRising now_timers → Sets k None others now_others
-      → IsQuiet r (now_timers ++ now_others) → AreKept now_timers now_others has_timer r
-  timer_kept w now_timers now_others r either here rising there quiet = record {
-    split = timer_split timers others now_timers now_others kept.split k w here there rising;
-    only = still_none (λ j. j.class ≢ 1) k w timers now_timers here kept.only (no_other_kind either);
-    marked = λ unmarked. still_none (λ j. j.class ≡ 1) k None others now_others there (kept.marked unmarked) (inl refl);
-    quiet = quiet;
-  }
-    where
-      no_other_kind : (w ≡ None) ⊎ (k.class ≡ 1) → (w ≡ None) ⊎ (k.class ≢ 1 → ⊥)
-      no_other_kind (inl gone) = inl gone
-      no_other_kind (inr timer) = inr (λ differs. differs timer)
-
-  pub cleared_kept : (now_timers now_others : List (Key × Event)) → Sets k None timers now_timers → AreRising now_timers → Sets k None others now_others → AreKept now_timers now_others has_timer q
-  cleared_kept now_timers now_others here rising there =
-      timer_kept None now_timers now_others q (inl refl) here rising there
-      (quiet_gone q k (timers ++ others) (now_timers ++ now_others) kept.quiet (timer_sets timers others now_timers now_others kept.split k None here there))
-
-  pub set_kept : (e : Event) (now_timers now_others : List (Key × Event)) (r m : Moment) → k.class ≡ 1 → IsNoLater r q → IsNoLater r m → m.tick ≡ k.tick → m.resource ≡ k.resource
-      → Sets k (Some e) timers now_timers → AreRising now_timers → Sets k None others now_others → AreKept now_timers now_others has_timer r
-  set_kept e now_timers now_others r m timer less later tick resource here rising there =
-      timer_kept (Some e) now_timers now_others r (inr timer) here rising there
-      (quiet_put q r m k (Some e) (timers ++ others) (now_timers ++ now_others) kept.quiet less later tick resource (timer_sets timers others now_timers now_others kept.split k (Some e) here there))
-
--- ---- The first event
-
-module _ (timers others : List (Key × Event)) where
-  pub first_timer : Leads timers others → (o : Option Key) → IfSome o (IsFirst timers) → IfSome o (IsFirst (timers ++ others))
-  first_timer leads None first = tt
-  first_timer leads (Some k) first = few_is_first timers others leads k first
-
-  pub none_first : Leads timers others → (o : Option Key) → IfNone o (timers ≡ []) → IfNone o (timers ++ others ≡ [])
-  none_first leads None none = ap (λ es. es ++ others) none ∙ leads.none none
-  none_first leads (Some k) none = tt
-
-  pub none_other : Leads others timers → others ≡ [] → timers ++ others ≡ []
-  none_other leads none = ap (λ es. es ++ others) (leads.none none) ∙ none
-
-  begins_timers : Leads timers others → (t : ℕ) → BeginsAt t timers → BeginsAt t (timers ++ others)
-  begins_timers leads t begins some =
-      let first = begins (λ none. some (ap (λ es. es ++ others) none ∙ leads.none none)) in
-      (first.0, first.1, few_is_first timers others leads first.0 first.2)
-
-  begins_others : Leads others timers → (t : ℕ) → BeginsAt t others → BeginsAt t (timers ++ others)
-  begins_others leads t begins some =
-      let first = begins (λ none. some (none_other leads none)) in
-      (first.0, first.1, many_is_first timers others leads first.0 first.2)
-
-  pub begins_with_timer : Leads timers others → (t : ℕ) (o : Option (Key × Event)) → IfNone o (BeginsAt t timers) → IfNone o (BeginsAt t (timers ++ others))
-  begins_with_timer leads t None begins = begins_timers leads t begins
-  begins_with_timer leads t (Some p) begins = tt
-
-  pub begins_with_other : Leads others timers → (t : ℕ) (o : Option (Key × Event)) → IfNone o (BeginsAt t others) → IfNone o (BeginsAt t (timers ++ others))
-  begins_with_other leads t None begins = begins_others leads t begins
-  begins_with_other leads t (Some p) begins = tt
-
-  -- the first of the others, before all timers
-  pub none_before_other : Leads others timers → (o : Option (Key × Event)) → IfSome o (λ p. lookup (same_key p.0) others ≡ Some p.1)
-      → IfSome o (λ p. (j : Key) → Precedes j p.0 → lookup (same_key j) others ≡ None) → IfSome o (λ p. (j : Key) → Precedes j p.0 → lookup (same_key j) (timers ++ others) ≡ None)
-  none_before_other leads None value before = tt
-  none_before_other leads (Some p) value before = (many_is_first timers others leads p.0 (record { there = ap is_some value; none_before = before })).none_before
-
--- ---- The first event is taken
-
-module _ (timers others : List (Key × Event)) (has_timer : Bool) (q : Moment) (kept : AreKept timers others has_timer q) where
-  pub timer_popped : Leads timers others → (rest : List (Key × Event)) (o : Option (Key × Event)) → timers ≡ option_to_list o ++ rest → AreKept rest others has_timer q
-  timer_popped leads rest o items = record {
-    split = front_split timers others kept.split leads rest o items;
-    only = only_rest o items;
-    marked = kept.marked;
-    quiet = quiet_popped q (timers ++ others) (rest ++ others) kept.quiet o (front_left timers others kept.split leads rest o items) (front_kept timers rest others o items);
-  }
-    where
-      only_rest : (o : Option (Key × Event)) → timers ≡ option_to_list o ++ rest → (j : Key) → j.class ≢ 1 → lookup (same_key j) rest ≡ None
-      only_rest None items j other = ap (lookup (same_key j)) (sym items) ∙ kept.only j other
-      only_rest (Some f) items j other = still_none (λ j. j.class ≢ 1) f.0 None timers rest (front_sets timers others kept.split leads rest f items) kept.only (inl refl) j other
-
-  pub other_popped : (new : List (Key × Event)) (o : Option (Key × Event)) → IfSome o (λ p. lookup (same_key p.0) others ≡ Some p.1) → IfSome o (λ p. Sets p.0 None others new) → IfNone o (new ≡ others)
-      → AreKept timers new has_timer q
-  other_popped new None value sets same = subst (λ es. AreKept timers es has_timer q) (sym same) kept
-  other_popped new (Some p) value sets same =
-      let none = few_none timers others kept.split p.0 (ap is_some value) in
+  pub timer_popped : Leads timers others → (new : List (Key × Event)) (o : Option (Key × Event)) → AreRising new → IsPopped timers new o → AreKept new others f q
+  timer_popped leads new o rising popped =
+      let both = popped_few timers others kept.split leads new o popped in
       record {
-        split = many_split timers others kept.split p.0 None new sets none;
-        only = kept.only;
-        marked = λ unmarked. still_none (λ j. j.class ≡ 1) p.0 None others new sets (kept.marked unmarked) (inl refl);
-        quiet = quiet_gone q p.0 (timers ++ others) (timers ++ new) kept.quiet (many_sets timers others kept.split p.0 None new sets none);
+        split = few_popped_split timers others kept.split new o rising popped;
+        only = still_popped (λ j. j.class ≢ 1) timers new o popped kept.only;
+        untimed = kept.untimed;
+        marked = kept.marked;
+        quiet = quiet_popped q (timers ++ others) (new ++ others) kept.quiet o both.left both.kept;
       }
+
+  pub other_popped : Leads others timers → (new : List (Key × Event)) (o : Option (Key × Event)) → IsPopped others new o → AreKept timers new f q
+  other_popped leads new o popped =
+      let both = popped_many timers others kept.split leads new o popped in
+      record {
+        split = many_popped_split timers others kept.split new o popped;
+        only = kept.only;
+        untimed = still_popped (λ j. j.class ≡ 1) others new o popped kept.untimed;
+        marked = λ unmarked. still_popped (λ j. j.class ≡ 3) others new o popped (kept.marked unmarked);
+        quiet = quiet_popped q (timers ++ others) (timers ++ new) kept.quiet o both.left both.kept;
+      }
+
+  module _ (k : Key) where
+    -- ---- An event is put among the others, or removed from them
+
+    pub other_kept : (w : Option Event) (new : List (Key × Event)) (g : Bool) (r : Moment) → k.class ≢ 1 → (g ≡ false → (f ≡ false) × ((w ≡ None) ⊎ (k.class ≢ 3))) → Sets k w others new → IsQuiet r (timers ++ new)
+        → AreKept timers new g r
+    other_kept w new g r other unmarked sets quiet = record {
+      split = many_split timers others kept.split k w new sets (kept.only k other);
+      only = kept.only;
+      untimed = still_none (λ j. j.class ≡ 1) k w others new sets kept.untimed (inr other);
+      marked = λ none. let both = unmarked none in still_none (λ j. j.class ≡ 3) k w others new sets (kept.marked both.0) both.1;
+      quiet = quiet;
+    }
+
+    pub other_sets : (w : Option Event) (new : List (Key × Event)) → k.class ≢ 1 → Sets k w others new → Sets k w (timers ++ others) (timers ++ new)
+    other_sets w new other sets = many_sets timers others kept.split k w new sets (kept.only k other)
+
+    pub removed_kept : (new : List (Key × Event)) → k.class ≢ 1 → Sets k None others new → AreKept timers new f q
+    removed_kept new other sets = other_kept None new f q other (λ none. (none, inl refl)) sets (quiet_gone q k (timers ++ others) (timers ++ new) kept.quiet (other_sets None new other sets))
+
+    pub put_kept : {A E : Type 0} (e : Event) (new : List (Key × Event)) (local : Bool) (r m : Moment) → k.class ≢ 1 → (k.class ≡ 3 → local ≡ true) → IsNoLater r q → IsNoLater r m → m.tick ≡ k.tick → m.resource ≡ k.resource
+        → (o : Result A E) → OnOk o (Sets k (Some e) others new) → OnErr o (new ≡ others) → AreKept timers new (f || local) r
+    put_kept e new local r m other is less later tick resource (Ok x) sets err =
+        other_kept (Some e) new (f || local) r other (λ none. let both = or_false f local none in (both.0, inr (λ three. absurd (let clash : true ≡ false = sym (is three) ∙ both.1 in cc)))) sets (quiet_put q r m k (Some e) (timers ++ others) (timers ++ new) kept.quiet less later tick resource (other_sets (Some e) new other sets))
+    put_kept e new local r m other is less later tick resource (Err x) sets err =
+        let same = quieter r less in
+        subst (λ es. AreKept timers es (f || local) r) (sym err)
+        (record { split = same.split; only = same.only; untimed = same.untimed; marked = λ none. same.marked (or_false f local none).0; quiet = same.quiet })
+
+    pub put_other : {A E : Type 0} (e : Event) (new : List (Key × Event)) → k.class ≢ 1 → (o : Result A E) → OnOk o (Sets k (Some e) others new) → OnOk o (Sets k (Some e) (timers ++ others) (timers ++ new))
+    put_other e new other (Ok x) sets = other_sets (Some e) new other sets
+    put_other e new other (Err x) sets = tt
+
+    pub absent_other : {A E : Type 0} → k.class ≢ 1 → (o : Result A E) → OnErr o (lookup (same_key k) others ≡ None) → OnErr o (lookup (same_key k) (timers ++ others) ≡ None)
+    absent_other other (Ok x) none = tt
+    absent_other other (Err x) none = lookup_both k timers others ∙ or_else_nones (lookup (same_key k) timers) (lookup (same_key k) others) (kept.only k other) none
+
+    -- ---- A timer is set or cleared
+
+    pub timer_kept : (w : Option Event) (new : List (Key × Event)) (r : Moment) → k.class ≡ 1 → Sets k w timers new → AreRising new → IsQuiet r (new ++ others) → AreKept new others f r
+    timer_kept w new r timer sets rising quiet = record {
+      split = few_split timers others kept.split k w new sets rising (kept.untimed k timer);
+      only = still_none (λ j. j.class ≢ 1) k w timers new sets kept.only (inr (λ differs. differs timer));
+      untimed = kept.untimed;
+      marked = kept.marked;
+      quiet = quiet;
+    }
+
+    pub timer_sets : (w : Option Event) (new : List (Key × Event)) → k.class ≡ 1 → Sets k w timers new → Sets k w (timers ++ others) (new ++ others)
+    timer_sets w new timer sets = few_sets timers others kept.split k w new sets (kept.untimed k timer)
+
+    pub cleared_kept : (new : List (Key × Event)) → k.class ≡ 1 → Sets k None timers new → AreRising new → AreKept new others f q
+    cleared_kept new timer sets rising = timer_kept None new q timer sets rising (quiet_gone q k (timers ++ others) (new ++ others) kept.quiet (timer_sets None new timer sets))
+
+    pub set_kept : (e : Event) (new : List (Key × Event)) (r m : Moment) → k.class ≡ 1 → IsNoLater r q → IsNoLater r m → m.tick ≡ k.tick → m.resource ≡ k.resource
+        → Sets k (Some e) timers new → AreRising new → AreKept new others f r
+    set_kept e new r m timer less later tick resource sets rising =
+        timer_kept (Some e) new r timer sets rising (quiet_put q r m k (Some e) (timers ++ others) (new ++ others) kept.quiet less later tick resource (timer_sets (Some e) new timer sets))

@@ -3,12 +3,8 @@ pub mod Apart
 pub mod Timers
 pub mod Placing
 pub mod Moments
-pub mod Sooner
-pub mod Calendars
+pub mod Lists
 pub mod Clear
 pub mod Timing
 pub mod Keeping
-pub mod Ranks
-pub mod Places
 pub mod Queueing
-pub mod Moved

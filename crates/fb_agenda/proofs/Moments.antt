@@ -1,21 +1,21 @@
 -- The tick and the resource of keys, and where events wait by these.
-use Rattle.std.proofs.Common.{◌≡◌, ℕ, zero, suc, ◌<◌, ◌≤◌, Bool, true, false, cond, List, refl, sym, ap, subst, ◌∙◌, Option, Some, None, arith}
+use Rattle.std.proofs.Common.{◌≡◌, ltb, ℕ, zero, suc, ◌<◌, ◌≤◌, Bool, true, false, cond, List, refl, sym, ap, subst, ◌∙◌, Option, Some, None, arith}
 use Rattle.std.specs.Prelude.{IfSome, IfNone}
-use Rattle.std.specs.Bool.{OnTrue}
+use Rattle.std.specs.Bool.{OnFalse, OnTrue}
 use Rattle.std.specs.Map.{lookup}
 use Rattle.std.specs.Ordering.{nat_cmp, ordering_then}
 use Rattle.std.specs.declared.cmp.Ordering.TheVariants.{Less}
-use Rattle.std.proofs.lemmas.Bool.{lt-ltb}
+use Rattle.std.proofs.lemmas.Bool.{OnFalse_from, OnTrue_from, lt-ltb, ltb-false, ltb-true}
 use Rattle.fb_types.specs.Keys.{Precedes, same_key}
 use Rattle.fb_types.specs.declared.key.Key.{Key}
 use Rattle.fb_types.specs.declared.run.Event.{Event}
 use Rattle.fb_types.proofs.KeyLaws.{earlier_precedes, key_cmp_total, same_key_is}
 use Rattle.fb_types.proofs.Lookups.{cmp_equal}
 use Rattle.fb_agenda.specs.Agendas.{IsFirst}
-use Rattle.fb_agenda.specs.Calendars.{Sets}
+use Rattle.fb_agenda.specs.Lists.{Sets}
 use Rattle.fb_agenda.specs.Moments.{IsNoLater, IsPast, IsQuiet, IsSooner}
 use Rattle.fb_agenda.specs.declared.moment.Moment.{Moment}
-use Rattle.fb_agenda.proofs.Apart.{not_below, not_itself}
+use Rattle.fb_agenda.proofs.Orders.{not_below, not_itself}
 
 -- ---- The order of keys by tick and resource
 
@@ -98,3 +98,22 @@ past_of_quiet m q es sooner quiet = record {
 pub past_sooner : (b : Bool) (m q : Moment) (es : List (Key × Event)) → OnTrue b (IsSooner m q) → IsQuiet q es → OnTrue b (IsPast m es)
 past_sooner true m q es sooner quiet = past_of_quiet m q es sooner quiet
 past_sooner false m q es sooner quiet = tt
+
+-- ---- Which of two moments is the earlier
+
+pub no_later : (m n : Moment) → IsSooner m n → IsNoLater m n
+no_later m n sooner = record { tick = sooner.tick; resource = λ same. let less : m.resource < n.resource = sooner.resource same in omega arith }
+
+pub no_later_itself : (m : Moment) → IsNoLater m m
+no_later_itself m = record { tick = omega arith; resource = λ same. omega arith }
+
+-- by their resources, where the ticks are the same
+pub sooner_if : (m n : Moment) → m.tick ≡ n.tick → OnTrue (ltb m.resource n.resource) (IsSooner m n)
+sooner_if m n same =
+    OnTrue_from (ltb m.resource n.resource) (IsSooner m n)
+    (λ yes. let less : m.resource < n.resource = ltb-true m.resource n.resource yes in record { tick = omega arith; resource = λ at. less })
+
+pub later_if : (m n : Moment) → m.tick ≡ n.tick → OnFalse (ltb m.resource n.resource) (IsNoLater n m)
+later_if m n same =
+    OnFalse_from (ltb m.resource n.resource) (IsNoLater n m)
+    (λ no. let other : n.resource ≤ m.resource = ltb-false m.resource n.resource no in record { tick = omega arith; resource = λ at. other })

@@ -1,6 +1,6 @@
 -- Lists of events whose keys rise.
 use Rattle.std.proofs.Common.{◌≡◌, ℕ, zero, suc, ◌<◌, ◌≤◌, Bool, true, false, cond, List, [], ◌∷◌, ◌++◌, length, get_or, set, refl, sym, ap, subst, ◌∙◌, Option, Some, None, arith}
-use Rattle.std.specs.Prelude.{IsSome}
+use Rattle.std.specs.Prelude.{IsSome, is_some}
 use Rattle.std.specs.List.{AllByRecursion, insert}
 use Rattle.std.specs.List.Sorted.{IsStrictlySortedBy}
 use Rattle.std.specs.Map.{keys_of, lookup}
@@ -12,7 +12,10 @@ use Rattle.std.specs.declared.cmp.Ordering.TheVariants.{Less, Equal, Greater}
 use Rattle.std.proofs.lemmas.Cmp.{alike_right, eq_by_cmp_equiv, tied_back}
 use Rattle.fb_types.specs.Keys.{Precedes, key_cmp, same_key}
 use Rattle.fb_types.specs.declared.key.Key.{Key}
-use Rattle.fb_types.proofs.KeyLaws.{key_cmp_total, same_key_is}
+use Rattle.fb_types.specs.Keys.{or_else}
+use Rattle.fb_types.specs.declared.run.Event.{Event}
+use Rattle.fb_types.proofs.KeyLaws.{earlier_precedes, key_cmp_total, same_key_from, same_key_is, same_key_itself}
+use Rattle.fb_agenda.specs.Agendas.{AreRising, IsFirst}
 
 pub follows : (j k : Key) → Precedes j k → key_cmp k j ≡ Greater
 follows j k before = key_cmp_total.antisymm k j ∙ ap ordering_reverse before
@@ -197,3 +200,43 @@ searchable k (e ∷ es) rise zero zero d le within = omega arith
 searchable k (e ∷ es) rise zero (suc j) d le within = steps e.0 (get_or es j d).0 k (after_at e.0 es j d rise.0 (omega arith))
 searchable k (e ∷ es) rise (suc i) zero d le within = absurd (omega arith)
 searchable k (e ∷ es) rise (suc i) (suc j) d le within = searchable k es rise.1 i j d (omega arith) (omega arith)
+
+-- ---- The first key
+
+-- the first of those whose keys rise
+pub first_is : (es : List (Key × Event)) (k : Key) (d : Key × Event) → AreRising es → 0 < length es → k ≡ (get_or es 0 d).0 → IsFirst es k
+unfolding IsStrictlySortedBy
+first_is [] k d rise some is = absurd (omega arith)
+first_is (f ∷ es) k d rise some is = record {
+  there = ap (λ b. is_some (cond b (Some f.1) (lookup (same_key k) es))) (same_key_from k f.0 is);
+  none_before = λ j before. let first : Precedes j f.0 = subst (λ (z : Key). Precedes j z) is before in absent j (f ∷ es) (first, all_later j f.0 es first rise.0);
+}
+
+pub either_some : {X : Type 0} (o p : Option X) → IsSome p → IsSome (or_else o p)
+either_some None p there = there
+either_some (Some x) p there = refl
+
+pub first_some : {X : Type 0} (o p : Option X) → IsSome o → IsSome (or_else o p)
+first_some {X} None p there = absurd (not_none {X = X} None there refl)
+first_some (Some x) p there = refl
+
+pub before_both : (j k l : Key) → Precedes j k → is_lt (key_cmp l k) ≡ false → Precedes j l
+before_both j k l before not_less = go (key_cmp l k) refl
+  where
+    go : (r : Ordering) → key_cmp l k ≡ r → Precedes j l
+    go Less h =
+        let no : is_lt Less ≡ false = subst (λ o. is_lt o ≡ false) h not_less in
+        absurd cc
+    go Equal h = alike_right key_cmp_total l k j h ∙ before
+    go Greater h = key_cmp_total.trans j k l before (precedes l k h)
+
+pub not_below : (j k : ℕ) → (j < k → ⊥) → k ≤ j
+not_below j zero h = omega arith
+not_below zero (suc k) h = absurd (h (omega arith))
+not_below (suc j) (suc k) h = let rest = not_below j k (λ less. h (omega arith)) in omega arith
+
+pub not_itself : (j : Key) → Precedes j j → ⊥
+not_itself j before = let equal : is_eq Less ≡ true = subst (λ o. is_eq o ≡ true) before (same_key_itself j) in absurd cc
+
+pub precedes_tick : (j k : Key) → Precedes j k → j.tick ≤ k.tick
+precedes_tick j k before = not_below k.tick j.tick (λ less. not_itself j (key_cmp_total.trans j k j before (earlier_precedes k j less)))

@@ -14,8 +14,9 @@ use Rattle.fb_types.proofs.TakeLaws.{found-put}
 use Rattle.fb_agenda.specs.Agendas.{Contents, AreApart, waiting}
 use Rattle.fb_agenda.specs.Arrivals.{AreNew, HasKeys, KeepsOthers, LacksKeys, arrival_at, arrivals_at}
 use Rattle.fb_types.specs.declared.run.Event.{Event}
-use Rattle.fb_agenda.specs.Calendars.{Sets}
-use Rattle.fb_agenda.proofs.Apart.{either_some, first_some, queue_class}
+use Rattle.fb_agenda.specs.Lists.{Sets}
+use Rattle.fb_agenda.proofs.Apart.{queue_class}
+use Rattle.fb_agenda.proofs.Orders.{either_some, first_some}
 use Rattle.fb_agenda.proofs.Orders.{not_none}
 
 -- ---- One key more
@@ -64,11 +65,6 @@ found_there k v (e ∷ es) fs = first_some (found k (es ++ (k, v) ∷ fs)) (cond
 pub surely : {A E P : Type 0} (r : Result A E) (o : Option Event) → IsSome o → OnErr r (o ≡ None) → OnOk r P → P
 surely (Ok x) o there none p = p
 surely (Err x) o there none p = absurd (not_none o there none)
-
--- what holds of a failure on a condition that is met
-pub absent_where : {A E : Type 0} (P Q : Type 0) (r : Result A E) → P → OnErr r (P → Q) → OnErr r Q
-absent_where P Q (Ok x) p f = tt
-absent_where P Q (Err x) p f = f p
 
 -- one more message is under its key
 pub filled_more : (es : List (Key × Event)) (k : Key) (v : Event) (old mid new : List (Key × Event))
@@ -138,15 +134,14 @@ module _ (r : ℕ) where
 
   -- ---- The agenda
 
-  module _ (ms : List Message) (c : Contents) (marked : Bool) (apart : AreApart c marked) where
+  module _ (ms : List Message) (c : Contents) (apart : AreApart c) where
     no_local : (j : Key) → IsSome (found j (arrivals_at r ms)) → lookup (same_key j) c.running ≡ None
     no_local j there = apart.queue.local j (λ local. let two : j.class ≡ 2 = arrival_class ms j there in omega (arith, local, two))
 
-    pub kept_apart : (new : List (Key × Event)) → KeepsOthers (arrivals_at r ms) c.later new → AreApart (record { running = c.running; later = new; due = c.due }) marked
-    kept_apart new kept = record {
+    pub kept_apart : (new : List (Key × Event)) (due : List ℕ) → KeepsOthers (arrivals_at r ms) c.later new → AreApart (record { running = c.running; later = new; due = due })
+    kept_apart new due kept = record {
       queue = apart.queue;
       apart = λ j there. same j (queue_class c.running apart.queue j there) ∙ apart.apart j there;
-      marked = λ unmarked j local. same j local ∙ apart.marked unmarked j local;
     }
       where
         same : (j : Key) → j.class ≡ 3 → lookup (same_key j) new ≡ lookup (same_key j) c.later

@@ -1,12 +1,14 @@
 -- The queue of the running tick, as local events with the targets that it has.
-use Rattle.std.proofs.Common.{◌≡◌, ◌-◌, ℕ, zero, suc, ◌<◌, Bool, true, false, cond, List, [], ◌∷◌, ◌++◌, drop, length, get_or, set, refl, sym, ap, subst, ◌∙◌, Option, Some, None, Result, Ok, Err, arith}
+use Rattle.std.proofs.Common.{◌≡◌, ℕ, zero, suc, ◌<◌, Bool, true, false, cond, eqb, List, [], ◌∷◌, ◌++◌, length, get_or, refl, sym, ap, subst, ◌∙◌, Option, Some, None, Result, Ok, Err, arith}
 use Rattle.std.specs.Prelude.{IsSome, OnErr, OnOk, OnSome, map, option_map}
+use Rattle.std.specs.Bool.{OnTrue}
+use Rattle.std.proofs.lemmas.Bool.{eqb-true}
 use Rattle.std.specs.BTreeMap.{insert_entry}
 use Rattle.std.specs.List.{AllByRecursion, remove}
 use Rattle.std.specs.List.Sorted.{IsStrictlySortedBy}
 use Rattle.std.specs.Map.{keys_of, lookup}
 use Rattle.std.specs.Ordering.{nat_cmp, ordering_then}
-use Rattle.std.proofs.lemmas.List.{get_or-map, get_or_default, length-map, map-append}
+use Rattle.std.proofs.lemmas.List.{get_or-map, get_or_default, length-map, map-append, nil_from_length}
 use Rattle.fb_types.specs.Keys.{Precedes, key_cmp, local_key, same_key}
 use Rattle.fb_types.specs.declared.key.Key.{Key}
 use Rattle.fb_types.specs.declared.run.Event.{Event}
@@ -14,12 +16,11 @@ use Rattle.fb_types.specs.declared.run.Event.TheVariants.{Local}
 use Rattle.fb_types.specs.declared.run.Target.{Target}
 use Rattle.fb_types.proofs.Lookups.{cmp_equal}
 use Rattle.fb_agenda.specs.Agendas.{AreApart, AreRising, Contents, IsAt, IsFirst, IsQueue, MayFollow, event_of, keyed, local_events, waiting}
-use Rattle.fb_agenda.specs.Calendars.{IsIndexOf, Sets}
-use Rattle.fb_agenda.specs.Targets.{IsNumberAt}
-use Rattle.fb_agenda.proofs.Apart.{first_is, queue_apart, queue_class, queue_less, queue_more, queue_waits}
+use Rattle.fb_agenda.specs.Lists.{IsIndexOf, IsPopped, Sets}
+use Rattle.fb_agenda.proofs.Apart.{queue_apart, queue_class, queue_less, queue_more, queue_waits}
 use Rattle.fb_agenda.proofs.Moments.{number_less}
-use Rattle.fb_agenda.proofs.Calendars.{over_is, index_here, put_rises, put_sets, removed_rises, removed_sets}
-use Rattle.fb_agenda.proofs.Orders.{AllBefore, Rise, all_before, not_none, put_last}
+use Rattle.fb_agenda.proofs.Lists.{front_popped, index_here, put_rises, put_sets, removed_rises, removed_sets, rest_rises}
+use Rattle.fb_agenda.proofs.Orders.{AllBefore, Rise, all_before, first_is, not_none, put_last}
 
 -- ---- Targets and events
 
@@ -39,9 +40,6 @@ lookup_same j (t ∷ ts) = go (same_key j t.0) (lookup_same j ts)
     go true rest = refl
     go false rest = rest
 
-pub no_number : ℕ × Target
-no_number = (0, record { instance = 0; event = 0; is_output = false })
-
 no_target : Key × Target
 no_target = (local_key 0 0 0, record { instance = 0; event = 0; is_output = false })
 
@@ -55,20 +53,14 @@ indexed ts i k within there = record {
 pub index_within : (ts : List (Key × Target)) (k : Key) (i : ℕ) → IsIndexOf (local_events ts) k i → i < length ts
 index_within ts k i index = let same = length-map ts event_of in let within = index.within in omega (arith, same, within)
 
-pub within_numbers : (t r : ℕ) (es : List (ℕ × Target)) (i : ℕ) → i < length (map (keyed t r) es) → i < length es
-within_numbers t r es i within = let same = length-map es (keyed t r) in omega (arith, same, within)
-
 pub numbers_length : (t r : ℕ) (es : List (ℕ × Target)) (ts : List (Key × Target)) → map (keyed t r) es ≡ ts → length ts ≡ length es
 numbers_length t r es ts is = ap length (sym is) ∙ length-map es (keyed t r)
 
--- the number that is at an index
-pub number_there : (es : List (ℕ × Target)) (i : ℕ) → i < length es → IsNumberAt es i (get_or es i no_number).0
-number_there es i within = record { within = within; there = λ d. ap (λ (e : ℕ × Target). e.0) (get_or_default es i d no_number within) }
-
 -- the key of an event by its number
-pub key_of : (t r : ℕ) (es : List (ℕ × Target)) (i n : ℕ) (ts : List (Key × Target)) → map (keyed t r) es ≡ ts → IsNumberAt es i n → (d : Key × Target) → (get_or ts i d).0 ≡ local_key t r n
-key_of t r es i n ts is at d =
-    ap (λ l. (get_or l i d).0) (sym is) ∙ ap (λ (e : Key × Target). e.0) (get_or-map (keyed t r) es i no_number d at.within) ∙ ap (local_key t r) (at.there no_number)
+pub key_of : (t r : ℕ) (es : List (ℕ × Target)) (i : ℕ) (e : ℕ × Target) (ts : List (Key × Target)) → map (keyed t r) es ≡ ts → i < length es → e ≡ get_or es i e → (d : Key × Target)
+    → (get_or ts i d).0 ≡ local_key t r e.0
+key_of t r es i e ts is within at d =
+    ap (λ l. (get_or l i d).0) (sym is) ∙ ap (λ (x : Key × Target). x.0) (get_or-map (keyed t r) es i e d within) ∙ ap (λ (x : ℕ × Target). local_key t r x.0) (sym at)
 
 -- no event of the queue has the key
 pub absent_all : (k : Key) (ts : List (Key × Target)) → ((j : ℕ) (d : Key × Target) → j < length ts → same_key k (get_or ts j d).0 ≡ false) → lookup (same_key k) (local_events ts) ≡ None
@@ -78,16 +70,11 @@ absent_all k (t ∷ ts) none =
 
 -- ---- The first
 
-pub first_number : (t r : ℕ) (es : List (ℕ × Target)) (n : ℕ) → AreRising (local_events (map (keyed t r) es)) → IsNumberAt es 0 n
-    → IsFirst (local_events (map (keyed t r) es)) (local_key t r n)
-first_number t r [] n rising at = let some = at.within in absurd (omega (arith, some))
-first_number t r (x ∷ es) n rising at =
-    first_is (local_events (map (keyed t r) (x ∷ es))) (local_key t r n) (event_of (keyed t r x)) rising (omega arith) (ap (local_key t r) (sym (at.there x)))
-
--- the event with which the queue begins is its first
-pub begins_first : (ts : List (Key × Target)) (e : Key × Target) → AreRising (local_events ts) → ts ≡ e ∷ drop 1 ts → IsFirst (local_events ts) e.0
-begins_first ts e rising is =
-    subst (λ l. IsFirst (local_events l) e.0) (sym is) (first_is (local_events (e ∷ drop 1 ts)) e.0 (event_of e) (subst (λ l. AreRising (local_events l)) is rising) (omega arith) refl)
+pub first_number : (t r : ℕ) (es : List (ℕ × Target)) (e : ℕ × Target) → AreRising (local_events (map (keyed t r) es)) → 0 < length es → e ≡ get_or es 0 e
+    → IsFirst (local_events (map (keyed t r) es)) (local_key t r e.0)
+first_number t r [] e rising some at = absurd (omega (arith, some))
+first_number t r (x ∷ es) e rising some at =
+    first_is (local_events (map (keyed t r) (x ∷ es))) (local_key t r e.0) (event_of (keyed t r x)) rising (omega arith) (ap (λ (z : ℕ × Target). local_key t r z.0) at)
 
 -- ---- What follows the last
 
@@ -114,14 +101,11 @@ follows_last ts k last n d queue local count is tick resource less =
     at e = ap (λ (t : Key × Target). t.0) (get_or_default ts n e d (omega (arith, count))) ∙ is
 
 -- an event of the same tick and resource with a later number than the last
-pub follows_number : (t r : ℕ) (es : List (ℕ × Target)) (number last : ℕ) → IsQueue (local_events (map (keyed t r) es)) → IsNumberAt es (length es - 1) last → last < number
+pub follows_number : (t r : ℕ) (es : List (ℕ × Target)) (n number : ℕ) (last : ℕ × Target) → IsQueue (local_events (map (keyed t r) es)) → length es ≡ suc n → last ≡ get_or es n last → last.0 < number
     → MayFollow (local_events (map (keyed t r) es)) (local_key t r number)
-follows_number t r es number last queue at less =
-    let n = length es - 1 in
-    let within = at.within in
-    let count : length es ≡ suc n = omega (arith, within) in
-    follows_last (map (keyed t r) es) (local_key t r number) (local_key t r last) n (keyed t r no_number) queue refl (length-map es (keyed t r) ∙ count)
-    (ap (λ (x : Key × Target). x.0) (get_or-map (keyed t r) es n no_number (keyed t r no_number) within) ∙ ap (local_key t r) (at.there no_number)) refl refl less
+follows_number t r es n number last queue count at less =
+    follows_last (map (keyed t r) es) (local_key t r number) (local_key t r last.0) n (keyed t r last) queue refl (length-map es (keyed t r) ∙ count)
+    (ap (λ (x : Key × Target). x.0) (get_or-map (keyed t r) es n last (keyed t r last) (omega (arith, count))) ∙ ap (λ (x : ℕ × Target). local_key t r x.0) (sym at)) refl refl less
 
 pub all_at : (t r : ℕ) (es : List (ℕ × Target)) → AllByRecursion (IsAt t r) (map (keyed t r) es)
 all_at t r [] = tt
@@ -150,63 +134,28 @@ module _ (ts new : List (Key × Target)) (k : Key) (t : Target) (queue : IsQueue
   pub pushed_queue : IsQueue (local_events new)
   pushed_queue = queue_more (local_events ts) (local_events new) k queue (put_rises (local_events ts) (local_events new) k (Local t) queue.rising put_is) (Local t) local may.tick pushed_sets
 
-module _ (ts new : List (Key × Target)) (later : List (Key × Event)) (due : List ℕ) (marked : Bool) (k : Key) (t : Target)
-    (apart : AreApart (record { running = local_events ts; later = later; due = due }) marked) (local : k.class ≡ 3) (may : MayFollow (local_events ts) k) (alone : lookup (same_key k) later ≡ None) where
+module _ (ts new : List (Key × Target)) (later : List (Key × Event)) (due : List ℕ) (k : Key) (t : Target)
+    (apart : AreApart (record { running = local_events ts; later = later; due = due })) (local : k.class ≡ 3) (may : MayFollow (local_events ts) k) (alone : lookup (same_key k) later ≡ None) where
   abbrev before : Contents
   before = record { running = local_events ts; later = later; due = due }
 
-  pub put_now_apart : {A E : Type 0} (r : Result A E) → OnOk r (new ≡ ts ++ (k, t) ∷ []) → OnErr r (new ≡ ts) → AreApart (record { running = local_events new; later = later; due = due }) marked
+  pub put_now_apart : {A E : Type 0} (r : Result A E) → OnOk r (new ≡ ts ++ (k, t) ∷ []) → OnErr r (new ≡ ts) → AreApart (record { running = local_events new; later = later; due = due })
   put_now_apart (Ok x) ok err =
-      queue_apart before marked apart k (Some (Local t)) (local_events new) (pushed_sets ts new k t apart.queue local may ok) alone (pushed_queue ts new k t apart.queue local may ok)
-  put_now_apart (Err x) ok err = subst (λ l. AreApart (record { running = local_events l; later = later; due = due }) marked) (sym err) apart
+      queue_apart before apart k (Some (Local t)) (local_events new) (pushed_sets ts new k t apart.queue local may ok) alone (pushed_queue ts new k t apart.queue local may ok)
+  put_now_apart (Err x) ok err = subst (λ l. AreApart (record { running = local_events l; later = later; due = due })) (sym err) apart
 
   pub put_now_waits : {A E : Type 0} (r : Result A E) → OnOk r (new ≡ ts ++ (k, t) ∷ [])
       → OnOk r ((j : Key) → waiting (record { running = local_events new; later = later; due = due }) j ≡ cond (same_key k j) (Some (Local t)) (waiting (record { running = local_events ts; later = later; due = due }) j))
-  put_now_waits (Ok x) ok = queue_waits before marked apart k (Some (Local t)) (local_events new) (pushed_sets ts new k t apart.queue local may ok) alone
+  put_now_waits (Ok x) ok = queue_waits before apart k (Some (Local t)) (local_events new) (pushed_sets ts new k t apart.queue local may ok) alone
   put_now_waits (Err x) ok = tt
 
--- an event replaces another
-set_same : (ts : List (Key × Target)) (i : ℕ) (t : Key × Target) → local_events (set ts i t) ≡ set (local_events ts) i (event_of t)
-set_same [] i t = refl
-set_same (x ∷ ts) zero t = refl
-set_same (x ∷ ts) (suc i) t = ap (λ es. event_of x ∷ es) (set_same ts i t)
-
-map_set : (t r : ℕ) (es : List (ℕ × Target)) (i : ℕ) (e : ℕ × Target) → map (keyed t r) (set es i e) ≡ set (map (keyed t r) es) i (keyed t r e)
-map_set t r [] i e = refl
-map_set t r (x ∷ es) zero e = refl
-map_set t r (x ∷ es) (suc i) e = ap (λ l. keyed t r x ∷ l) (map_set t r es i e)
-
-pub target_set : (t r : ℕ) (es : List (ℕ × Target)) (i : ℕ) (k : Key) (x : Target) (number : ℕ) → i < length es → IsIndexOf (local_events (map (keyed t r) es)) k i → (get_or es i no_number).0 ≡ number
-    → map (keyed t r) (set es i (number, x)) ≡ set (map (keyed t r) es) i (k, x)
-target_set t r es i k x number within index is =
-    let same = length-map es (keyed t r) in
-    let here : i < length (map (keyed t r) es) = omega (arith, same, within) in
-    let key : k ≡ local_key t r number = sym (index.there (event_of no_target)) ∙ ap (λ (e : Key × Event). e.0) (get_or-map event_of (map (keyed t r) es) i no_target (event_of no_target) here)
-    ∙ ap (λ (e : Key × Target). e.0) (get_or-map (keyed t r) es i no_number no_target within) ∙ ap (local_key t r) is in
-    map_set t r es i (number, x) ∙ ap (λ (z : Key). set (map (keyed t r) es) i (z, x)) (sym key)
-
+-- an event is removed
 pub number_removed : (t r : ℕ) (es : List (ℕ × Target)) (i : ℕ) → map (keyed t r) (remove es i) ≡ remove (map (keyed t r) es) i
 number_removed t r [] zero = refl
 number_removed t r [] (suc i) = refl
 number_removed t r (e ∷ es) zero = refl
 number_removed t r (e ∷ es) (suc i) = ap (λ l. keyed t r e ∷ l) (number_removed t r es i)
 
-module _ (ts new : List (Key × Target)) (k : Key) (i : ℕ) (t : Target) (queue : IsQueue (local_events ts)) (index : IsIndexOf (local_events ts) k i) (is : new ≡ set ts i (k, t)) where
-  over_same : local_events new ≡ insert_entry key_cmp (local_events ts) k (Local t)
-  over_same = ap local_events is ∙ set_same ts i (k, t) ∙ over_is (local_events ts) k (Local t) i queue.rising index
-
-  pub here : IsSome (lookup (same_key k) (local_events ts))
-  here = index_here (local_events ts) k i index.within index.there
-
-  pub set_sets : Sets k (Some (Local t)) (local_events ts) (local_events new)
-  set_sets = put_sets (local_events ts) (local_events new) k (Local t) over_same
-
-  pub set_queue : IsQueue (local_events new)
-  set_queue =
-      queue_more (local_events ts) (local_events new) k queue (put_rises (local_events ts) (local_events new) k (Local t) queue.rising over_same) (Local t)
-      (queue_class (local_events ts) queue k here) (λ j there. queue.tick j k there here) set_sets
-
--- an event is removed
 remove_same : (ts : List (Key × Target)) (i : ℕ) → local_events (remove ts i) ≡ remove (local_events ts) i
 remove_same [] zero = refl
 remove_same [] (suc i) = refl
@@ -222,6 +171,28 @@ module _ (ts new : List (Key × Target)) (k : Key) (i : ℕ) (queue : IsQueue (l
 
   pub gone_queue : IsQueue (local_events new)
   gone_queue = queue_less (local_events ts) (local_events new) k queue (subst (λ es. AreRising es) (sym gone_is) (removed_rises (local_events ts) i queue.rising)) gone_sets
+
+-- the first event is taken
+module _ (t r : ℕ) (old new : List (ℕ × Target)) (p : ℕ × Target) (ts : List (Key × Target)) (k : Key) (e : Event)
+    (view : map (keyed t r) old ≡ ts) (rising : AreRising (local_events ts)) (items : old ≡ p ∷ new) (key : k ≡ local_key t r p.0) (event : e ≡ Local p.1) where
+  abbrev rest : List (Key × Event)
+  rest = local_events (map (keyed t r) new)
+
+  first_of : local_events ts ≡ (k, e) ∷ rest
+  first_of =
+      ap local_events (sym view) ∙ ap (λ es. local_events (map (keyed t r) es)) items ∙ ap (λ (z : Key). (z, Local p.1) ∷ rest) (sym key)
+      ∙ ap (λ (z : Event). (k, z) ∷ rest) (sym event)
+
+  pub number_popped : IsPopped (local_events ts) rest (Some (k, e))
+  number_popped = front_popped (local_events ts) rest rising (Some (k, e)) first_of
+
+  pub number_rises : AreRising rest
+  number_rises = rest_rises (local_events ts) rest rising (Some (k, e)) first_of
+
+-- whether there is none
+pub empty_if : (b : Bool) (n : ℕ) (t r : ℕ) (es : List (ℕ × Target)) (ts : List (Key × Target)) → map (keyed t r) es ≡ ts → b ≡ eqb n 0 → length es ≡ n → OnTrue b (ts ≡ [])
+empty_if false n t r es ts view is count = tt
+empty_if true n t r es ts view is count = sym view ∙ ap (map (keyed t r)) (nil_from_length es (count ∙ eqb-true n 0 (sym is)))
 
 -- what holds of a result that is there
 pub where_some : {A P : Type 0} (o : Option A) → IsSome o → OnSome o P → P

@@ -1,4 +1,4 @@
--- The timers on the agenda.
+-- Timers that wait on an agenda.
 use Rattle.std.proofs.Common.{◌≡◌, ◌≢◌, ℕ, ◌<◌, Bool, true, false, cond, eqb, ◌&&◌, List, length, refl, sym, ap, subst, ◌∙◌, Option, Some, None, Result, Ok, Err, get_or-set_same, get_or-set_other}
 use Rattle.std.specs.Prelude.{slice_index, slice_set, OnOk}
 use Rattle.std.specs.Cmp.{first_so, second_so}

@@ -1,4 +1,4 @@
--- The timers of a calendar, as events under their keys.
+-- Timers, as events under their keys.
 use Rattle.std.proofs.Common.{◌≡◌, ℕ, zero, suc, ◌<◌, ◌≤◌, Bool, true, false, cond, List, [], ◌∷◌, ◌++◌, length, get_or, set, refl, sym, ap, subst, ◌∙◌, Option, Some, None, arith}
 use Rattle.std.specs.Prelude.{option_map, option_to_list}
 use Rattle.std.specs.List.{insert, remove}
@@ -13,11 +13,11 @@ use Rattle.fb_types.specs.declared.run.Event.{Event}
 use Rattle.fb_types.specs.declared.run.Event.TheVariants.{Timer}
 use Rattle.fb_types.proofs.KeyLaws.{same_key_is}
 use Rattle.fb_agenda.specs.Agendas.{AreRising, IsFirst}
-use Rattle.fb_agenda.specs.Calendars.{Sets}
+use Rattle.fb_agenda.specs.Lists.{Sets}
 use Rattle.fb_agenda.specs.Timing.{timer_event, timer_events}
 use Rattle.fb_agenda.specs.declared.timer_row.Timed.{Timed}
-use Rattle.fb_agenda.proofs.Apart.{first_is}
-use Rattle.fb_agenda.proofs.Calendars.{absent_before, absent_between, removed_rises, removed_sets}
+use Rattle.fb_agenda.proofs.Orders.{first_is}
+use Rattle.fb_agenda.proofs.Lists.{absent_before, absent_between, removed_rises, removed_sets}
 use Rattle.fb_agenda.proofs.Orders.{AllBefore, all_before, put_between, put_last, put_over, searchable}
 
 -- ---- Lists of timers and of events

@@ -1,5 +1,5 @@
 -- What an agenda contains, and what its timers must be (this project's profile).
-use Rattle.std.specs.Prelude.{◌≡◌, ◌≢◌, ◌<◌, ◌≤◌, ℕ, Bool, true, false, List, Option, Some, None, IsSome, if◌then◌else◌, map, slice_index}
+use Rattle.std.specs.Prelude.{◌≡◌, ◌≢◌, ◌<◌, ◌≤◌, ℕ, true, List, Option, Some, None, IsSome, if◌then◌else◌, map, slice_index}
 use Rattle.std.specs.List.{AllByRecursion}
 use Rattle.std.specs.List.Sorted.{IsStrictlySortedBy}
 use Rattle.std.specs.Map.{keys_of, lookup}
@@ -21,6 +21,10 @@ pub record Contents : Type 0 where
 -- what waits under a key
 abbrev pub waiting : Contents → Map Event
 waiting c j = or_else (lookup (same_key j) c.running) (lookup (same_key j) c.later)
+
+-- an event was put under a key
+abbrev pub IsPut : (old new : Contents) → Key → Event → Type 0
+IsPut old new k e = (j : Key) → waiting new j ≡ (if same_key k j then Some e else waiting old j)
 
 -- the keys of a list rise
 abbrev pub AreRising : List (Key × Event) → Type 0
@@ -54,11 +58,10 @@ pub record MayFollow (es : List (Key × Event)) (k : Key) : Type 0 where
   pub before : AllByRecursion (λ j. Precedes j k) (keys_of es)
   pub tick : (j : Key) → IsSome (lookup (same_key j) es) → j.tick ≡ k.tick
 
--- No key of the queue is among the others. If these are not marked as containing a local event, they contain none.
-pub record AreApart (c : Contents) (has_local : Bool) : Type 0 where
+-- The queue is one of a tick, and none of its keys is among the others.
+pub record AreApart (c : Contents) : Type 0 where
   pub queue : IsQueue c.running
   pub apart : (j : Key) → IsSome (lookup (same_key j) c.running) → lookup (same_key j) c.later ≡ None
-  pub marked : has_local ≡ false → (j : Key) → j.class ≡ 3 → lookup (same_key j) c.later ≡ None
 
 -- The list has the key, and none before it.
 pub record IsFirst (es : List (Key × Event)) (k : Key) : Type 0 where

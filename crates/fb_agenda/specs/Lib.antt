@@ -1,8 +1,8 @@
 pub mod Agendas
 pub mod Arrivals
-pub mod Calendars
 pub mod Inside
+pub mod Laters
+pub mod Lists
 pub mod Moments
 pub mod Slots
-pub mod Targets
 pub mod Timing

@@ -1,12 +1,10 @@
 -- The tick and the resource of keys, and where events wait by these (this project's profile).
-use Rattle.std.specs.Prelude.{◌≡◌, ◌<◌, ◌≤◌, List, None, IsSome}
+use Rattle.std.specs.Prelude.{◌≡◌, ◌<◌, ◌≤◌, List, None}
 use Rattle.std.specs.Map.{lookup}
 use Rattle.fb_types.specs.Keys.{same_key}
 use Rattle.fb_types.specs.declared.key.Key.{Key}
 use Rattle.fb_types.specs.declared.run.Event.{Event}
-use Rattle.fb_agenda.specs.Agendas.{IsFirst}
 use Rattle.fb_agenda.specs.declared.moment.Moment.{Moment}
-use Rattle.fb_agenda.specs.declared.moment.Rank.{Rank}
 
 -- The first moment comes before the second.
 pub record IsSooner (m n : Moment) : Type 0 where
@@ -31,19 +29,3 @@ pub record IsQuiet (m : Moment) (es : List (Key × Event)) : Type 0 where
 pub record IsPast (m : Moment) (es : List (Key × Event)) : Type 0 where
   pub below : (j : Key) → j.tick < m.tick → lookup (same_key j) es ≡ None
   pub up_to : (j : Key) → j.tick ≡ m.tick → j.resource ≤ m.resource → lookup (same_key j) es ≡ None
-
--- The first event has an earlier class than local ones, and waits at this moment or before.
-pub record IsLed (m : Moment) (es : List (Key × Event)) : Type 0 where
-  pub key : Key
-  pub first : IsFirst es key
-  pub moment : IsNoLater (moment_of key) m
-  pub class : key.class < 3
-
--- An event of this rank waits, and none before its moment.
-pub record HasRank (es : List (Key × Event)) (r : Rank) : Type 0 where
-  pub key : Key
-  pub tick : key.tick ≡ r.moment.tick
-  pub resource : key.resource ≡ r.moment.resource
-  pub class : key.class ≡ r.class
-  pub there : IsSome (lookup (same_key key) es)
-  pub quiet : IsQuiet r.moment es

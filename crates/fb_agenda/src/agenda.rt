@@ -1,31 +1,27 @@
 //! The events that wait, under their keys.
 
-ghost use Rattle.std.specs.Prelude.{◌≡◌, ◌<◌, ◌++◌, ◌∷◌, ℕ, List, [], if◌then◌else◌, length, Some, None, IfSome, IfNone, IfOk, IfErr, OnOk, OnErr, slice_set};
+ghost use Rattle.std.specs.Prelude.{◌≡◌, ◌<◌, length, if◌then◌else◌, slice_set, None, IfSome, IfNone, IfOk, IfErr, OnOk, OnErr, Some};
 ghost use Rattle.std.specs.Bool.{OnFalse, OnTrue};
-ghost use Rattle.std.specs.Map.{lookup};
-ghost use Rattle.fb_types.specs.Keys.{Precedes, changed_to, found, local_key, or_else, same_key, timer_key};
+ghost use Rattle.fb_types.specs.Keys.{Precedes, changed_to, found, local_key, or_else, same_key, stimulus_key, timer_key};
 ghost use Rattle.fb_types.specs.Takes.{is_timer_of};
-ghost use Rattle.fb_types.specs.declared.run.Event.TheVariants.{Arrival, Local, Timer};
-ghost use Rattle.fb_types.specs.declared.run.Message.{Message as Sent};
-ghost use Rattle.fb_agenda.specs.Agendas.{waiting, AreRising, IsClear, IsNext, IsTimed, IsInResource, local_events, timer_set};
-ghost use Rattle.fb_agenda.specs.Arrivals.{AreNew, arrivals_at};
-ghost use Rattle.fb_agenda.specs.Calendars.{BeginsAt, Leads, Sets};
-ghost use Rattle.fb_agenda.specs.Slots.{taken};
+ghost use Rattle.fb_types.specs.declared.run.Event.TheVariants.{Arrival, Local, Stimulus, Timer};
+ghost use Rattle.fb_agenda.specs.Agendas.{waiting, AreRising, IsClear, IsNext, IsPut, IsTimed, IsInResource, local_events, timer_set};
+ghost use Rattle.fb_agenda.specs.Arrivals.{AreNew, arrival_at, arrivals_at};
+ghost use Rattle.fb_agenda.specs.Lists.{Leads};
+ghost use Rattle.fb_agenda.specs.Slots.{IsRaised};
 
 use crate::arrivals;
-use crate::calendar::{Calendar, Lead};
 use crate::later::Later;
 use crate::least::Least;
-use crate::moment::{ARRIVAL, Moment};
-use crate::queue::{self, Queue};
+use crate::moment::Moment;
+use crate::queue::Queue;
 use fb_types::{Event, Key, Message, Target, TimerAsk};
 use std::alloc::{AllocError, Global};
 use std::marker::Model;
-use std::mem;
 
 /// The events that wait, at most one under each key, and the ticks at which the timers of the instances go off.
 pub struct Agenda {
-    /// All events that are not in `now`.
+    /// Stimuli, timers and messages.
     later: Later,
     /// The queue of the running tick: local events in rising order of their keys, all of one tick. `later` has none of
     /// these keys.
@@ -48,48 +44,25 @@ impl Model for Agenda {
 
     ghost view = { contents_of };
 
-    ghost invariant = { λ a. AreApart (contents_of a) a.later.has_local };
+    ghost invariant = { λ a. AreApart (contents_of a) };
 }
 
-/// Whether the queue has an event, and it is known that no event of `later` comes before its first.
+/// Whether the queue has an event, and no other event comes before its first.
 #[inline(always)]
-fn is_now_noted(now: &Queue, later: &Calendar) -> bool
+fn is_now_first(now: &Queue, later: &mut Later) -> bool
     requires { AreRising (local_events now.now) }
-    ensures { OnTrue result (Leads (local_events now.now) later.now) }
+    ensures running { OnTrue result (Leads (local_events now.now) later.old.events) }
+    ensures later { OnFalse result (Leads later.old.events (local_events now.now)) }
+    ensures kept { later.new ≡ later.old }
 {
     let Some(first) = now.first() else {
         return false;
     };
-    later.is_past(Moment::of(&first))
-}
-
-/// Whether the queue has an event, and no event of `later` comes before its first, by comparing the first keys of both.
-fn is_now_less(now: &Queue, later: &Calendar) -> bool
-    requires { AreRising (local_events now.now) }
-    ensures running { OnTrue result (Leads (local_events now.now) later.now) }
-    ensures later { OnFalse result (Leads later.now (local_events now.now)) }
-{
-    let Some(first) = now.first() else {
-        return false;
-    };
-    let Some(other) = later.first() else {
+    // Mostly no other event waits at the running tick in this resource or before.
+    if later.is_past(Moment::of(&first)) {
         return true;
-    };
-    first < other
-}
-
-/// Takes the first event of the calendar, if its tick is below the horizon, and moves it into the slot. Returns whether
-/// it did.
-#[inline(always)]
-fn pop_later(later: &mut Calendar, horizon: u64, slot: &mut Least) -> bool
-    ensures value { IfSome (taken result slot.new) (λ r. lookup (same_key r.0) later.old ≡ Some r.1) }
-    ensures none_before { IfSome (taken result slot.new) (λ r. (j : Key) → Precedes j r.0 → lookup (same_key j) later.old ≡ None) }
-    ensures left { IfSome (taken result slot.new) (λ r. Sets r.0 None later.old later.new) }
-    ensures below { IfSome (taken result slot.new) (λ r. r.0.tick < horizon) }
-    ensures none { IfNone (taken result slot.new) (BeginsAt horizon later.old) }
-    ensures kept { IfNone (taken result slot.new) (later.new ≡ later.old) }
-{
-    later.pop_into(horizon, slot)
+    }
+    later.comes_after(&first)
 }
 
 impl Agenda {
@@ -98,13 +71,8 @@ impl Agenda {
         ensures empty { (j : Key) → waiting result j ≡ None }
         ensures due { result.due ≡ due.items }
     {
-        let later = Later {
-            events: Calendar::new(alloc),
-            due,
-            has_local: false,
-        };
         Agenda {
-            later,
+            later: Later::new(alloc, due),
             now: Queue::new(alloc),
         }
     }
@@ -130,49 +98,39 @@ impl Agenda {
         Ok(Agenda::of(alloc, due))
     }
 
-    /// Puts an event under its key. It replaces an event that waits there.
+    /// Puts the stimulus of a row under its key, at a tick in milliseconds. It replaces an event that waits there.
+    /// Stimuli may come at any time and in any order.
     ///
     /// # Errors
     ///
     /// When memory runs out. The agenda is then as it was.
     #[inline(always)]
-    pub fn put(&mut self, key: Key, event: Event) -> Result<(), AllocError>
-        ensures put { OnOk result ((j : Key) → waiting self.new j ≡ (if same_key key j then Some event else waiting self.old j)) }
+    pub fn put_stimulus(&mut self, tick: u64, resource: u32, row: u32) -> Result<(), AllocError>
+        ensures put { OnOk result (IsPut self.old self.new (stimulus_key tick resource row) (Stimulus row)) }
         ensures due { self.new.due ≡ self.old.due }
         ensures err { OnErr result (self.new ≡ self.old) }
     {
-        if key.is_local() {
-            self.put_aside(key, event)
-        } else {
-            self.later.events.insert(key, event)
-        }
+        let key = Key::stimulus(tick, resource, row);
+        self.later.put(key, Event::Stimulus(row))
     }
 
-    /// Puts the last message of a list under a key, and takes it from the list. It replaces an event that waits there.
-    /// This is `put` for a message, which moves once. If the list is empty, nothing changes.
+    /// Puts a message under its key at the resource that receives it. It replaces an event that waits there.
     ///
     /// # Errors
     ///
-    /// When memory runs out. The agenda is then as it was.
+    /// When memory runs out. The agenda is then as it was, and the message is dropped.
     #[inline(always)]
-    pub fn put_last(&mut self, key: Key, mail: &mut Vec<Message>) -> Result<(), AllocError>
-        ensures put { OnOk result ((rest : List Sent) (m : Sent) → mail.old.items ≡ rest ++ m ∷ [] → (j : Key) → waiting self.new j ≡ (if same_key key j then Some (Arrival m) else waiting self.old j)) }
-        ensures mail { OnOk result ((rest : List Sent) (m : Sent) → mail.old.items ≡ rest ++ m ∷ [] → mail.new.items ≡ rest) }
+    pub fn put_message(&mut self, receiver: u32, message: Message) -> Result<(), AllocError>
+        ensures put { OnOk result (IsPut self.old self.new (arrival_at receiver message).0 (Arrival message)) }
         ensures due { self.new.due ≡ self.old.due }
         ensures err { OnErr result (self.new ≡ self.old) }
     {
-        if mail.is_empty() {
-            return Ok(());
-        }
-        if key.class == ARRIVAL {
-            return self.later.events.insert_last(key, mail);
-        }
-        let message = mail.pop().unwrap();
-        self.put(key, Event::Arrival(message))
+        let key = arrivals::key_of_arrival(receiver, &message);
+        self.later.put(key, Event::Arrival(message))
     }
 
-    /// Puts a local event under the key of its number. It replaces an event that waits there. This is `put` for an event
-    /// that follows those of its tick and resource, in fewer steps.
+    /// Puts a local event under the key of its number. It replaces an event that waits there. What an event raises
+    /// comes after all local events that wait: it goes to the end of the queue.
     ///
     /// # Errors
     ///
@@ -185,98 +143,50 @@ impl Agenda {
         number: u128,
         target: Target,
     ) -> Result<(), AllocError>
-        ensures put { OnOk result ((j : Key) → waiting self.new j ≡ (if same_key (local_key tick resource number) j then Some (Local target) else waiting self.old j)) }
+        ensures put { OnOk result (IsPut self.old self.new (local_key tick resource number) (Local target)) }
         ensures due { self.new.due ≡ self.old.due }
         ensures err { OnErr result (self.new ≡ self.old) }
     {
-        if !self.later.has_local && self.now.follows(tick, resource, number) {
+        if !self.later.has_local() && self.now.follows(tick, resource, number) {
             self.now.push(tick, resource, number, target)
         } else {
-            self.put_local_aside(tick, resource, number, target)
+            self.put_local_aside(Key::local(tick, resource, number), target)
         }
     }
 
-    /// The same as `put_local`, wherever the event waits. A function of its own, so that `put_local` makes no event.
-    ///
-    /// # Errors
-    ///
-    /// As `put_local`.
-    #[inline(never)]
-    fn put_local_aside(
-        &mut self,
-        tick: u64,
-        resource: u32,
-        number: u128,
-        target: Target,
-    ) -> Result<(), AllocError>
-        ensures put { OnOk result ((j : Key) → waiting self.new j ≡ (if same_key (local_key tick resource number) j then Some (Local target) else waiting self.old j)) }
-        ensures due { self.new.due ≡ self.old.due }
-        ensures err { OnErr result (self.new ≡ self.old) }
-    {
-        self.put_aside(Key::local(tick, resource, number), Event::Local(target))
-    }
-
-    /// Puts an event under the key of a local event, wherever such an event waits. If the key does not fit the queue,
-    /// the event goes to the others.
+    /// Puts a local event outside the queue: one that does not follow those in it, or that may be outside already.
     ///
     /// # Errors
     ///
     /// When memory runs out. The agenda is then as it was.
     #[inline(never)]
-    fn put_aside(&mut self, key: Key, event: Event) -> Result<(), AllocError>
+    fn put_local_aside(&mut self, key: Key, target: Target) -> Result<(), AllocError>
         requires { key.class ≡ 3 }
-        ensures put { OnOk result ((j : Key) → waiting self.new j ≡ (if same_key key j then Some event else waiting self.old j)) }
+        ensures put { OnOk result (IsPut self.old self.new key (Local target)) }
         ensures due { self.new.due ≡ self.old.due }
         ensures err { OnErr result (self.new ≡ self.old) }
     {
-        let Some(index) = self.now.index_of(&key) else {
-            return self.later.insert_local(key, event);
-        };
-        if let Some(target) = queue::target_of(&event) {
-            self.now.set(index, target);
-            return Ok(());
-        }
-        // Only local events go to the queue.
-        self.later.insert_local(key, event)?;
-        self.now.remove(index);
+        self.later.put(key, Event::Local(target))?;
+        self.now.remove(&key);
         Ok(())
     }
 
-    /// Puts the event in the slot back on the agenda, under its key. The slot keeps the key, and has an empty event if
-    /// the event moved. It replaces an event that waits there.
+    /// Puts the local event in the slot back on the agenda, under its key. It replaces an event that waits there.
     ///
     /// # Errors
     ///
     /// When memory runs out. The agenda is then as it was.
     #[inline(always)]
-    pub fn put_back(&mut self, least: &mut Least) -> Result<(), AllocError>
-        ensures put { OnOk result ((j : Key) → waiting self.new j ≡ (if same_key least.old.key j then Some least.old.event else waiting self.old j)) }
+    pub fn put_back(&mut self, least: &Least) -> Result<(), AllocError>
+        requires { IsRaised least.now.key least.now.event }
+        ensures put { OnOk result (IsPut self.old self.new least.now.key least.now.event) }
         ensures due { self.new.due ≡ self.old.due }
         ensures err { OnErr result (self.new ≡ self.old) }
-        ensures key { least.new.key ≡ least.old.key }
     {
-        match least.local_target() {
-            Some(target) => {
-                self.put_local(least.key.tick, least.key.resource, least.key.a, target)
-            }
-            None => self.put_back_aside(least),
-        }
-    }
-
-    /// The same as `put_back`, for any event. A function of its own, so that `put_back` moves no event.
-    ///
-    /// # Errors
-    ///
-    /// As `put_back`.
-    #[inline(never)]
-    fn put_back_aside(&mut self, least: &mut Least) -> Result<(), AllocError>
-        ensures put { OnOk result ((j : Key) → waiting self.new j ≡ (if same_key least.old.key j then Some least.old.event else waiting self.old j)) }
-        ensures due { self.new.due ≡ self.old.due }
-        ensures err { OnErr result (self.new ≡ self.old) }
-        ensures key { least.new.key ≡ least.old.key }
-    {
-        let event = mem::replace(&mut least.event, Event::Stimulus(0));
-        self.put(least.key, event)
+        let Event::Local(target) = &least.event else {
+            return Ok(());
+        };
+        self.put_local(least.key.tick, least.key.resource, least.key.a, *target)
     }
 
     /// Puts messages for a resource under their keys: all of them or none.
@@ -295,11 +205,11 @@ impl Agenda {
         ensures err { OnErr result (AreNew receiver messages.items self.old → (j : Key) → waiting self.new j ≡ waiting self.old j) }
         ensures due { self.new.due ≡ self.old.due }
     {
-        if arrivals::hold_indexes(&mut self.later.events, receiver, &messages).is_err() {
-            arrivals::free_indexes(&mut self.later.events, receiver, &messages);
+        if arrivals::reserve_keys(&mut self.later, receiver, &messages).is_err() {
+            arrivals::release_keys(&mut self.later, receiver, &messages);
             return Err((AllocError, messages));
         }
-        arrivals::fill_indexes(&mut self.later.events, receiver, messages);
+        arrivals::fill_keys(&mut self.later, receiver, messages);
         Ok(())
     }
 
@@ -314,10 +224,10 @@ impl Agenda {
             return false;
         }
         let moment = Moment { tick, resource };
-        if self.later.events.is_past(moment) {
+        if self.later.is_past(moment) {
             return true;
         }
-        self.later.events.comes_past(moment)
+        self.later.comes_past(moment)
     }
 
     /// Takes the event with the least key, if its tick is below the horizon (in milliseconds), and moves it into the
@@ -332,72 +242,10 @@ impl Agenda {
         ensures none { OnFalse result ((j : Key) → j.tick < horizon → waiting self.old j ≡ None) }
         ensures kept { OnFalse result (self.new ≡ self.old) }
     {
-        if self.now.is_empty() {
-            return self.take_later_into(horizon, slot);
-        }
-        // Usually no other event waits at the running tick in this resource or before.
-        if is_now_noted(&self.now, &self.later.events) {
-            queue::pop_into(&mut self.now, horizon, slot)
+        if is_now_first(&self.now, &mut self.later) {
+            self.now.pop_into(horizon, slot)
         } else {
-            self.take_any_into(horizon, slot)
-        }
-    }
-
-    /// The same as `take_least_into`, if the queue is empty.
-    #[inline(never)]
-    fn take_later_into(&mut self, horizon: u64, slot: &mut Least) -> bool
-        requires { self.old.running ≡ [] }
-        ensures found { OnTrue result (waiting self.old slot.new.key ≡ Some slot.new.event) }
-        ensures below { OnTrue result (slot.new.key.tick < horizon) }
-        ensures least { OnTrue result ((j : Key) → Precedes j slot.new.key → waiting self.old j ≡ None) }
-        ensures left { OnTrue result ((j : Key) → waiting self.new j ≡ (if same_key slot.new.key j then None else waiting self.old j)) }
-        ensures due { self.new.due ≡ self.old.due }
-        ensures none { OnFalse result ((j : Key) → j.tick < horizon → waiting self.old j ≡ None) }
-        ensures kept { OnFalse result (self.new ≡ self.old) }
-    {
-        pop_later(&mut self.later.events, horizon, slot)
-    }
-
-    /// The same as `take_least_into`, wherever the event waits.
-    #[inline(never)]
-    fn take_any_into(&mut self, horizon: u64, slot: &mut Least) -> bool
-        ensures found { OnTrue result (waiting self.old slot.new.key ≡ Some slot.new.event) }
-        ensures below { OnTrue result (slot.new.key.tick < horizon) }
-        ensures least { OnTrue result ((j : Key) → Precedes j slot.new.key → waiting self.old j ≡ None) }
-        ensures left { OnTrue result ((j : Key) → waiting self.new j ≡ (if same_key slot.new.key j then None else waiting self.old j)) }
-        ensures due { self.new.due ≡ self.old.due }
-        ensures none { OnFalse result ((j : Key) → j.tick < horizon → waiting self.old j ≡ None) }
-        ensures kept { OnFalse result (self.new ≡ self.old) }
-    {
-        let Some(first) = self.now.first() else {
-            return self.take_later_into(horizon, slot);
-        };
-        match self
-            .later
-            .events
-            .pop_up_to(Moment::of(&first), horizon, slot)
-        {
-            Lead::Running => queue::pop_into(&mut self.now, horizon, slot),
-            Lead::Later(found) => found,
-            Lead::Unsure => self.take_unsure_into(horizon, slot),
-        }
-    }
-
-    /// The same as `take_least_into`, by comparing the first keys of both. In a run nothing asks for it.
-    #[inline(never)]
-    fn take_unsure_into(&mut self, horizon: u64, slot: &mut Least) -> bool
-        ensures found { OnTrue result (waiting self.old slot.new.key ≡ Some slot.new.event) }
-        ensures below { OnTrue result (slot.new.key.tick < horizon) }
-        ensures least { OnTrue result ((j : Key) → Precedes j slot.new.key → waiting self.old j ≡ None) }
-        ensures left { OnTrue result ((j : Key) → waiting self.new j ≡ (if same_key slot.new.key j then None else waiting self.old j)) }
-        ensures due { self.new.due ≡ self.old.due }
-        ensures none { OnFalse result ((j : Key) → j.tick < horizon → waiting self.old j ≡ None) }
-        ensures kept { OnFalse result (self.new ≡ self.old) }
-    {
-        if is_now_less(&self.now, &self.later.events) {
-            queue::pop_into(&mut self.now, horizon, slot)
-        } else {
-            pop_later(&mut self.later.events, horizon, slot)
+            self.later.pop_into(horizon, slot)
         }
     }
 
@@ -408,12 +256,13 @@ impl Agenda {
     {
         // The least key has the lesser of the two ticks, so this compares no keys.
         let Some(first) = self.now.first() else {
-            return self.later.events.first_tick();
+            let later = self.later.first()?;
+            return Some(later.tick);
         };
-        let Some(later) = self.later.events.first_tick() else {
+        let Some(later) = self.later.first() else {
             return Some(first.tick);
         };
-        Some(first.tick.min(later))
+        Some(first.tick.min(later.tick))
     }
 
     /// Sets, clears or keeps the timer of an instance, as its reaction requests. The instance is in this resource.
@@ -447,24 +296,27 @@ impl Agenda {
         }
     }
 
+    /// Removes the timer of an instance, if it waits.
     fn clear_timer(&mut self, resource: u32, instance: u32)
         requires instance { instance < length self.old.due }
         requires timed { IsTimed self.old }
         ensures cleared { (j : Key) → waiting self.new j ≡ (if is_timer_of resource instance j then None else waiting self.old j) }
         ensures due { self.new.due ≡ self.old.due }
     {
-        let due = self.later.due[instance as usize];
-        self.later.events.clear_timer(due, resource, instance);
+        self.later.clear_timer(resource, instance);
     }
 
+    /// Sets the timer of an instance, which does not wait.
+    ///
+    /// # Errors
+    ///
+    /// When memory runs out. The agenda is then as it was.
     fn start_timer(&mut self, resource: u32, instance: u32, tick: u64) -> Result<(), AllocError>
         requires { instance < length self.old.due }
-        ensures put { OnOk result ((j : Key) → waiting self.new j ≡ (if same_key (timer_key tick resource instance) j then Some (Timer instance) else waiting self.old j)) }
+        ensures put { OnOk result (IsPut self.old self.new (timer_key tick resource instance) (Timer instance)) }
         ensures due { OnOk result (self.new.due ≡ slice_set self.old.due instance tick) }
         ensures counted { length self.new.due ≡ length self.old.due }
     {
-        self.later.events.set_timer(tick, resource, instance)?;
-        self.later.due[instance as usize] = tick;
-        Ok(())
+        self.later.set_timer(tick, resource, instance)
     }
 }

@@ -5,8 +5,10 @@ ghost use Rattle.fb_types.specs.Keys.{local_key};
 ghost use Rattle.fb_types.specs.declared.run.Event.TheVariants.{Local};
 ghost use Rattle.fb_agenda.specs.Slots.{taken};
 
-use crate::moment::LOCAL;
 use fb_types::{Event, Key, Target};
+
+/// The class of the keys of local events.
+const LOCAL: u8 = 3;
 
 /// An event that was taken from an agenda, with its key.
 ///

@@ -3,21 +3,18 @@
 //! Guarantees to callers: the event with the least key is taken; an instance has at most one timer; messages are added
 //! all or none, and none if memory runs out.
 //!
-//! Read in this order: `agenda`; `queue`, the local events of the running tick, with `targets`; `later` and `calendar`,
-//! all other events, with `moment`; `timer_row`; `store` and `rising`, the others of these; `arrivals`, messages;
-//! `least`, what is taken.
+//! Read in this order: `agenda`; `queue`, the local events of the running tick; `later`, all other events, with `moment`;
+//! `timer_row`, the timers; `store`, stimuli and messages; `arrivals`, messages that are put all or none; `least`, what is
+//! taken.
 #![tactic(auto)]
 
 pub mod agenda;
 mod arrivals;
-mod calendar;
 mod later;
 pub mod least;
 mod moment;
 mod queue;
-mod rising;
 mod store;
-mod targets;
 mod timer_row;
 
 pub use agenda::Agenda;

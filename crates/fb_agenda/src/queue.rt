@@ -4,22 +4,22 @@
 //! the tick and the resource once, and of each event its number and its target. Appending one, and finding the next
 //! one, takes constant time and compares no keys.
 
-ghost use Rattle.std.specs.Prelude.{◌≡◌, ◌<◌, ◌++◌, ◌∷◌, [], None, drop, option_to_list, IfSome, IfNone, OnErr, OnOk, length, option_map, slice_index_or, slice_set};
-ghost use Rattle.std.specs.Bool.{OnFalse, OnTrue};
-ghost use Rattle.std.specs.List.{AllByRecursion, remove};
+ghost use Rattle.std.specs.Prelude.{◌≡◌, ◌<◌, ◌++◌, ◌∷◌, [], None, IfSome, IfNone, OnErr, OnOk, length, slice_index_or};
+ghost use Rattle.std.specs.Bool.{OnTrue};
+ghost use Rattle.std.specs.List.{AllByRecursion};
 ghost use Rattle.std.specs.Map.{lookup};
 ghost use Rattle.fb_types.specs.Keys.{local_key, same_key};
 ghost use Rattle.fb_types.specs.declared.key.Key as keys;
-ghost use Rattle.fb_types.specs.declared.run.Event.TheVariants.{Local};
 ghost use Rattle.fb_types.specs.declared.run.Target.{Target as Waiting};
-ghost use Rattle.fb_agenda.specs.Agendas.{AreRising, IsAt, IsFirst, IsQueue, MayFollow, event_of, local_events};
-ghost use Rattle.fb_agenda.specs.Calendars.{BeginsAt, IsIndexOf};
+ghost use Rattle.fb_agenda.specs.Agendas.{AreRising, IsAt, IsFirst, IsQueue, MayFollow, local_events};
+ghost use Rattle.fb_agenda.specs.Lists.{BeginsAt, IsIndexOf, IsPopped, Sets};
 ghost use Rattle.fb_agenda.specs.Slots.{taken};
 
 use crate::least::Least;
-use crate::targets::Targets;
-use fb_types::{Event, Key, Target};
+use crate::store::make_room;
+use fb_types::{Key, Target};
 use std::alloc::{AllocError, Global};
+use std::collections::VecDeque;
 use std::marker::Model;
 
 /// Local events of one tick and resource, in the order of their numbers. Contracts see each with its key.
@@ -30,7 +30,7 @@ pub(crate) struct Queue {
     /// The number of the resource.
     resource: u32,
     /// The numbers of the events within the tick and the resource, and their targets.
-    waiting: Targets,
+    waiting: VecDeque<(u128, Target)>,
 }
 
 impl Model for Queue {
@@ -41,7 +41,7 @@ impl Model for Queue {
 
     ghost Value = { List (Key × Target) };
 
-    ghost view = { λ q. map (keyed q.tick q.resource) q.waiting };
+    ghost view = { λ q. map (keyed q.tick q.resource) q.waiting.items };
 }
 
 impl Queue {
@@ -52,7 +52,7 @@ impl Queue {
         Queue {
             tick: 0,
             resource: 0,
-            waiting: Targets::new(alloc),
+            waiting: VecDeque::new(alloc),
         }
     }
 
@@ -69,11 +69,10 @@ impl Queue {
     pub(crate) fn first(&self) -> Option<Key>
         requires { AreRising (local_events self.now) }
         ensures some { IfSome result (IsFirst (local_events self.now)) }
-        ensures local { IfSome result (λ k. k.class ≡ 3) }
         ensures none { IfNone result (local_events self.now ≡ []) }
     {
-        let number = self.waiting.first()?;
-        Some(Key::local(self.tick, self.resource, number))
+        let (number, _) = self.waiting.front()?;
+        Some(Key::local(self.tick, self.resource, *number))
     }
 
     /// Whether an event of this tick and resource may be appended: the queue is empty, or its last event has the same
@@ -84,10 +83,10 @@ impl Queue {
         ensures follows { OnTrue result (MayFollow (local_events self.now) (local_key tick resource number)) }
         ensures at { OnTrue result (AllByRecursion (IsAt tick resource) self.now) }
     {
-        let Some(last) = self.waiting.last() else {
+        let Some((last, _)) = self.waiting.back() else {
             return true;
         };
-        self.tick == tick && self.resource == resource && last < number
+        self.tick == tick && self.resource == resource && *last < number
     }
 
     /// Appends an event of the tick and the resource of the others.
@@ -107,7 +106,8 @@ impl Queue {
         ensures ok { OnOk result (self.new ≡ self.old ++ (local_key tick resource number, target) ∷ []) }
         ensures err { OnErr result (self.new ≡ self.old) }
     {
-        self.waiting.push(number, target)?;
+        make_room(&mut self.waiting)?;
+        self.waiting.push_back_reserved((number, target));
         self.tick = tick;
         self.resource = resource;
         Ok(())
@@ -118,12 +118,12 @@ impl Queue {
         requires { index < length self.now }
         ensures { (d : keys.Key × Waiting) → (slice_index_or self.now index d).0 ≡ result }
     {
-        let number = self.waiting.number_at(index);
+        let (number, _) = self.waiting[index];
         Key::local(self.tick, self.resource, number)
     }
 
-    /// The index of a key, if the queue has it. In a run nothing asks for it.
-    pub(crate) fn index_of(&self, key: &Key) -> Option<usize>
+    /// The index of a key, if the queue has it.
+    fn index_of(&self, key: &Key) -> Option<usize>
         ensures there { IfSome result (IsIndexOf (local_events self.now) key.now) }
         ensures absent { IfNone result (lookup (same_key key.now) (local_events self.now) ≡ None) }
     {
@@ -135,68 +135,36 @@ impl Queue {
         None
     }
 
-    /// Replaces the target of the event at an index.
-    pub(crate) fn set(&mut self, index: usize, target: Target)
-        requires { index < length self.old }
-        ensures { (k : keys.Key) → IsIndexOf (local_events self.old) k index → self.new ≡ slice_set self.old index (k, target) }
+    /// Removes the event under a key, if one waits there.
+    pub(crate) fn remove(&mut self, key: &Key)
+        requires { IsQueue (local_events self.old) }
+        ensures gone { Sets key.now None (local_events self.old) (local_events self.new) }
+        ensures queue { IsQueue (local_events self.new) }
     {
-        self.waiting.set(index, target);
+        if let Some(index) = self.index_of(key) {
+            self.waiting.remove(index);
+        }
     }
 
-    /// Removes the event at an index.
-    pub(crate) fn remove(&mut self, index: usize)
-        requires { index < length self.old }
-        ensures { self.new ≡ remove self.old index }
-    {
-        self.waiting.remove(index);
-    }
-
-    /// The key and the target of the first event.
+    /// Takes the first event, if its tick is below the horizon, and moves it into the slot. Returns whether it did.
     #[inline(always)]
-    pub(crate) fn front(&self) -> Option<(Key, &Target)>
-        ensures some { IfSome result (λ e. self.now ≡ (e.0, e.1.now) ∷ drop 1 self.now) }
-        ensures none { IfNone result (self.now ≡ []) }
+    pub(crate) fn pop_into(&mut self, horizon: u64, slot: &mut Least) -> bool
+        requires { AreRising (local_events self.old) }
+        ensures popped { IsPopped (local_events self.old) (local_events self.new) (taken result slot.new) }
+        ensures rising { AreRising (local_events self.new) }
+        ensures below { IfSome (taken result slot.new) (λ r. r.0.tick < horizon) }
+        ensures none { IfNone (taken result slot.new) (BeginsAt horizon (local_events self.old)) }
     {
-        let (number, target) = self.waiting.front()?;
-        Some((Key::local(self.tick, self.resource, number), target))
+        let Some(first) = self.first() else {
+            return false;
+        };
+        if first.tick >= horizon {
+            return false;
+        }
+        let Some(waiting) = self.waiting.pop_front() else {
+            return false;
+        };
+        slot.hold_local(Key::local(self.tick, self.resource, waiting.0), &waiting.1);
+        true
     }
-
-    /// Drops the first event.
-    #[inline(always)]
-    pub(crate) fn drop_first(&mut self)
-        requires { 0 < length self.old }
-        ensures { self.new ≡ drop 1 self.old }
-    {
-        self.waiting.drop_first();
-    }
-}
-
-/// The target of a local event, or `None` for any other event.
-pub(crate) fn target_of(event: &Event) -> Option<Target>
-    ensures { IfSome result (λ t. event.now ≡ Local t) }
-{
-    match event {
-        Event::Local(target) => Some(*target),
-        _ => None,
-    }
-}
-
-/// Takes the first event, if its tick is below the horizon, and moves it into the slot. Returns whether it did.
-#[inline(always)]
-pub(crate) fn pop_into(queue: &mut Queue, horizon: u64, slot: &mut Least) -> bool
-    requires { AreRising (local_events queue.old) }
-    ensures items { local_events queue.old ≡ option_to_list (taken result slot.new) ++ local_events queue.new }
-    ensures below { IfSome (taken result slot.new) (λ r. r.0.tick < horizon) }
-    ensures none { IfNone (taken result slot.new) (BeginsAt horizon (local_events queue.old)) }
-    ensures kept { OnFalse result (queue.new ≡ queue.old) }
-{
-    let Some((key, target)) = queue.front() else {
-        return false;
-    };
-    if key.tick >= horizon {
-        return false;
-    }
-    slot.hold_local(key, target);
-    queue.drop_first();
-    true
 }

@@ -1,24 +1,23 @@
-//! The events outside the queue of the running tick that are no timers: stimuli and messages.
+//! Events outside the queue of the running tick that are no timers: stimuli and messages.
 //!
 //! Their keys come in any order, mostly rising, and there are usually few of them. A `BTreeMap` puts and finds an event
 //! in logarithmic time, at some hundreds of instructions, and fills half of its memory where keys come in rising order.
 //! So a few events are kept in a sorted row, and also any number of events that come one after the other, as stimuli do.
 //! Only events that belong before the end of a full row go to the map, and those that come while it has any.
 
-ghost use Rattle.std.specs.Prelude.{◌≡◌, ◌<◌, List, [], IfSome, IfNone, OnOk, OnErr, Some, None, vec_len};
+ghost use Rattle.std.specs.Prelude.{◌≡◌, ◌<◌, [], IfSome, IfNone, OnOk, OnErr, Some, None};
+ghost use Rattle.std.specs.VecDeque.{deque_len, deque_capacity};
 ghost use Rattle.std.specs.Bool.{OnFalse, OnTrue};
-ghost use Rattle.std.specs.Map.{lookup};
-ghost use Rattle.fb_types.specs.Keys.{Precedes, same_key};
-ghost use Rattle.fb_types.specs.declared.key.Key as keys;
-ghost use Rattle.fb_types.specs.declared.run.Event.TheVariants.{Arrival};
+ghost use Rattle.std.specs.List.{AllByRecursion};
+ghost use Rattle.std.specs.Map.{keys_of, lookup};
+ghost use Rattle.std.specs.BTreeMap.{insert_entry};
+ghost use Rattle.fb_types.specs.Keys.{Precedes, key_cmp, same_key};
 ghost use Rattle.fb_agenda.specs.Agendas.{AreRising, IsFirst};
-ghost use Rattle.fb_agenda.specs.Arrivals.{MovesLast};
-ghost use Rattle.fb_agenda.specs.Calendars.{BeginsAt, Leads, Sets};
+ghost use Rattle.fb_agenda.specs.Lists.{BeginsAt, IsIndexOf, IsPopped, Leads, Sets};
 ghost use Rattle.fb_agenda.specs.Slots.{taken};
 
 use crate::least::Least;
-use crate::rising;
-use fb_types::{Event, Key, Message};
+use fb_types::{Event, Key};
 use std::alloc::{AllocError, Global};
 use std::collections::{BTreeMap, VecDeque};
 use std::marker::Model;
@@ -31,54 +30,148 @@ const FEW: usize = 256;
 #[derive(Drop)]
 pub(crate) struct Store {
     /// Events in the order of their keys.
-    few: VecDeque<(Key, Event)>,
+    row: VecDeque<(Key, Event)>,
     /// The events that did not go to the row.
-    many: BTreeMap<Key, Event>,
+    map: BTreeMap<Key, Event>,
 }
 
 impl Model for Store {
     ghost use Rattle.std.specs.Prelude.{List, ◌++◌};
     ghost use Rattle.fb_types.specs.declared.key.Key.{Key};
-    ghost use Rattle.fb_agenda.specs.Calendars.{AreSplit};
+    ghost use Rattle.fb_agenda.specs.Lists.{AreSplit};
     ghost use Rattle.fb_types.specs.declared.run.Event.{Event};
 
     ghost Value = { List (Key × Event) };
 
-    ghost view = { λ c. c.few.items ++ c.many.entries };
+    ghost view = { λ c. c.row.items ++ c.map.entries };
 
-    ghost invariant = { λ c. AreSplit c.few.items c.many.entries };
+    ghost invariant = { λ c. AreSplit c.row.items c.map.entries };
+}
+
+/// Reserves room for one more event, if none is left.
+#[inline(always)]
+pub(crate) fn make_room<T>(row: &mut VecDeque<T>) -> Result<(), AllocError>
+    ensures items { row.new.items ≡ row.old.items }
+    ensures room { OnOk result (deque_len row.new < deque_capacity row.new) }
+{
+    if row.len() < row.capacity() {
+        return Ok(());
+    }
+    row.reserve(1)
+}
+
+/// The first key of a row.
+fn first_of_row(row: &VecDeque<(Key, Event)>) -> Option<&Key>
+    requires { AreRising row.now.items }
+    ensures some { IfSome result (λ k. IsFirst row.now.items k.now) }
+    ensures none { IfNone result (row.now.items ≡ []) }
+{
+    let (key, _) = row.front()?;
+    Some(key)
 }
 
 /// The first key of a map.
-fn first_of(events: &BTreeMap<Key, Event>) -> Option<&Key>
-    ensures some { IfSome result (λ k. IsFirst events.now.entries k.now) }
-    ensures none { IfNone result (events.now.entries ≡ []) }
+fn first_of_map(map: &BTreeMap<Key, Event>) -> Option<&Key>
+    ensures some { IfSome result (λ k. IsFirst map.now.entries k.now) }
+    ensures none { IfNone result (map.now.entries ≡ []) }
 {
-    let (key, _) = events.first_key_value()?;
+    let (key, _) = map.first_key_value()?;
     Some(key)
 }
 
 /// Whether no event of the map comes before all events of the row.
-fn is_few_first(few: &VecDeque<(Key, Event)>, many: &BTreeMap<Key, Event>) -> bool
-    requires { AreRising few.now.items }
-    ensures few { OnTrue result (Leads few.now.items many.now.entries) }
-    ensures many { OnFalse result (Leads many.now.entries few.now.items) }
+#[inline(always)]
+fn is_row_first(row: &VecDeque<(Key, Event)>, map: &BTreeMap<Key, Event>) -> bool
+    requires { AreRising row.now.items }
+    ensures row { OnTrue result (Leads row.now.items map.now.entries) }
+    ensures map { OnFalse result (Leads map.now.entries row.now.items) }
 {
-    let Some(later) = first_of(many) else {
+    // Usually all of them are in the row.
+    if map.is_empty() {
+        return true;
+    }
+    is_row_before(row, map)
+}
+
+/// Whether the first event of the row comes before that of the map, if the map has any.
+#[inline(never)]
+fn is_row_before(row: &VecDeque<(Key, Event)>, map: &BTreeMap<Key, Event>) -> bool
+    requires { AreRising row.now.items }
+    ensures row { OnTrue result (Leads row.now.items map.now.entries) }
+    ensures map { OnFalse result (Leads map.now.entries row.now.items) }
+{
+    let Some(other) = first_of_map(map) else {
         return true;
     };
-    match rising::first(few) {
-        Some(first) => *first < *later,
+    match first_of_row(row) {
+        Some(first) => *first < *other,
         None => false,
     }
 }
 
+/// Whether the key comes after all keys of the row.
+fn is_past(row: &VecDeque<(Key, Event)>, key: &Key) -> bool
+    requires { AreRising row.now.items }
+    ensures { OnTrue result (AllByRecursion (λ j. Precedes j key.now) (keys_of row.now.items)) }
+{
+    match row.back() {
+        Some((last, _)) => *last < *key,
+        None => true,
+    }
+}
+
+/// The index of a key, if the row has it.
+fn index_of(row: &VecDeque<(Key, Event)>, key: &Key) -> Option<usize>
+    requires { AreRising row.now.items }
+    ensures there { IfSome result (IsIndexOf row.now.items key.now) }
+    ensures absent { IfNone result (lookup (same_key key.now) row.now.items ≡ None) }
+{
+    row.binary_search_by_key(key, |(other, _)| *other).ok()
+}
+
 /// Whether an event goes to the row while the map is empty: one after all others does, however long the row is.
 #[inline(always)]
-fn fits_in(few: &VecDeque<(Key, Event)>, key: &Key) -> bool
-    requires { AreRising few.now.items }
+fn fits_in(row: &VecDeque<(Key, Event)>, key: &Key) -> bool
+    requires { AreRising row.now.items }
 {
-    few.len() < FEW || rising::is_past(few, key)
+    row.len() < FEW || is_past(row, key)
+}
+
+/// Puts an event into the row, at the index of its key. At the end this takes constant time.
+#[inline(always)]
+fn put_in_row(row: &mut VecDeque<(Key, Event)>, key: Key, event: Event) -> Result<(), AllocError>
+    requires { AreRising row.old.items }
+    ensures ok { OnOk result (row.new.items ≡ insert_entry key_cmp row.old.items key event) }
+    ensures absent { OnErr result (lookup (same_key key) row.old.items ≡ None) }
+    ensures err { OnErr result (row.new.items ≡ row.old.items) }
+{
+    if is_past(row, &key) {
+        make_room(row)?;
+        row.push_back_reserved((key, event));
+        Ok(())
+    } else {
+        put_within(row, key, event)
+    }
+}
+
+/// Puts an event into the row, at the index of its key, which it finds by binary search.
+#[inline(never)]
+fn put_within(row: &mut VecDeque<(Key, Event)>, key: Key, event: Event) -> Result<(), AllocError>
+    requires { AreRising row.old.items }
+    ensures ok { OnOk result (row.new.items ≡ insert_entry key_cmp row.old.items key event) }
+    ensures absent { OnErr result (lookup (same_key key) row.old.items ≡ None) }
+    ensures err { OnErr result (row.new.items ≡ row.old.items) }
+{
+    match row.binary_search_by_key(&key, |(other, _)| *other) {
+        Ok(index) => {
+            row[index] = (key, event);
+            Ok(())
+        }
+        Err(index) => {
+            row.insert(index, (key, event))?;
+            Ok(())
+        }
+    }
 }
 
 impl Store {
@@ -87,8 +180,8 @@ impl Store {
         ensures { result ≡ [] }
     {
         Store {
-            few: VecDeque::new(alloc),
-            many: BTreeMap::new(alloc),
+            row: VecDeque::new(alloc),
+            map: BTreeMap::new(alloc),
         }
     }
 
@@ -98,98 +191,43 @@ impl Store {
     ///
     /// When memory runs out. The events are then as they were, and the key is not among them.
     #[inline(always)]
-    pub(crate) fn insert(&mut self, key: Key, event: Event) -> Result<(), AllocError>
+    pub(crate) fn put(&mut self, key: Key, event: Event) -> Result<(), AllocError>
         ensures put { OnOk result (Sets key (Some event) self.old self.new) }
         ensures absent { OnErr result (lookup (same_key key) self.old ≡ None) }
         ensures err { OnErr result (self.new ≡ self.old) }
     {
         // Usually all of them are in the row.
-        if self.many.is_empty() && fits_in(&self.few, &key) {
-            return rising::insert(&mut self.few, key, event);
+        if self.map.is_empty() && fits_in(&self.row, &key) {
+            return put_in_row(&mut self.row, key, event);
         }
-        self.insert_aside(key, event)
+        self.put_beside(key, event)
     }
 
-    /// Puts the last message of a list under its key, and takes it from the list. It replaces an event that waits there.
-    ///
-    /// # Errors
-    ///
-    /// When memory runs out. The events are then as they were.
-    #[inline(always)]
-    pub(crate) fn insert_last(
-        &mut self,
-        key: Key,
-        mail: &mut Vec<Message>,
-    ) -> Result<(), AllocError>
-        requires { 0 < vec_len mail.old }
-        ensures put { OnOk result (MovesLast mail.old.items mail.new.items (λ m. Sets key (Some (Arrival m)) self.old self.new)) }
-        ensures err { OnErr result (self.new ≡ self.old) }
-    {
-        // Usually all of them are in the row, and the message comes after them.
-        if self.many.is_empty() && rising::is_past(&self.few, &key) {
-            return rising::push_last(&mut self.few, key, mail);
-        }
-        let message = mail.pop().unwrap();
-        self.insert_anywhere(key, Event::Arrival(message))
-    }
-
-    /// The same as `insert`, by a call.
-    #[inline(never)]
-    fn insert_anywhere(&mut self, key: Key, event: Event) -> Result<(), AllocError>
-        ensures put { OnOk result (Sets key (Some event) self.old self.new) }
-        ensures err { OnErr result (self.new ≡ self.old) }
-    {
-        self.insert(key, event)
-    }
-
-    /// The same as `insert`, where the map is not empty or gets the event. It is a function of its own since the built
+    /// The same as `put`, where the map is not empty or gets the event. It is a function of its own since the built
     /// program clears its locals, which are large.
     #[inline(never)]
-    fn insert_aside(&mut self, key: Key, event: Event) -> Result<(), AllocError>
+    fn put_beside(&mut self, key: Key, event: Event) -> Result<(), AllocError>
         ensures put { OnOk result (Sets key (Some event) self.old self.new) }
         ensures absent { OnErr result (lookup (same_key key) self.old ≡ None) }
         ensures err { OnErr result (self.new ≡ self.old) }
     {
-        if let Some(index) = rising::index_of(&self.few, &key) {
-            self.few[index] = (key, event);
+        if let Some(index) = index_of(&self.row, &key) {
+            self.row[index] = (key, event);
             return Ok(());
         }
-        self.many.insert(key, event)?;
+        self.map.insert(key, event)?;
         Ok(())
     }
 
     /// Removes the event under a key, if one waits there, and returns it.
-    fn remove(&mut self, key: &Key) -> Option<Event>
+    pub(crate) fn remove(&mut self, key: &Key) -> Option<Event>
         ensures { Sets key.now None self.old self.new }
     {
-        let Some(index) = rising::index_of(&self.few, key) else {
-            return self.many.remove(key);
+        let Some(index) = index_of(&self.row, key) else {
+            return self.map.remove(key);
         };
-        let (_, event) = self.few.remove(index)?;
+        let (_, event) = self.row.remove(index)?;
         Some(event)
-    }
-
-    /// Removes the event under a key, if one waits there.
-    pub(crate) fn clear(&mut self, key: &Key)
-        ensures { Sets key.now None self.old self.new }
-    {
-        self.remove(key);
-    }
-
-    /// Removes the event with the first key, and returns it.
-    #[inline(never)]
-    pub(crate) fn pop_first(&mut self) -> Option<(Key, Event)>
-        ensures value { IfSome result (λ r. lookup (same_key r.0) self.old ≡ Some r.1) }
-        ensures none_before { IfSome result (λ r. (j : keys.Key) → Precedes j r.0 → lookup (same_key j) self.old ≡ None) }
-        ensures left { IfSome result (λ r. Sets r.0 None self.old self.new) }
-        ensures none { IfNone result (self.old ≡ []) }
-        ensures kept { IfNone result (self.new ≡ self.old) }
-    {
-        if is_few_first(&self.few, &self.many) {
-            self.few.pop_front()
-        } else {
-            self.many.pop_first()
-        }
     }
 
     /// The first key.
@@ -198,70 +236,40 @@ impl Store {
         ensures some { IfSome result (λ k. IsFirst self.now k.now) }
         ensures none { IfNone result (self.now ≡ []) }
     {
-        // Usually all of them are in the row.
-        if self.many.is_empty() {
-            return rising::first(&self.few);
-        }
-        self.first_of_both()
-    }
-
-    /// The first key of the row and the map.
-    #[inline(never)]
-    fn first_of_both(&self) -> Option<&Key>
-        ensures some { IfSome result (λ k. IsFirst self.now k.now) }
-        ensures none { IfNone result (self.now ≡ []) }
-    {
-        if is_few_first(&self.few, &self.many) {
-            rising::first(&self.few)
+        if is_row_first(&self.row, &self.map) {
+            first_of_row(&self.row)
         } else {
-            first_of(&self.many)
+            first_of_map(&self.map)
         }
     }
 
-    /// Removes the event with the first key, if its tick is below the horizon, and returns it.
-    fn pop_below(&mut self, horizon: u64) -> Option<(Key, Event)>
-        ensures value { IfSome result (λ r. lookup (same_key r.0) self.old ≡ Some r.1) }
-        ensures none_before { IfSome result (λ r. (j : keys.Key) → Precedes j r.0 → lookup (same_key j) self.old ≡ None) }
-        ensures left { IfSome result (λ r. Sets r.0 None self.old self.new) }
-        ensures below { IfSome result (λ r. r.0.tick < horizon) }
-        ensures none { IfNone result (BeginsAt horizon self.old) }
-        ensures kept { IfNone result (self.new ≡ self.old) }
-    {
-        let first = self.first_of_both()?;
-        if first.tick >= horizon {
-            return None;
-        }
-        self.pop_first()
-    }
-
-    /// Moves the event with the first key into the slot, if its tick is below the horizon. Returns whether it did.
+    /// Removes the event with the first key, and returns it.
     #[inline(always)]
-    pub(crate) fn pop_first_into(&mut self, horizon: u64, slot: &mut Least) -> bool
-        ensures value { IfSome (taken result slot.new) (λ r. lookup (same_key r.0) self.old ≡ Some r.1) }
-        ensures none_before { IfSome (taken result slot.new) (λ r. (j : keys.Key) → Precedes j r.0 → lookup (same_key j) self.old ≡ None) }
-        ensures left { IfSome (taken result slot.new) (λ r. Sets r.0 None self.old self.new) }
-        ensures below { IfSome (taken result slot.new) (λ r. r.0.tick < horizon) }
-        ensures none { IfNone (taken result slot.new) (BeginsAt horizon self.old) }
-        ensures kept { IfNone (taken result slot.new) (self.new ≡ self.old) }
+    fn pop_first(&mut self) -> Option<(Key, Event)>
+        ensures popped { IsPopped self.old self.new result }
+        ensures none { IfNone result (self.old ≡ []) }
     {
-        // Usually all of them are in the row.
-        if self.many.is_empty() {
-            rising::pop_first_into(&mut self.few, horizon, slot)
+        if is_row_first(&self.row, &self.map) {
+            self.row.pop_front()
         } else {
-            self.pop_any_into(horizon, slot)
+            self.map.pop_first()
         }
     }
 
-    /// The same as `pop_first_into`, of the row or the map.
-    #[inline(never)]
-    fn pop_any_into(&mut self, horizon: u64, slot: &mut Least) -> bool
-        ensures value { IfSome (taken result slot.new) (λ r. lookup (same_key r.0) self.old ≡ Some r.1) }
-        ensures none_before { IfSome (taken result slot.new) (λ r. (j : keys.Key) → Precedes j r.0 → lookup (same_key j) self.old ≡ None) }
-        ensures left { IfSome (taken result slot.new) (λ r. Sets r.0 None self.old self.new) }
+    /// Takes the event with the first key, if its tick is below the horizon, and moves it into the slot. Returns whether
+    /// it did.
+    #[inline(always)]
+    pub(crate) fn pop_into(&mut self, horizon: u64, slot: &mut Least) -> bool
+        ensures popped { IsPopped self.old self.new (taken result slot.new) }
         ensures below { IfSome (taken result slot.new) (λ r. r.0.tick < horizon) }
         ensures none { IfNone (taken result slot.new) (BeginsAt horizon self.old) }
-        ensures kept { IfNone (taken result slot.new) (self.new ≡ self.old) }
     {
-        slot.hold(self.pop_below(horizon))
+        let Some(first) = self.first() else {
+            return false;
+        };
+        if first.tick >= horizon {
+            return false;
+        }
+        slot.hold(self.pop_first())
     }
 }

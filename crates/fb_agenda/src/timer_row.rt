@@ -11,14 +11,12 @@ ghost use Rattle.std.specs.BTreeMap.{insert_entry};
 ghost use Rattle.fb_types.specs.Keys.{Precedes, key_cmp, same_key, timer_key};
 ghost use Rattle.fb_types.specs.declared.run.Event.TheVariants.{Timer};
 ghost use Rattle.fb_agenda.specs.Agendas.{AreRising, IsFirst};
-ghost use Rattle.fb_agenda.specs.Calendars.{BeginsAt, Sets};
+ghost use Rattle.fb_agenda.specs.Lists.{BeginsAt, IsPopped, Sets};
 ghost use Rattle.fb_agenda.specs.Slots.{taken};
-ghost use Rattle.fb_agenda.specs.Moments.{HasRank};
 ghost use Rattle.fb_agenda.specs.Timing.{timer_event};
 
 use crate::least::Least;
-use crate::moment::{Moment, Rank, TIMER};
-use crate::rising::make_room;
+use crate::store::make_room;
 use fb_types::{Event, Key};
 use std::alloc::{AllocError, Global};
 use std::collections::VecDeque;
@@ -83,24 +81,6 @@ impl Timers {
         Some(first.key())
     }
 
-    /// The rank of the first timer.
-    #[inline(always)]
-    pub(crate) fn first_rank(&self) -> Option<Rank>
-        requires { AreRising self.now }
-        ensures some { IfSome result (HasRank self.now) }
-        ensures none { IfNone result (self.now ≡ []) }
-    {
-        let first = self.row.front()?;
-        let moment = Moment {
-            tick: first.tick,
-            resource: first.resource,
-        };
-        Some(Rank {
-            moment,
-            class: TIMER,
-        })
-    }
-
     /// Puts a timer under its key, if it does not wait there already.
     ///
     /// # Errors
@@ -163,41 +143,19 @@ impl Timers {
         }
     }
 
-    /// Removes the timer of an instance, if it waits at this tick. It makes no key unless it searches for it.
+    /// Removes the timer of an instance, if it waits at this tick.
     #[inline(always)]
     pub(crate) fn cancel(&mut self, tick: u64, resource: u32, instance: u32)
         requires { AreRising self.old }
         ensures sets { Sets (timer_key tick resource instance) None self.old self.new }
         ensures rising { AreRising self.new }
     {
+        let key = Key::timer(tick, resource, instance);
         // A timer that has gone off is usually before all others.
-        if self.is_before(&Key::timer(tick, resource, instance)) {
+        if self.is_before(&key) {
             return;
         }
-        self.cancel_within(tick, resource, instance);
-    }
-
-    /// The same as `cancel`, for a timer that is not before all others.
-    #[inline(never)]
-    fn cancel_within(&mut self, tick: u64, resource: u32, instance: u32)
-        requires { AreRising self.old }
-        ensures sets { Sets (timer_key tick resource instance) None self.old self.new }
-        ensures rising { AreRising self.new }
-    {
-        self.remove_within(&Key::timer(tick, resource, instance));
-    }
-
-    /// Removes the timer under a key, if one waits there.
-    pub(crate) fn remove(&mut self, key: &Key)
-        requires { AreRising self.old }
-        ensures sets { Sets key.now None self.old self.new }
-        ensures rising { AreRising self.new }
-    {
-        // A timer that has gone off is usually before all others.
-        if self.is_before(key) {
-            return;
-        }
-        self.remove_within(key);
+        self.remove_within(&key);
     }
 
     /// Whether the key comes before all keys of the timers.
@@ -212,7 +170,7 @@ impl Timers {
         }
     }
 
-    /// The same as `remove`, for a key that is not before all others.
+    /// Removes the timer under a key, which a binary search finds, if it waits.
     #[inline(never)]
     fn remove_within(&mut self, key: &Key)
         requires { AreRising self.old }
@@ -243,7 +201,8 @@ impl Timers {
     #[inline(always)]
     pub(crate) fn pop_into(&mut self, horizon: u64, slot: &mut Least) -> bool
         requires { AreRising self.old }
-        ensures items { self.old ≡ option_to_list (taken result slot.new) ++ self.new }
+        ensures popped { IsPopped self.old self.new (taken result slot.new) }
+        ensures rising { AreRising self.new }
         ensures below { IfSome (taken result slot.new) (λ r. r.0.tick < horizon) }
         ensures none { IfNone (taken result slot.new) (BeginsAt horizon self.old) }
     {

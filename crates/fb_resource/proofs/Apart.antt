@@ -4,6 +4,7 @@ use Rattle.std.specs.Prelude.{slice_get, slice_set}
 use Rattle.std.proofs.lemmas.Bool.{eq-eqb, ne_eqb}
 use Rattle.std.proofs.lemmas.List.{length-set}
 use Rattle.fb_types.specs.Headline.{Inputs, system_of}
+use Rattle.fb_types.specs.Keys.{stimulus_key}
 use Rattle.fb_types.specs.Numbers.{path_at}
 use Rattle.fb_types.specs.declared.key.Key.{Key}
 use Rattle.fb_agenda.specs.Agendas.{Contents}
@@ -15,7 +16,7 @@ use Rattle.fb_resource.proofs.Lists.{set_each}
 use Rattle.fb_resource.proofs.OpenIs.{IsStartedIn, restarts_put, restarts_skip, stimuli_put, stimuli_skip}
 
 pub stimulus_apart : (i : Inputs) (row : ℕ) (k : Key) (old new : Contents) (agendas : List Contents) → k.resource < length agendas → slice_get agendas k.resource ≡ Some old
-    → IsStimulusKey i row k → MayWait i 0 k (kinds.Stimulus row) → IsPut old new k (kinds.Stimulus row) → new.due ≡ old.due
+    → IsStimulusKey i row k → MayWait i 0 k (kinds.Stimulus row) → IsPut old new (stimulus_key k.tick k.resource row) (kinds.Stimulus row) → new.due ≡ old.due
     → OneEach i (λ r. HasStimuli i (Some r) row) agendas → OneEach i (λ r. HasStimuli i (Some r) (row + 1)) (slice_set agendas k.resource new)
 stimulus_apart i row k old new agendas within was is may put due before = record {
   counted = length-set agendas k.resource new ∙ before.counted;

@@ -6,7 +6,7 @@ use Rattle.fb_types.specs.declared.key.Key.{Key}
 use Rattle.fb_types.specs.declared.run.Event.{Event}
 use Rattle.fb_types.proofs.KeyLaws.{same_key_is, same_key_itself}
 use Rattle.fb_agenda.specs.Agendas.{Contents, IsClear, waiting}
-use Rattle.fb_agenda.proofs.Apart.{not_itself}
+use Rattle.fb_agenda.proofs.Orders.{not_itself}
 use Rattle.fb_agenda.proofs.Clear.{clear_before, clear_itself}
 use Rattle.fb_resource.specs.Posts.{IsPut}
 use Rattle.fb_resource.specs.Takings.{Finds, with_event}

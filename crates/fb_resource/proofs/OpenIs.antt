@@ -1,5 +1,5 @@
 -- What waits at the beginning, one stimulus or instance after another.
-use Rattle.std.proofs.Common.{◌≡◌, ◌≢◌, ℕ, suc, ◌+◌, ◌^◌, ◌<◌, Bool, true, false, cond, List, [], ◌∷◌, ◌++◌, length, take, refl, sym, ap, ◌∙◌, append-nil, Option, Some, None, get_or, inl, inr, arith}
+use Rattle.std.proofs.Common.{◌≡◌, ◌≢◌, ℕ, suc, ◌+◌, ◌^◌, ◌<◌, Bool, true, false, cond, List, [], ◌∷◌, ◌++◌, length, take, refl, sym, ap, subst, ◌∙◌, append-nil, Option, Some, None, get_or, inl, inr, arith}
 use Rattle.std.specs.Prelude.{flat_map, option_map, slice_get}
 use Rattle.std.proofs.Math.Seq.{take-suc, take-length}
 use Rattle.std.proofs.lemmas.Bool.{cases_lt}
@@ -148,8 +148,8 @@ stimuli_none i of a none due = record {
 }
 
 pub stimuli_put : (i : Inputs) (of : Option ℕ) (row : ℕ) (k : Key) (old new : Contents) → IsStimulusKey i row k → MayWait i 0 k (kinds.Stimulus row) → is_of of k.resource ≡ true
-    → IsPut old new k (kinds.Stimulus row) → new.due ≡ old.due → HasStimuli i of row old → HasStimuli i of (row + 1) new
-stimuli_put i of row k old new is may asked put due has = record {
+    → IsPut old new (stimulus_key k.tick k.resource row) (kinds.Stimulus row) → new.due ≡ old.due → HasStimuli i of row old → HasStimuli i of (row + 1) new
+stimuli_put i of row k old new is may asked put_there due has = record {
   agenda = λ j.
       meaning_put i old new k (kinds.Stimulus row) put j
       ∙ ap (λ e. cond (same_key k j) (Some e) (meaning i old j)) (ap stimulated is.is)
@@ -161,6 +161,12 @@ stimuli_put i of row k old new is may asked put due has = record {
   due = ap length due ∙ has.due;
 }
   where
+    same : stimulus_key k.tick k.resource row ≡ k
+    same = subst (λ (z : Key). stimulus_key z.tick z.resource row ≡ z) (sym is.key) refl
+
+    put : IsPut old new k (kinds.Stimulus row)
+    put = subst (λ (z : Key). IsPut old new z (kinds.Stimulus row)) same put_there
+
     other : k.class ≢ 1
     other one = let zero = ap (λ (z : Key). z.class) is.key in omega (arith, one, zero)
 

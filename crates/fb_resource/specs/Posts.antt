@@ -10,7 +10,7 @@ use Rattle.fb_types.specs.Takes.{Posts}
 use Rattle.fb_types.specs.declared.key.Key.{Key}
 use Rattle.fb_types.specs.declared.run.Message.{Message}
 use Rattle.fb_types.specs.declared.value.Value.{Value}
-use Rattle.fb_agenda.specs.Agendas.{Contents, waiting}
+use Rattle.fb_agenda.specs.Agendas.{Contents}
 use Rattle.fb_types.specs.declared.run.Event.{Event}
 use Rattle.fb_types.specs.declared.run.Event.TheVariants.{Arrival}
 use Rattle.fb_net.specs.Outs.{IsLocal, IsOutgoing}
@@ -20,11 +20,8 @@ use Rattle.fb_net.specs.declared.outbox.OutgoingMessage.{OutgoingMessage}
 use Rattle.fb_net.specs.Events.{IsEventIn, event_of}
 use Rattle.fb_laws.specs.Typed.{FitsAt, IsTypedEvent}
 use Rattle.fb_resource.specs.Waiting.{meaning}
+pub use Rattle.fb_agenda.specs.Agendas.{IsPut}
 pub use Rattle.fb_link.specs.Messages.{key_of, receiver_of}
-
--- an event was put under a key
-abbrev pub IsPut : Contents → Contents → Key → Event → Type 0
-IsPut old new k e = (j : Key) → waiting new j ≡ (if same_key k j then Some e else waiting old j)
 
 -- ---- Messages
 

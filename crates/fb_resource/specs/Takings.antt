@@ -19,6 +19,7 @@ use Rattle.fb_types.specs.declared.value.Reason.{Reason}
 use Rattle.fb_agenda.specs.Agendas as agendas
 use Rattle.fb_agenda.specs.Agendas.{Contents}
 use Rattle.fb_agenda.specs.declared.least.Least.{Least}
+pub use Rattle.fb_agenda.specs.Slots.{IsRaised}
 use Rattle.fb_system.specs.Lines.{BelongsTo}
 use Rattle.fb_net.specs.Events.{IsEventIn, event_of}
 use Rattle.fb_net.specs.Outs.{AreOuts, out_of}
@@ -153,13 +154,6 @@ with_next false k e a = a
 -- queues on whose agenda the event in the slot waits too, if it was raised
 abbrev pub with_slot : Bool → Least → Queues → Queues
 with_slot b l q = record q { agenda = with_next b l.key l.event q.agenda }
-
--- An event with the key of a local one.
-pub record IsRaised (k : Key) (e : waiting.Event) : Type 0 where
-  pub number : ℕ
-  pub target : Target
-  pub key : k ≡ local_key k.tick k.resource number
-  pub event : e ≡ waits.Local target
 
 -- The least event of an agenda, if its tick is below the horizon, was found and left it. Else it is as it was.
 pub record Finds (horizon : ℕ) (was : Contents) (is : Bool) (k : Key) (e : waiting.Event) (now : Contents) : Type 0 where

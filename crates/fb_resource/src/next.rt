@@ -3,21 +3,22 @@
 ghost use Rattle.std.specs.Prelude.{◌≡◌, ◌<◌, IfOk, OnOk};
 ghost use Rattle.fb_types.specs.declared.key.Key as keys;
 ghost use Rattle.fb_agenda.specs.Agendas.{waiting};
-ghost use Rattle.fb_resource.specs.Takings.{Finds, with_next};
+ghost use Rattle.std.specs.Bool.{OnTrue};
+ghost use Rattle.fb_resource.specs.Takings.{Finds, IsRaised, with_next};
 
 use fb_agenda::{Agenda, Least};
 use fb_types::Key;
 use std::alloc::AllocError;
 
-/// Puts the event in the slot back on the agenda, if it was raised. The slot keeps its key.
+/// Puts the event in the slot back on the agenda, if it was raised.
 ///
 /// # Errors
 /// When memory runs out.
 #[inline(always)]
-pub fn put_next(agenda: &mut Agenda, raised: bool, least: &mut Least) -> Result<(), AllocError>
-    ensures put { OnOk result ((j : keys.Key) → waiting agenda.new j ≡ waiting (with_next raised least.old.key least.old.event agenda.old) j) }
+pub fn put_next(agenda: &mut Agenda, raised: bool, least: &Least) -> Result<(), AllocError>
+    requires { OnTrue raised (IsRaised least.now.key least.now.event) }
+    ensures put { OnOk result ((j : keys.Key) → waiting agenda.new j ≡ waiting (with_next raised least.now.key least.now.event agenda.old) j) }
     ensures due { agenda.new.due ≡ agenda.old.due }
-    ensures key { least.new.key ≡ least.old.key }
 {
     if raised {
         agenda.put_back(least)
@@ -39,6 +40,7 @@ pub fn find_next(
     raised: bool,
     least: &mut Least,
 ) -> Result<bool, AllocError>
+    requires { OnTrue raised (IsRaised least.old.key least.old.event) }
     ensures finds { IfOk result (λ b. Finds horizon (with_next raised least.old.key least.old.event agenda.old) b least.new.key least.new.event agenda.new) }
     ensures due { OnOk result (agenda.new.due ≡ agenda.old.due) }
 {

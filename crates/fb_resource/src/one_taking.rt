@@ -63,6 +63,7 @@ fn settle_all(
     requires room { locals.old < 2 ^ 100 }
     ensures { OnOk result (Settles system.now least.now locals.old queues.old locals.new queues.new) }
 {
+    // for the prover: what holds of each system
     system.facts();
     let mut posting = Posting {
         system,
@@ -158,6 +159,7 @@ pub fn take(
         });
     }
     let stop = take_in(tree, &mut counts.meter, &mut queues.outbox, system, least)?;
+    // for the prover: what holds of each system
     system.facts();
     // A reaction that stops posts what it had put out before.
     let stops = stop.is_some();

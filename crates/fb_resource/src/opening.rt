@@ -13,7 +13,7 @@ ghost use Rattle.fb_resource.specs.OfSystem.{restart_of};
 use fb_agenda::Agenda;
 use fb_check_names::TypeNumber;
 use fb_system::System;
-use fb_types::{Event, EventKind, Key, TimerAsk};
+use fb_types::{EventKind, Key, TimerAsk};
 use std::alloc::{AllocError, Global};
 
 /// Whether a resource is the one that is asked for, or all are.
@@ -32,6 +32,7 @@ fn resource_of(system: &System, instance: u32) -> u32
     ensures resource { result ≡ resource_at system.now (path_at system.now instance) }
     ensures named { IsResource system.now result }
 {
+    // for the prover: what holds of each system
     system.facts();
     system.resource(instance) as u32
 }
@@ -40,6 +41,7 @@ fn resource_of(system: &System, instance: u32) -> u32
 fn row_count(system: &System) -> u32
     ensures { result ≡ length system.now.stimuli }
 {
+    // for the prover: what holds of each system
     system.facts();
     system.stimuli().len() as u32
 }
@@ -50,6 +52,7 @@ fn key_of_stimulus(system: &System, row: u32) -> Key
     ensures key { IsStimulusKey system.now row result }
     ensures waits { MayWait system.now 0 result (Stimulus row) }
 {
+    // for the prover: what holds of each system
     system.facts();
     let stimulus = system.stimulus(row);
     let resource = resource_of(system, stimulus.target.instance);
@@ -67,6 +70,7 @@ fn start_restart(agenda: &mut Agenda, system: &System, instance: u32) -> Result<
     ensures timers { OnOk result (HasTimersBelow (instance + 1) agenda.new) }
     ensures due { length agenda.new.due ≡ length agenda.old.due }
 {
+    // for the prover: what holds of each system
     system.facts();
     match system.kind(instance) {
         TypeNumber::Event(kind) => {
@@ -93,10 +97,11 @@ pub fn open_agenda(alloc: Global, system: &System, of: Option<u32>) -> Result<Ag
     for row in 0..row_count(system) {
         let key = key_of_stimulus(system, row);
         if is_asked(of, key.resource) {
-            agenda.put(key, Event::Stimulus(row))?;
+            agenda.put_stimulus(key.tick, key.resource, row)?;
         }
     }
     // The timers that start by themselves.
+    // for the prover: what holds of each system
     system.facts();
     for instance in 0..system.count() {
         let number = instance as u32;
@@ -122,9 +127,10 @@ pub fn open_agendas(alloc: Global, system: &System) -> Result<Vec<Agenda>, Alloc
     // The stimuli, each at its tick and under its row.
     for row in 0..row_count(system) {
         let key = key_of_stimulus(system, row);
-        agendas[key.resource as usize].put(key, Event::Stimulus(row))?;
+        agendas[key.resource as usize].put_stimulus(key.tick, key.resource, row)?;
     }
     // The timers that start by themselves.
+    // for the prover: what holds of each system
     system.facts();
     for instance in 0..system.count() {
         let number = instance as u32;

@@ -365,6 +365,7 @@ impl Posting<'_> {
     {
         self.set_timer(&outbox.timer, event)?;
         outbox.timer = TimerAsk::Keep;
+        // for the prover: what its type keeps
         let _count = outbox.outs.len();
         self.post_all(&mut outbox.outs)
     }

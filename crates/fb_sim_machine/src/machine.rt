@@ -78,12 +78,7 @@ impl Machine {
         if taken.raised {
             return Ok(taken);
         }
-        deliver(
-            &mut self.queues.agenda,
-            &mut self.queues.mail,
-            system,
-            taken.stop.is_some(),
-        )?;
+        deliver(&mut self.queues.agenda, &mut self.queues.mail, system)?;
         Ok(taken)
     }
 
@@ -142,7 +137,7 @@ impl Machine {
         'events: while found {
             let taken = self.take(system, limit, &mut least)?;
             if let Some(reason) = taken.stop {
-                put_next(&mut self.queues.agenda, taken.raised, &mut least)?;
+                put_next(&mut self.queues.agenda, taken.raised, &least)?;
                 return Ok(Pause::Stop(StopMark {
                     tick: least.key.tick,
                     resource: least.key.resource,
@@ -150,7 +145,7 @@ impl Machine {
                 }));
             }
             if self.queues.outbox.lines.len() >= many {
-                put_next(&mut self.queues.agenda, taken.raised, &mut least)?;
+                put_next(&mut self.queues.agenda, taken.raised, &least)?;
                 return Ok(Pause::Lines);
             }
             found = find_next(&mut self.queues.agenda, horizon, taken.raised, &mut least)?;

@@ -16,6 +16,7 @@ use std::alloc::{AllocError, Global};
 fn open_trees(alloc: Global, system: &System) -> Result<Vec<Tree>, AllocError>
     ensures { IfOk result (λ v. AreOpened system.now (resource_count system.now) v.items) }
 {
+    // for the prover: what holds of each system
     system.facts();
     let mut trees = Vec::new(alloc);
     for resource in 0..system.resources() {
@@ -35,6 +36,7 @@ impl Machine {
         ensures at { IfOk result (IsAt system.now (opening_state system.now) (opening_agenda system.now (stimuli_of system.now))) }
         ensures lines { IfOk result (λ m. m.queues.outbox.lines.items ≡ []) }
     {
+        // for the prover: what holds of each system
         system.facts();
         let agenda = open_agenda(alloc, system, None)?;
         let sent = open_sent(alloc, system)?;

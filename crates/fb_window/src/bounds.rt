@@ -32,6 +32,7 @@ impl Core {
         ensures legal { OfEachCore self.now.system self.now.steps self.now.resources.items (λ c. AreLegal self.now.system self.now.steps horizon c result.all) }
     {
         let core = &self.state;
+        // for the prover: what holds of each system
         core.system.facts();
         let least = least_next(&core.resources, horizon);
         // The tick after the least stop, or the horizon where that is less.

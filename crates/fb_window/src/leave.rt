@@ -73,6 +73,7 @@ impl Core {
     pub fn facts(&self)
         ensures { IsReached self.now }
     {
+        // for the prover: what its type keeps
         let _state = &self.state;
     }
 
@@ -96,6 +97,7 @@ impl Core {
         ensures kept { IfOk result (λ r. (r.0.system ≡ self.system) × (r.0.steps ≡ self.steps) × (r.0.horizon ≡ bounds.horizon) × (r.0.pending ≡ self.pending)) }
         ensures few { IfOk result (λ r. vec_len r.1 ≤ 256) }
     {
+        // for the prover: what holds of each system
         system.facts();
         let Core { state } = self;
         let mut jobs = Vec::new(alloc);

@@ -66,6 +66,7 @@ fn copy_all(rows: &mut Vec<LinkRow>, alloc: Global, system: &System) -> Result<(
     requires { rows.old.items ≡ [] }
     ensures { OnOk result (AreLinksOf system.now rows.new.items) }
 {
+    // for the prover: what holds of each system
     system.facts();
     for link in 0..system.links() {
         let latency = copy_of(alloc, system.latency(link))?;
@@ -106,6 +107,7 @@ impl SystemLinks {
         ensures accepted { AreAccepted self.now }
         ensures limits { IsWithinLimits self.now.plan }
     {
+        // for the prover: what its type keeps
         let _rows = &self.rows;
     }
 }

@@ -44,6 +44,7 @@ impl Core {
         ensures at { IfOk result (λ c. IsAt system.now steps (core_of system.now steps []) c.resources.items) }
         ensures left { IfOk result (λ c. (horizon : ℕ) → HasHanded system.now steps horizon (core_of system.now steps []) (lists_of c.pending.items) []) }
     {
+        // for the prover: what holds of each system
         system.facts();
         let pending = no_lines(alloc, resources.len())?;
         let links = SystemLinks::of(alloc, system)?;

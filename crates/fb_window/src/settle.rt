@@ -117,6 +117,7 @@ impl Away {
         ensures belong { IfOk result (λ r. All (λ p. All (BelongsTo self.system) p.items) r.1.items) }
         ensures fronts { KeepsNothing self → IfOk result (λ r. AllZip IsFrontOf r.1.items dones.items) }
     {
+        // for the prover: what holds of each system
         system.facts();
         let Away { state: away } = self;
         let home = come_home(alloc, away.resting, away.pending, dones)?;

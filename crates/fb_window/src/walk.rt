@@ -145,6 +145,7 @@ impl Core {
         ensures pending { IfOk result (λ d. All (λ p. All (BelongsTo self.system) p.items) d.pending.items) }
         ensures walks { IfOk result (Walks self.system self.steps horizon most self) }
     {
+        // for the prover: what holds of each system
         system.facts();
         let Core { mut state } = self;
         if first_stop(&state.resources).is_some() {

@@ -25,6 +25,7 @@ impl Resource {
         requires agenda { IsOpened system.now (Some number) agenda }
         ensures { IfOk result (IsFresh system.now number) }
     {
+        // for the prover: what holds of each system
         system.facts();
         let sent = open_sent(alloc, system)?;
         let tree = Tree::build(alloc, system, number)?;
@@ -59,6 +60,7 @@ impl Resource {
     pub fn open_all(alloc: Global, system: &System) -> Result<Vec<Resource>, AllocError>
         ensures { IfOk result (λ v. AreOpened system.now v.items) }
     {
+        // for the prover: what holds of each system
         system.facts();
         let mut resources = Vec::new(alloc);
         let mut number = 0;

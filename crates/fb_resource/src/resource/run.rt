@@ -39,6 +39,7 @@ impl Resource {
         requires few { steps ≤ 10 ^ 7 }
         ensures { IfOk result (λ stop. HasRun system.now steps (with_queues self.old queues.old) to (Ran (with_queues self.new queues.new) queues.new.outbox.lines queues.new.mail stop)) }
     {
+        // for the prover: what holds of each system
         system.facts();
         let mut counts = TickCounts::new();
         let mut least = Least::new();
@@ -55,7 +56,7 @@ impl Resource {
             )?;
             self.stopped = taken.stop;
             if let Some(reason) = self.stopped {
-                put_next(&mut queues.agenda, taken.raised, &mut least)?;
+                put_next(&mut queues.agenda, taken.raised, &least)?;
                 return Ok(Some(StopMark {
                     tick: least.key.tick,
                     resource: least.key.resource,

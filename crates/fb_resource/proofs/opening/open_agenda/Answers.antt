@@ -3,7 +3,7 @@ use Rattle.fb_types.specs.Headline.{system_of}
 use Rattle.fb_resource.specs.Openings.{HasRestarts, HasStimuli, is_of}
 use Rattle.fb_resource.proofs.OpenIs.{opened, restarts_none, restarts_put, restarts_skip, stimuli_none, stimuli_put, stimuli_skip}
 use Rattle.fb_resource.proofs.opening.open_agenda.Goals as goal
-use Rattle.fb_resource.proofs.opening.open_agenda.Goals.{then-is_asked+in_ok-put, else-is_asked, then-is_asked-2+in_ok-start_restart, else-is_asked-2}
+use Rattle.fb_resource.proofs.opening.open_agenda.Goals.{then-is_asked+in_ok-put_stimulus, else-is_asked, then-is_asked-2+in_ok-start_restart, else-is_asked-2}
 
 -- ---- The stimuli
 
@@ -19,10 +19,10 @@ loop-row-preserved c =
     let is = c.key_of_stimulus-key.ensures.key in
     let may = c.key_of_stimulus-key.ensures.waits in
     elim c.if-is_asked.branch [
-      | then-is_asked+in_ok-put w ↦
+      | then-is_asked+in_ok-put_stimulus w ↦
           rw w.agenda-is
-          (stimuli_put i c.args.of row key old w.put.new.self is may (sym c.is_asked.ensures ∙ w.if-is_asked.true)
-          w.in_ok-put.ensures.put w.put.ensures.due c.loop-row.invariant)
+          (stimuli_put i c.args.of row key old w.put_stimulus.new.self is may (sym c.is_asked.ensures ∙ w.if-is_asked.true)
+          w.in_ok-put_stimulus.ensures.put w.put_stimulus.ensures.due c.loop-row.invariant)
       | else-is_asked w ↦ rw w.agenda-is (stimuli_skip i c.args.of row key old is (sym c.is_asked.ensures ∙ w.if-is_asked.false) c.loop-row.invariant)
     ]
 

@@ -38,8 +38,8 @@ loop-row-preserved c =
     let counted = c.loop-row.invariant.counted in
     let named = may.resource in
     let within : key.resource < length agendas = omega (arith, counted, named) in
-    stimulus_apart i row key old c.put.new.self agendas within (slice_get_read agendas (length agendas) key.resource old refl within c.index_mut.ensures.value) is may
-    c.in_ok-put.ensures.put c.put.ensures.due c.loop-row.invariant
+    stimulus_apart i row key old c.put_stimulus.new.self agendas within (slice_get_read agendas (length agendas) key.resource old refl within c.index_mut.ensures.value) is may
+    c.in_ok-put_stimulus.ensures.put c.put_stimulus.ensures.due c.loop-row.invariant
 
 -- ---- The timers that start by themselves
 

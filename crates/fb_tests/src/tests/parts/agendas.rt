@@ -1,7 +1,7 @@
 //! An agenda by itself. What is taken follows from the keys.
 
 use fb_agenda::{Agenda, Least};
-use fb_types::{Event, Key, Target, TimerAsk};
+use fb_types::{Key, Target, TimerAsk};
 use std::mem::forget;
 use std::process::Abort;
 
@@ -11,16 +11,18 @@ const TARGET: Target = Target {
     is_output: false,
 };
 
-/// A step with an agenda. Its keys are those of local events, by their ticks and numbers.
+/// A step with an agenda: local events by their ticks and numbers, stimuli by their ticks and rows.
 enum Step {
-    Put(u64, u128),
     PutLocal(u64, u128),
+    PutStimulus(u64, u32),
     /// The least tick that there is.
     Next(Option<u64>),
     /// Nothing is taken below a tick.
     TakeNone(u64),
-    /// What is taken below a tick.
+    /// The local event that is taken below a tick.
     Take(u64, u64, u128),
+    /// The stimulus that is taken below a tick.
+    TakeStimulus(u64, u64, u32),
 }
 
 /// This is the least tick that there is.
@@ -40,26 +42,27 @@ fn expect_taken(rt: &impl Abort, agenda: &mut Agenda, horizon: u64, expected: Op
 
 fn expect_step(rt: &impl Abort, agenda: &mut Agenda, step: &Step) {
     match *step {
-        Step::Put(tick, number) => agenda
-            .put(Key::local(tick, 0, number), Event::Local(TARGET))
-            .expect(rt, "memory"),
         Step::PutLocal(tick, number) => agenda
             .put_local(tick, 0, number, TARGET)
             .expect(rt, "memory"),
+        Step::PutStimulus(tick, row) => agenda.put_stimulus(tick, 0, row).expect(rt, "memory"),
         Step::Next(tick) => expect_next(rt, agenda, tick),
         Step::TakeNone(horizon) => expect_taken(rt, agenda, horizon, None),
         Step::Take(horizon, tick, number) => {
             expect_taken(rt, agenda, horizon, Some(Key::local(tick, 0, number)))
         }
+        Step::TakeStimulus(horizon, tick, row) => {
+            expect_taken(rt, agenda, horizon, Some(Key::stimulus(tick, 0, row)))
+        }
     }
 }
 
-/// What is put under a key that has an event takes its index. Nothing is taken at the horizon. Local events are taken
-/// in the order of their keys, also where one comes out of turn, or twice.
-static STEPS: [Step; 24] = [
-    Step::Put(2, 1),
-    Step::Put(2, 0),
-    Step::Put(2, 1),
+/// What is put under a key that has an event replaces it. Nothing is taken at the horizon. Events are taken in the order
+/// of their keys, also where one comes out of turn, or twice.
+static STEPS: [Step; 31] = [
+    Step::PutLocal(2, 1),
+    Step::PutLocal(2, 0),
+    Step::PutLocal(2, 1),
     Step::TakeNone(2),
     Step::Take(3, 2, 0),
     Step::Take(3, 2, 1),
@@ -71,14 +74,21 @@ static STEPS: [Step; 24] = [
     Step::PutLocal(7, 3),
     Step::PutLocal(7, 4),
     Step::PutLocal(7, 1),
+    Step::PutStimulus(9, 2),
+    Step::PutStimulus(7, 1),
+    Step::PutStimulus(8, 0),
+    Step::PutStimulus(7, 1),
     Step::Next(Some(7)),
+    Step::TakeStimulus(10, 7, 1),
     Step::Take(10, 7, 0),
     Step::Next(Some(7)),
     Step::Take(10, 7, 1),
     Step::Take(10, 7, 3),
     Step::Next(Some(7)),
     Step::Take(10, 7, 4),
+    Step::TakeStimulus(10, 8, 0),
     Step::Next(Some(9)),
+    Step::TakeStimulus(10, 9, 2),
     Step::Take(10, 9, 0),
     Step::Next(None),
 ];
@@ -89,6 +99,30 @@ fn the_least_key_is_taken_once(rt: HostRuntime) {
     for step in &STEPS {
         expect_step(&rt, &mut agenda, step);
     }
+    forget(agenda);
+}
+
+/// How many stimuli: more than what a row takes at any index.
+const MANY: u32 = 600;
+
+#[test]
+fn stimuli_that_come_in_falling_order_are_taken_in_rising_order(rt: HostRuntime) {
+    let mut agenda = Agenda::new(rt.alloc(), 1).expect(&rt, "memory");
+    for number in 0..MANY {
+        let row = MANY - 1 - number;
+        agenda
+            .put_stimulus(u64::from(row), 0, row)
+            .expect(&rt, "memory");
+    }
+    for row in 0..MANY {
+        expect_taken(
+            &rt,
+            &mut agenda,
+            1_000,
+            Some(Key::stimulus(u64::from(row), 0, row)),
+        );
+    }
+    expect_next(&rt, &agenda, None);
     forget(agenda);
 }
 

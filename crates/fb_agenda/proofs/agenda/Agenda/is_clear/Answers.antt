@@ -1,6 +1,8 @@
 use Rattle.std.proofs.Common.{sym, ap, subst, true, ◌∙◌}
 use Rattle.fb_agenda.specs.Agendas.{AreApart, local_events}
 use Rattle.fb_agenda.specs.Inside.{contents_of}
+use Rattle.fb_agenda.specs.Laters.{Pending}
+use Rattle.fb_agenda.proofs.Apart.{contents}
 use Rattle.fb_agenda.proofs.Clear.{is_clear}
 use Rattle.fb_agenda.proofs.agenda.Agenda.is_clear.Goals as goal
 
@@ -14,9 +16,7 @@ returns-then-is_past-clause-clear c =
 -- ---- It is found
 
 pub invariant_of-self : goal.invariant_of-self
-invariant_of-self c =
-    let v = contents_of c.self.inside in
-    subst (λ l. AreApart (record { running = v.running; later = l; due = v.due }) c.self.inside.later.has_local) (sym c.comes_past.ensures.kept) c.self.invariant
+invariant_of-self c = subst (λ (l : Pending). AreApart (contents (local_events c.self.inside.now) l)) (sym c.comes_past.ensures.kept) c.self.invariant
 
 pub returns-clause-clear : goal.returns-clause-clear
 returns-clause-clear c =
@@ -24,6 +24,4 @@ returns-clause-clear c =
     (is_clear c.comes_past.result (contents_of c.self.inside) (record { tick = c.args.tick; resource = c.args.resource }) (ap local_events c.if-not-is_empty.ensures) c.comes_past.ensures.past)
 
 pub returns-clause-kept : goal.returns-clause-kept
-returns-clause-kept c =
-    let v = contents_of c.self.inside in
-    ap (λ l. record v { later = l }) c.comes_past.ensures.kept ∙ c.self.view_is
+returns-clause-kept c = ap (λ (l : Pending). contents (local_events c.self.inside.now) l) c.comes_past.ensures.kept ∙ c.self.view_is

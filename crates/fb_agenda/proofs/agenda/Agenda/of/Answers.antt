@@ -4,4 +4,4 @@ use Rattle.fb_agenda.specs.Agendas.{local_events}
 use Rattle.fb_agenda.proofs.agenda.Agenda.of.Goals as goal
 
 pub invariant_of-result : goal.invariant_of-result
-invariant_of-result c = apart_none (local_events c.new-2.result) c.new.result c.args.due.items (ap local_events c.new-2.ensures) c.new.ensures
+invariant_of-result c = apart_none (local_events c.new-2.result) c.new.result.events c.new.result.due (ap local_events c.new-2.ensures)

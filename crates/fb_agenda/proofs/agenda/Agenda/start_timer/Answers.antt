@@ -1,23 +1,22 @@
-use Rattle.std.proofs.Common.{Some, arith, inr}
-use Rattle.std.specs.Prelude.{slice_set}
+use Rattle.std.proofs.Common.{◌<◌, length, sym, subst, arith}
 use Rattle.fb_types.specs.Keys.{timer_key}
 use Rattle.fb_types.specs.declared.run.Event.TheVariants.{Timer}
-use Rattle.fb_agenda.proofs.Apart.{later_apart, later_waits}
-use Rattle.fb_agenda.specs.Inside.{contents_of}
+use Rattle.fb_agenda.specs.Agendas.{Contents, local_events}
+use Rattle.fb_agenda.proofs.Apart.{put_later_apart, put_later_waits}
 use Rattle.fb_agenda.proofs.agenda.Agenda.start_timer.Goals as goal
 
-pub invariant_of-self-2 : goal.invariant_of-self-2
-invariant_of-self-2 c =
-    let v = contents_of c.self.inside in
-    let marked = c.self.inside.later.has_local in
+pub set_timer-requires : goal.set_timer-requires
+set_timer-requires c = subst (λ (x : Contents). c.args.instance < length x.due) (sym c.self.view_is) c.requires
+
+pub invariant_of-self : goal.invariant_of-self
+invariant_of-self c =
+    let i = c.self.inside in
     let key = timer_key c.args.tick c.args.resource c.args.instance in
-    later_apart v marked c.self.invariant key (Some (Timer c.args.instance)) c.set_timer.new.self c.in_ok-set_timer.ensures.put
-    (slice_set v.due c.args.instance c.args.tick) marked (inr (c.self.invariant.queue.local key (λ h. omega arith))) (λ e. (e, inr (λ h. omega arith)))
+    put_later_apart (local_events i.now) i.later c.set_timer.new.self c.self.invariant key (Timer c.args.instance) (c.self.invariant.queue.local key (λ h. omega arith)) c.set_timer.result c.set_timer.ensures.put c.set_timer.ensures.err
 
 pub returns-clause-put : goal.returns-clause-put
 returns-clause-put c =
-    let v = contents_of c.self.inside in
-    let marked = c.self.inside.later.has_local in
+    let i = c.self.inside in
     let key = timer_key c.args.tick c.args.resource c.args.instance in
     rw (← c.self.view_is)
-    (later_waits v marked c.self.invariant key (Some (Timer c.args.instance)) c.set_timer.new.self c.in_ok-set_timer.ensures.put (slice_set v.due c.args.instance c.args.tick) (c.self.invariant.queue.local key (λ h. omega arith)))
+    (put_later_waits (local_events i.now) i.later c.set_timer.new.self c.self.invariant key (Timer c.args.instance) (c.self.invariant.queue.local key (λ h. omega arith)) c.set_timer.result c.set_timer.ensures.put)

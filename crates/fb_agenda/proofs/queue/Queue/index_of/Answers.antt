@@ -13,7 +13,7 @@ returns-then-is_eq-clause-there c =
     let k = c.args.key.now in
     let i = c.loop-index.index in
     let same : same_key k c.key_at.result ≡ true = ap is_eq (sym c.cmp.ensures) ∙ sym c.is_eq.ensures ∙ c.if-is_eq.true in
-    let count = numbers_length q.tick q.resource q.waiting c.args.self.now c.self.view_is in
+    let count = numbers_length q.tick q.resource q.waiting.items c.args.self.now c.self.view_is in
     let within : i < length c.args.self.now = omega (arith, count, c.loop-index-test.true, c.len-index-end.ensures) in
     indexed c.args.self.now i k within (λ d. c.key_at.ensures d ∙ sym (same_key_is k c.key_at.result same))
 
@@ -29,5 +29,5 @@ loop-index-preserved c j d less =
 pub returns-clause-absent : goal.returns-clause-absent
 returns-clause-absent c =
     let q = c.self.inside in
-    let count = numbers_length q.tick q.resource q.waiting c.args.self.now c.self.view_is in
+    let count = numbers_length q.tick q.resource q.waiting.items c.args.self.now c.self.view_is in
     absent_all c.args.key.now c.args.self.now (λ j d less. c.loop-index.invariant j d (omega (arith, count, less, c.loop-index-test.false, c.len-index-end.ensures)))

@@ -1,8 +1,10 @@
-use Rattle.std.proofs.Common.{◌∙◌, sym}
-use Rattle.fb_agenda.proofs.Queueing.{key_of}
+use Rattle.std.proofs.Common.{◌<◌, ◌∙◌, length, sym, arith}
+use Rattle.fb_agenda.proofs.Queueing.{key_of, numbers_length}
 use Rattle.fb_agenda.proofs.queue.Queue.key_at.Goals as goal
 
 pub returns : goal.returns
 returns c d =
     let q = c.self.inside in
-    key_of q.tick q.resource q.waiting c.args.index c.number_at-number.result c.args.self.now c.self.view_is c.number_at-number.ensures d ∙ sym c.local.ensures
+    let count = numbers_length q.tick q.resource q.waiting.items c.args.self.now c.self.view_is in
+    let within : c.args.index < length q.waiting.items = omega (arith, count, c.requires) in
+    key_of q.tick q.resource q.waiting.items c.args.index _ c.args.self.now c.self.view_is within c.index.ensures d ∙ sym c.local.ensures

@@ -1,56 +1,38 @@
-use Rattle.fb_agenda.proofs.Calendars.{front_before, front_left, front_split, front_value, popped_before, popped_left, popped_split, popped_value}
+use Rattle.fb_agenda.proofs.Lists.{few_popped_split, front_popped, least_popped, many_popped_split, popped_few, popped_many, rest_rises}
 use Rattle.fb_agenda.proofs.store.Store.pop_first.Goals as goal
+
+-- ---- From the row
 
 pub invariant_of-self : goal.invariant_of-self
 invariant_of-self c =
-    let few = c.self.inside.few.items in
-    let many = c.self.inside.many.entries in
-    let leads = c.if-is_few_first.ensures.few in
+    let row = c.self.inside.row.items in
+    let split = c.self.invariant in
     let rest = c.pop_front.new.self.items in
     let o = c.pop_front.result in
-    front_split few many c.self.invariant leads rest o c.pop_front.ensures.items
+    let items = c.pop_front.ensures.items in
+    few_popped_split row c.self.inside.map.entries split rest o (rest_rises row rest split.rising o items) (front_popped row rest split.rising o items)
 
-pub returns-then-is_few_first-clause-value : goal.returns-then-is_few_first-clause-value
-returns-then-is_few_first-clause-value c =
-    let few = c.self.inside.few.items in
-    let many = c.self.inside.many.entries in
-    rw (← c.self.view_is) (front_value few many c.self.invariant c.if-is_few_first.ensures.few c.pop_front.new.self.items c.pop_front.result c.pop_front.ensures.items)
+pub returns-then-is_row_first-clause-popped : goal.returns-then-is_row_first-clause-popped
+returns-then-is_row_first-clause-popped c =
+    let row = c.self.inside.row.items in
+    let split = c.self.invariant in
+    let rest = c.pop_front.new.self.items in
+    rw (← c.self.view_is)
+    (popped_few row c.self.inside.map.entries split c.if-is_row_first.ensures.row rest c.pop_front.result (front_popped row rest split.rising c.pop_front.result c.pop_front.ensures.items))
 
-pub returns-then-is_few_first-clause-none_before : goal.returns-then-is_few_first-clause-none_before
-returns-then-is_few_first-clause-none_before c =
-    let few = c.self.inside.few.items in
-    let many = c.self.inside.many.entries in
-    rw (← c.self.view_is) (front_before few many c.self.invariant c.if-is_few_first.ensures.few c.pop_front.new.self.items c.pop_front.result c.pop_front.ensures.items)
+-- ---- From the map
 
-pub returns-then-is_few_first-clause-left : goal.returns-then-is_few_first-clause-left
-returns-then-is_few_first-clause-left c =
-    let few = c.self.inside.few.items in
-    let many = c.self.inside.many.entries in
-    rw (← c.self.view_is) (front_left few many c.self.invariant c.if-is_few_first.ensures.few c.pop_front.new.self.items c.pop_front.result c.pop_front.ensures.items)
-
-pub invariant_of-self-else-is_few_first : goal.invariant_of-self-else-is_few_first
-invariant_of-self-else-is_few_first c =
-    let few = c.self.inside.few.items in
-    let many = c.self.inside.many.entries in
+pub invariant_of-self-else-is_row_first : goal.invariant_of-self-else-is_row_first
+invariant_of-self-else-is_row_first c =
+    let map = c.self.inside.map.entries in
     let new = c.pop_first.new.self.entries in
-    let o = c.pop_first.result in
-    let updates = c.pop_first.ensures.updates in
-    popped_split few many c.self.invariant new (λ p u. u.0) o c.pop_first.ensures.value updates c.pop_first.ensures.unchanged
+    let facts = c.pop_first.ensures in
+    many_popped_split c.self.inside.row.items map c.self.invariant new c.pop_first.result (least_popped map new (λ p u. u.0) c.pop_first.result facts.value facts.least facts.updates facts.unchanged)
 
-pub returns-else-is_few_first-clause-value : goal.returns-else-is_few_first-clause-value
-returns-else-is_few_first-clause-value c =
-    let few = c.self.inside.few.items in
-    let many = c.self.inside.many.entries in
-    rw (← c.self.view_is) (popped_value few many c.self.invariant c.if-is_few_first.ensures.many c.pop_first.result c.pop_first.ensures.value)
-
-pub returns-else-is_few_first-clause-none_before : goal.returns-else-is_few_first-clause-none_before
-returns-else-is_few_first-clause-none_before c =
-    let few = c.self.inside.few.items in
-    let many = c.self.inside.many.entries in
-    rw (← c.self.view_is) (popped_before few many c.self.invariant c.if-is_few_first.ensures.many c.pop_first.result c.pop_first.ensures.value c.pop_first.ensures.least)
-
-pub returns-else-is_few_first-clause-left : goal.returns-else-is_few_first-clause-left
-returns-else-is_few_first-clause-left c =
-    let few = c.self.inside.few.items in
-    let many = c.self.inside.many.entries in
-    rw (← c.self.view_is) (popped_left few many c.self.invariant c.pop_first.new.self.entries (λ p u. u.0) c.pop_first.result c.pop_first.ensures.value c.pop_first.ensures.updates)
+pub returns-else-is_row_first-clause-popped : goal.returns-else-is_row_first-clause-popped
+returns-else-is_row_first-clause-popped c =
+    let map = c.self.inside.map.entries in
+    let new = c.pop_first.new.self.entries in
+    let facts = c.pop_first.ensures in
+    rw (← c.self.view_is)
+    (popped_many c.self.inside.row.items map c.self.invariant c.if-is_row_first.ensures.map new c.pop_first.result (least_popped map new (λ p u. u.0) c.pop_first.result facts.value facts.least facts.updates facts.unchanged))

@@ -1,15 +1,15 @@
 use Rattle.std.proofs.Common.{None, sym, subst}
 use Rattle.fb_agenda.specs.Agendas.{AreRising}
-use Rattle.fb_agenda.specs.Calendars.{Sets}
-use Rattle.fb_agenda.proofs.Calendars.{alone, few_sets, few_split, many_sets, many_split, removed_rises, removed_sets}
+use Rattle.fb_agenda.specs.Lists.{Sets}
+use Rattle.fb_agenda.proofs.Lists.{alone, few_sets, few_split, many_sets, many_split, removed_rises, removed_sets}
 use Rattle.fb_agenda.proofs.store.Store.remove.Goals as goal
 
 -- ---- The key is not in the row
 
 pub invariant_of-self : goal.invariant_of-self
 invariant_of-self c =
-    let few = c.self.inside.few.items in
-    let many = c.self.inside.many.entries in
+    let few = c.self.inside.row.items in
+    let many = c.self.inside.map.entries in
     let k = c.args.key.now in
     let new = c.remove.new.self.entries in
     let sets = c.remove.ensures.updates.0 in
@@ -18,14 +18,14 @@ invariant_of-self c =
 pub returns-in_default : goal.returns-in_default
 returns-in_default c =
     rw (← c.self.view_is)
-    (many_sets c.self.inside.few.items c.self.inside.many.entries c.self.invariant c.args.key.now None c.remove.new.self.entries c.remove.ensures.updates.0 c.in_default.ensures.absent)
+    (many_sets c.self.inside.row.items c.self.inside.map.entries c.self.invariant c.args.key.now None c.remove.new.self.entries c.remove.ensures.updates.0 c.in_default.ensures.absent)
 
 -- ---- The key is in the row
 
 pub invariant_of-self-2 : goal.invariant_of-self-2
 invariant_of-self-2 c =
-    let few = c.self.inside.few.items in
-    let many = c.self.inside.many.entries in
+    let few = c.self.inside.row.items in
+    let many = c.self.inside.map.entries in
     let split = c.self.invariant in
     let k = c.args.key.now in
     let i = c.in-Some.index in
@@ -39,8 +39,8 @@ invariant_of-self-2 c =
 
 pub returns : goal.returns
 returns c =
-    let few = c.self.inside.few.items in
-    let many = c.self.inside.many.entries in
+    let few = c.self.inside.row.items in
+    let many = c.self.inside.map.entries in
     let split = c.self.invariant in
     let k = c.args.key.now in
     let i = c.in-Some.index in

@@ -1,10 +1,13 @@
 use Rattle.std.proofs.Common.{None, subst}
 use Rattle.fb_types.specs.declared.key.Key.{Key}
-use Rattle.fb_agenda.specs.Calendars.{Sets}
+use Rattle.fb_agenda.specs.Lists.{Sets}
 use Rattle.fb_agenda.proofs.Timing.{none_sets}
 use Rattle.fb_agenda.proofs.timer_row.Timers.cancel.Goals as goal
 
 pub returns-then-is_before-clause-sets : goal.returns-then-is_before-clause-sets
 returns-then-is_before-clause-sets c =
     let es = c.args.self.now in
-    subst (λ (k : Key). Sets k None es es) c.timer.ensures (none_sets c.timer.result es c.if-is_before.ensures)
+    subst (λ (k : Key). Sets k None es es) c.timer-key.ensures (none_sets c.timer-key.result es c.if-is_before.ensures)
+
+pub returns-clause-sets : goal.returns-clause-sets
+returns-clause-sets c = subst (λ (k : Key). Sets k None c.args.self.now c.remove_within.new.self) c.timer-key.ensures c.remove_within.ensures.sets

@@ -3,7 +3,7 @@ use Rattle.std.specs.Map.{lookup}
 use Rattle.std.proofs.lemmas.List.Sorted.{answers_always}
 use Rattle.fb_types.specs.Keys.{same_key}
 use Rattle.fb_agenda.specs.Agendas.{AreRising}
-use Rattle.fb_agenda.specs.Calendars.{Sets}
+use Rattle.fb_agenda.specs.Lists.{Sets}
 use Rattle.fb_agenda.specs.Timing.{timer_event, timer_events}
 use Rattle.fb_agenda.specs.declared.timer_row.Timed.{Timed}
 use Rattle.fb_agenda.proofs.Queueing.{where_some}

@@ -148,8 +148,7 @@ returns-in-Some c =
     let its = gave.taken m.state k.tick now (here_at i m.state k old mine may.later m.here) m.counts in
     ran_stop i c.args.steps old new k e a sound gave.tree mine inv.live may.event.here gone c.args.self.now.tree.resource c.args.to l comes inv.tree finds.below
     (taken_alike i c.args.steps m.state k (event_of i e) taken.stop k.tick apart.tree apart.counts went mid last put its) c.in-Some.reason c.in-Some.is refl)
-    (ap (λ (j : Key). Some (record { tick = j.tick; resource = j.resource; reason = c.in-Some.reason })) c.put_next.ensures.key
-    ∙ marked z.key apart.tree.resource taken.stop c.in-Some.reason (gave.moment.1 ∙ mine ∙ sym gave.tree) c.in-Some.is ∙ ap (λ t. mark_of apart.tree.resource t taken.stop) gave.moment.0)
+    (marked z.key apart.tree.resource taken.stop c.in-Some.reason (gave.moment.1 ∙ mine ∙ sym gave.tree) c.in-Some.is ∙ ap (λ t. mark_of apart.tree.resource t taken.stop) gave.moment.0)
 
 -- ---- One event more
 

@@ -114,13 +114,11 @@ returns-in-Some-clause-pauses c start is =
     let d = comes.0 in
     let taken = c.in_ok-taken.ensures.taken d.state d.agenda (at_left i k d was c.events.self.queues.agenda comes.2 finds.left) in
     let least = takes_least i c.args.limit d k e _ inv.was _ _ comes.2.agenda finds.found finds.least taken in
-    let z = c.put_next.new.least in
+    let z = c.take.new.least in
     let new = on_agenda c.put_next.new.agenda c.take.new.self in
     let moment = c.in_ok-taken.ensures.moment in
-    let tick = ap (λ (j : Key). j.tick) c.put_next.ensures.key ∙ moment.0 in
-    let resource = ap (λ (j : Key). j.resource) c.put_next.ensures.key ∙ moment.1 in
-    subst (λ n. Pauses i c.args.horizon c.args.limit start c.args.self.now new (Stop (record { tick = n; resource = z.key.resource; reason = c.in-Some.reason }))) (sym tick)
-    (subst (λ n. Pauses i c.args.horizon c.args.limit start c.args.self.now new (Stop (record { tick = k.tick; resource = n; reason = c.in-Some.reason }))) (sym resource) (
+    subst (λ n. Pauses i c.args.horizon c.args.limit start c.args.self.now new (Stop (record { tick = n; resource = z.key.resource; reason = c.in-Some.reason }))) (sym moment.0)
+    (subst (λ n. Pauses i c.args.horizon c.args.limit start c.args.self.now new (Stop (record { tick = k.tick; resource = n; reason = c.in-Some.reason }))) (sym moment.1) (
       (inv.ready.1.queues.order.waits k e finds.found).resource,
       completes_after i c.args.horizon c.args.limit start d comes.1 _ c.events.self.queues.outbox.lines.items _ _ comes.3 comes.4
           (completes_stop i c.args.horizon c.args.limit d _ c.in-Some.reason _ _ least (taken.stops ∙ c.in-Some.is) finds.below taken.lines),
