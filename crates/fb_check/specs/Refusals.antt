@@ -1,5 +1,5 @@
 -- Why inputs are not accepted (this project's profile).
-use Rattle.std.specs.Prelude.{◌≡◌, ◌≢◌, ℕ, List, [], All, Option, Some, None}
+use Rattle.std.specs.Prelude.{◌≡◌, ◌≢◌, ℕ, List, [], ◌∷◌, All, Option, Some, None, map}
 use Rattle.fb_types.specs.Accepted.{IsLeastFault}
 use Rattle.fb_types.specs.Headline.{Inputs, inputs}
 use Rattle.fb_types.specs.declared.library.Library.{Library}
@@ -20,11 +20,15 @@ use Rattle.fb_check.specs.declared.case.Case.{Case}
 use Rattle.fb_check.specs.declared.error.CheckError.{CheckError}
 use Rattle.fb_check.specs.declared.error.CheckError.TheVariants.{Memory, Refused}
 use Rattle.fb_check.specs.declared.fault.Fault.{Fault}
-use Rattle.fb_check.specs.declared.fault.Fault.TheVariants as kind
+use Rattle.fb_check.specs.declared.fault.Fault.TheVariants as of
 use Rattle.fb_check.specs.declared.refusal.Refusal.{Refusal}
-use Rattle.fb_check.specs.declared.refusal.Refusal.TheVariants.{BadStimulus, KindWrong, NameUnknown, NoEvent, NoLink, NotMapped, OutOfRange, OverLimit, TooHigh, Twice, TwoSources}
-use Rattle.fb_check.specs.declared.refusal.Stop.{Stop}
-use Rattle.fb_check.specs.declared.refusal.Stop.TheVariants as stop
+use Rattle.fb_check.specs.declared.refusal.CheckEnd.{CheckEnd}
+use Rattle.fb_check.specs.declared.refusal.CheckEnd.TheVariants as end
+use Rattle.fb_check.specs.declared.location.Limit.{Limit}
+use Rattle.fb_check.specs.declared.location.Location.{Location}
+use Rattle.fb_check.specs.declared.location.Location.TheVariants as at
+use Rattle.fb_check.specs.declared.location.StimulusLocation.{StimulusLocation}
+use Rattle.fb_check_names.specs.declared.location.Descent.{Descent}
 
 -- the number of a refusal
 abbrev pub number_of : CheckError → Option ℕ
@@ -42,45 +46,44 @@ inputs_in c = inputs c.library.now c.plan.now c.stimuli.now
 
 -- ---- With locations
 
--- what is refused
-abbrev pub fault_of : Refusal → Fault
-fault_of (Twice v) = kind.NameTwice
-fault_of (NameUnknown v) = kind.NameUnknown
-fault_of (KindWrong v) = kind.KindWrong
-fault_of (OutOfRange v) = kind.OutOfRange
-fault_of (TwoSources v) = kind.TwoSources
-fault_of (TooHigh d) = kind.TooHigh
-fault_of (NotMapped v) = kind.NotMapped
-fault_of (NoLink v) = kind.NoLink
-fault_of (NoEvent v) = kind.NoEvent
-fault_of (BadStimulus v) = kind.BadStimulus
-fault_of (OverLimit l) = kind.OverLimit
+-- The one location of a composite type that is too high.
+abbrev pub IsOneTooHigh : Library → List Location → Type 0
+IsOneTooHigh lib locations = (d : Descent) × (locations ≡ at.TooHigh d ∷ []) × IsTooHighAt lib d
 
--- these are all locations at which the number applies; of types that are too high, and of limits, it is one
-abbrev pub AreAll : Library → Plan → List Stimulus → Refusal → Type 0
-AreAll lib plan stimuli (Twice v) = v.items ≡ twice_all lib plan
-AreAll lib plan stimuli (NameUnknown v) = v.items ≡ unknown_all lib plan
-AreAll lib plan stimuli (KindWrong v) = v.items ≡ misfits_all lib
-AreAll lib plan stimuli (OutOfRange v) = v.items ≡ misjoins_all lib
-AreAll lib plan stimuli (TwoSources v) = v.items ≡ joined_all lib
-AreAll lib plan stimuli (TooHigh d) = IsTooHighAt lib d
-AreAll lib plan stimuli (NotMapped v) = v.items ≡ unmapped_all lib plan
-AreAll lib plan stimuli (NoLink v) = v.items ≡ unlinked_all lib plan
-AreAll lib plan stimuli (NoEvent v) = v.items ≡ unserved_all lib plan
-AreAll lib plan stimuli (BadStimulus v) = (v.items ≢ []) × All (IsBadAt lib stimuli) v.items × AreAllBad lib stimuli v.items
-AreAll lib plan stimuli (OverLimit l) = IsOver lib stimuli l
+-- Stimuli that the application can't take: each that it can't take is among them.
+abbrev pub AreAllStimuli : Library → List Stimulus → List Location → Type 0
+AreAllStimuli lib stimuli locations =
+    (found : List StimulusLocation) × (locations ≡ map (λ p. at.BadStimulus p) found) × (found ≢ []) × All (IsBadAt lib stimuli) found × AreAllBad lib stimuli found
 
--- A refusal with all locations has the least number that applies.
+-- The one limit that is exceeded.
+abbrev pub IsOneOver : Library → List Stimulus → List Location → Type 0
+IsOneOver lib stimuli locations = (l : Limit) × (locations ≡ at.OverLimit l ∷ []) × IsOver lib stimuli l
+
+-- these are all locations at which the fault applies; of types that are too high, and of limits, it is one
+abbrev pub AreAll : Library → Plan → List Stimulus → Fault → List Location → Type 0
+AreAll lib plan stimuli of.NameTwice locations = locations ≡ map (λ p. at.NameTwice p) (twice_all lib plan)
+AreAll lib plan stimuli of.NameUnknown locations = locations ≡ map (λ p. at.NameUnknown p) (unknown_all lib plan)
+AreAll lib plan stimuli of.KindWrong locations = locations ≡ map (λ p. at.KindWrong p) (misfits_all lib)
+AreAll lib plan stimuli of.OutOfRange locations = locations ≡ map (λ p. at.OutOfRange p) (misjoins_all lib)
+AreAll lib plan stimuli of.TwoSources locations = locations ≡ map (λ p. at.TwoSources p) (joined_all lib)
+AreAll lib plan stimuli of.TooHigh locations = IsOneTooHigh lib locations
+AreAll lib plan stimuli of.NotMapped locations = locations ≡ map (λ p. at.NotMapped p) (unmapped_all lib plan)
+AreAll lib plan stimuli of.NoLink locations = locations ≡ map (λ p. at.NoLink p) (unlinked_all lib plan)
+AreAll lib plan stimuli of.NoEvent locations = locations ≡ map (λ p. at.NoEvent p) (unserved_all lib plan)
+AreAll lib plan stimuli of.BadStimulus locations = AreAllStimuli lib stimuli locations
+AreAll lib plan stimuli of.OverLimit locations = IsOneOver lib stimuli locations
+
+-- A refusal has the least number that applies, and all locations at which it does.
 pub record IsRefusal (i : Inputs) (r : Refusal) : Type 0 where
-  pub least : IsLeastFault (fault.number_of (fault_of r)) i.library i.plan i.stimuli
-  pub all : AreAll i.library i.plan i.stimuli r
+  pub least : IsLeastFault (fault.number_of r.fault) i.library i.plan i.stimuli
+  pub all : AreAll i.library i.plan i.stimuli r.fault r.locations.items
 
--- the error of a check that stops so
-abbrev pub error_of : Stop → CheckError
-error_of stop.Memory = Memory
-error_of (stop.Refused r) = Refused (fault_of r)
+-- the error of a check that ends so
+abbrev pub error_of : CheckEnd → CheckError
+error_of end.Memory = Memory
+error_of (end.Refused r) = Refused r.fault
 
--- A check stops for memory, or for such a refusal.
-abbrev pub IsStop : Inputs → Stop → Type 0
-IsStop i stop.Memory = Unit {0}
-IsStop i (stop.Refused r) = IsRefusal i r
+-- A check ends since memory runs out, or with such a refusal.
+abbrev pub IsCheckEnd : Inputs → CheckEnd → Type 0
+IsCheckEnd i end.Memory = Unit {0}
+IsCheckEnd i (end.Refused r) = IsRefusal i r

@@ -7,7 +7,7 @@ pub mod Roles
 pub mod Trees
 pub mod Checks
 pub mod Unknown
-pub mod There
+pub mod Present
 pub mod Scopes
 pub mod Unknowns
 pub mod Mentions

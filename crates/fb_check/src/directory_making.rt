@@ -132,6 +132,7 @@ pub fn inputs_of_each<'a, T: Interfaced>(
     let mut inputs = Items::new(alloc);
     for each in all {
         let ports = each.interface();
+        // for the prover: there are fewer than 2^32 ports of each kind, so their indexes fit
         ports.event_inputs.count();
         ports.inputs.count();
         let events = ports.event_inputs.as_slice();

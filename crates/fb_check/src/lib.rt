@@ -34,5 +34,5 @@ pub use error::CheckError;
 pub use fault::Fault;
 pub use fb_system::System;
 pub use judgement::{judge, judged, why_refused};
-pub use location::{Limit, StimulusFault, StimulusLocation};
+pub use location::{Limit, Location, StimulusFault, StimulusLocation};
 pub use refusal::Refusal;

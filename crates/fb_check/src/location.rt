@@ -1,4 +1,36 @@
-//! Locations in stimuli, and limits.
+//! Locations at which refusals apply, and limits.
+
+use fb_check_names::{
+    Descent, GivenTwice, Joined, Misfit, Misjoin, UnknownName, Unlinked, Unmapped,
+};
+
+/// A location at which a refusal applies, under the name of its fault. It counts what is meant by its indexes in the
+/// lists of a declaration, a deployment or stimuli.
+#[derive(Clone, Copy)]
+pub enum Location {
+    /// What is given twice (E20).
+    NameTwice(GivenTwice),
+    /// A name that nothing of the required kind has (E21).
+    NameUnknown(UnknownName),
+    /// An expression, a statement or a value of a wrong kind (E22).
+    KindWrong(Misfit),
+    /// A data connection to a type that does not contain all values (E23).
+    OutOfRange(Misjoin),
+    /// Two data connections that lead to one port (E24).
+    TwoSources(Joined),
+    /// A composite type that contains itself or is too high (E25).
+    TooHigh(Descent),
+    /// An instance of the application that is not mapped to one resource (E26).
+    NotMapped(Unmapped),
+    /// A connection between two resources without a link (E27).
+    NoLink(Unlinked),
+    /// A data connection between two resources that no event serves, by its index in the application (E28).
+    NoEvent(usize),
+    /// A stimulus that the application can't take (E29).
+    BadStimulus(StimulusLocation),
+    /// A limit that is exceeded (E30).
+    OverLimit(Limit),
+}
 
 /// What is wrong with a stimulus (E29). Settings are counted from 0.
 #[derive(Clone, Copy)]

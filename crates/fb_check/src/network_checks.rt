@@ -3,12 +3,14 @@
 ghost use Rattle.std.specs.Prelude.{IfOk, IfErr};
 ghost use Rattle.fb_check_names.specs.Catalog.{IsCatalog};
 ghost use Rattle.fb_check_names.specs.Numbers.{IsResolved};
-ghost use Rattle.fb_check.specs.Refusals.{IsStop, inputs_in};
+ghost use Rattle.fb_check.specs.Refusals.{IsCheckEnd, inputs_in};
 ghost use Rattle.fb_check.specs.Verdicts.{HasPassed};
 
 use crate::case::Case;
+use crate::fault::Fault;
+use crate::location::Location;
 use crate::networks::{joined_locations, misjoin_locations, too_high_location};
-use crate::refusal::{Refusal, Stop, passed};
+use crate::refusal::{CheckEnd, Refusal, passed};
 use crate::types::misfit_locations;
 use fb_check_names::{Catalog, Resolved};
 use std::alloc::Global;
@@ -19,28 +21,48 @@ fn judge_kinds(
     case: &Case,
     catalog: &Catalog,
     resolved: &Resolved,
-) -> Result<(), Stop>
+) -> Result<(), CheckEnd>
     requires catalog { IsCatalog case.now.library.now case.now.plan.now catalog.now }
     requires resolved { IsResolved case.now.library.now case.now.plan.now resolved.now }
     requires passed { HasPassed 22 case.now }
     ensures ok { IfOk result (λ _. HasPassed 23 case.now) }
-    ensures refused { IfErr result (IsStop (inputs_in case.now)) }
+    ensures refused { IfErr result (IsCheckEnd (inputs_in case.now)) }
 {
     let found = misfit_locations(alloc, case.library, catalog, resolved)?;
-    let is_right = found.is_empty();
-    passed(is_right, Refusal::KindWrong(found), ())
+    let locations = found
+        .into_iter()
+        .map(|misfit| Location::KindWrong(misfit))
+        .collect(alloc)?;
+    passed(Fault::KindWrong, locations, ())
 }
 
 /// E23: data connections to types that contain all values.
-fn judge_ranges(alloc: Global, case: &Case, resolved: &Resolved) -> Result<(), Stop>
+fn judge_ranges(alloc: Global, case: &Case, resolved: &Resolved) -> Result<(), CheckEnd>
     requires resolved { IsResolved case.now.library.now case.now.plan.now resolved.now }
     requires passed { HasPassed 23 case.now }
     ensures ok { IfOk result (λ _. HasPassed 24 case.now) }
-    ensures refused { IfErr result (IsStop (inputs_in case.now)) }
+    ensures refused { IfErr result (IsCheckEnd (inputs_in case.now)) }
 {
     let found = misjoin_locations(alloc, case.library, resolved)?;
-    let is_right = found.is_empty();
-    passed(is_right, Refusal::OutOfRange(found), ())
+    let locations = found
+        .into_iter()
+        .map(|connection| Location::OutOfRange(connection))
+        .collect(alloc)?;
+    passed(Fault::OutOfRange, locations, ())
+}
+
+/// E24: one source for each port.
+fn judge_sources(alloc: Global, case: &Case) -> Result<(), CheckEnd>
+    requires { HasPassed 24 case.now }
+    ensures ok { IfOk result (λ _. HasPassed 25 case.now) }
+    ensures refused { IfErr result (IsCheckEnd (inputs_in case.now)) }
+{
+    let found = joined_locations(alloc, case.library)?;
+    let locations = found
+        .into_iter()
+        .map(|joined| Location::TwoSources(joined))
+        .collect(alloc)?;
+    passed(Fault::TwoSources, locations, ())
 }
 
 /// The checks from E22 to E25: those above, one source for each port, and composites of a height up to 16.
@@ -49,19 +71,20 @@ pub fn judge_networks(
     case: &Case,
     catalog: &Catalog,
     resolved: &Resolved,
-) -> Result<(), Stop>
+) -> Result<(), CheckEnd>
     requires catalog { IsCatalog case.now.library.now case.now.plan.now catalog.now }
     requires resolved { IsResolved case.now.library.now case.now.plan.now resolved.now }
     ensures ok { IfOk result (λ _. HasPassed 26 case.now) }
-    ensures refused { IfErr result (IsStop (inputs_in case.now)) }
+    ensures refused { IfErr result (IsCheckEnd (inputs_in case.now)) }
 {
     judge_kinds(alloc, case, catalog, resolved)?;
     judge_ranges(alloc, case, resolved)?;
-    let joined = joined_locations(alloc, case.library)?;
-    let are_single = joined.is_empty();
-    passed(are_single, Refusal::TwoSources(joined), ())?;
+    judge_sources(alloc, case)?;
     match too_high_location(alloc, resolved)? {
-        Some(location) => Err(Stop::Refused(Refusal::TooHigh(location))),
+        Some(descent) => {
+            let high = Location::TooHigh(descent);
+            Err(CheckEnd::Refused(Refusal::at(alloc, Fault::TooHigh, high)?))
+        }
         None => Ok(()),
     }
 }

@@ -1,138 +1,113 @@
 //! Why inputs are refused, and where.
 
-ghost use Rattle.std.specs.Prelude.{◌≡◌, ⊤, IfOk, IfErr, MatchOption, false, true};
+ghost use Rattle.std.specs.Prelude.{◌≡◌, ◌≢◌, [], ◌∷◌, ⊤, IfOk, IfErr, MatchOption};
 ghost use Rattle.fb_types.specs.Headline.{Inputs};
-ghost use Rattle.fb_check.specs.Refusals.{IsRefusal, IsStop, error_of, fault_of};
-ghost use Rattle.fb_check.specs.declared.refusal.Stop.TheVariants.{Memory, Refused};
+ghost use Rattle.fb_check.specs.Refusals.{IsCheckEnd, IsRefusal, error_of};
+ghost use Rattle.fb_check.specs.declared.refusal.CheckEnd.TheVariants.{Memory, Refused};
 
 use crate::error::CheckError;
 use crate::fault::Fault;
-use crate::location::{Limit, StimulusLocation};
-use fb_check_names::{
-    Descent, GivenTwice, Joined, Misfit, Misjoin, UnknownName, Unlinked, Unmapped,
-};
-use std::alloc::AllocError;
+use crate::location::Location;
+use std::alloc::{AllocError, Global};
 
-/// Why inputs are refused: the least number that applies, with all locations at which it does, in the order of the
-/// declaration or of the stimuli.
-pub enum Refusal {
-    /// What is given twice (E20).
-    Twice(Vec<GivenTwice>),
-    /// Names that nothing of the required kind has (E21).
-    NameUnknown(Vec<UnknownName>),
-    /// Values, expressions and statements of a wrong kind (E22).
-    KindWrong(Vec<Misfit>),
-    /// Data connections to types that do not contain all values (E23).
-    OutOfRange(Vec<Misjoin>),
-    /// Data connections that lead to the port of one before (E24).
-    TwoSources(Vec<Joined>),
-    /// A composite type that contains itself or is too high (E25): one is found.
-    TooHigh(Descent),
-    /// Instances of the application that are not mapped to one resource (E26).
-    NotMapped(Vec<Unmapped>),
-    /// Connections between two resources without a link (E27).
-    NoLink(Vec<Unlinked>),
-    /// Data connections between two resources that no event serves, by their indexes in the application (E28).
-    NoEvent(Vec<usize>),
-    /// Stimuli that the application can't take (E29).
-    BadStimulus(Vec<StimulusLocation>),
-    /// A limit that is exceeded (E30).
-    OverLimit(Limit),
+/// Why inputs are refused, and where: all locations at which the fault applies, in the order of the declaration or of
+/// the stimuli. Of types that are too high and of limits it is one.
+pub struct Refusal {
+    /// The fault with the least number, of those that apply.
+    pub fault: Fault,
+    /// Where it applies: one location at least, each of this fault.
+    pub locations: Vec<Location>,
 }
 
 // Drop is written by hand, so that callers need not prove it again (docs/DECISIONS.md, "Drop").
 impl Drop for Refusal {
     fn drop(self) {
-        match self {
-            Refusal::Twice(_)
-            | Refusal::NameUnknown(_)
-            | Refusal::KindWrong(_)
-            | Refusal::OutOfRange(_)
-            | Refusal::TwoSources(_)
-            | Refusal::TooHigh(_)
-            | Refusal::NotMapped(_)
-            | Refusal::NoLink(_)
-            | Refusal::NoEvent(_)
-            | Refusal::BadStimulus(_)
-            | Refusal::OverLimit(_) => {}
-        }
+        let Refusal {
+            fault: _,
+            locations: _,
+        } = self;
     }
 }
 
 impl Refusal {
-    /// What is refused.
-    pub fn fault(&self) -> Fault
-        ensures { result ≡ fault_of self.now }
+    /// A refusal at one location.
+    pub(crate) fn at(alloc: Global, fault: Fault, location: Location) -> Result<Refusal, AllocError>
+        ensures { IfOk result (λ r. (r.fault ≡ fault) × (r.locations.items ≡ location ∷ [])) }
     {
-        match self {
-            Refusal::Twice(_) => Fault::NameTwice,
-            Refusal::NameUnknown(_) => Fault::NameUnknown,
-            Refusal::KindWrong(_) => Fault::KindWrong,
-            Refusal::OutOfRange(_) => Fault::OutOfRange,
-            Refusal::TwoSources(_) => Fault::TwoSources,
-            Refusal::TooHigh(_) => Fault::TooHigh,
-            Refusal::NotMapped(_) => Fault::NotMapped,
-            Refusal::NoLink(_) => Fault::NoLink,
-            Refusal::NoEvent(_) => Fault::NoEvent,
-            Refusal::BadStimulus(_) => Fault::BadStimulus,
-            Refusal::OverLimit(_) => Fault::OverLimit,
-        }
+        let mut locations = Vec::new(alloc);
+        locations.push(location)?;
+        Ok(Refusal { fault, locations })
+    }
+
+    /// The locations alone.
+    pub fn into_locations(self) -> Vec<Location>
+        ensures { result.items ≡ self.locations.items }
+    {
+        let Refusal {
+            fault: _,
+            locations,
+        } = self;
+        locations
     }
 }
 
-/// Why a check stops before its end.
-pub enum Stop {
+/// Why a check ends before its last number.
+pub enum CheckEnd {
     Memory,
     /// The inputs are refused.
     Refused(Refusal),
 }
 
-impl Drop for Stop {
+impl Drop for CheckEnd {
     fn drop(self) {
         match self {
-            Stop::Memory | Stop::Refused(_) => {}
+            CheckEnd::Memory | CheckEnd::Refused(_) => {}
         }
     }
 }
 
-impl From<AllocError> for Stop {
+impl From<AllocError> for CheckEnd {
     ghost from_gives = { λ _ e. e ≡ Memory };
 
-    fn from(_error: AllocError) -> Stop {
-        Stop::Memory
+    fn from(_error: AllocError) -> CheckEnd {
+        CheckEnd::Memory
     }
 }
 
-impl Stop {
-    /// The error of a check that stops so.
+impl CheckEnd {
+    /// The error of a check that ends so.
     pub(crate) fn error(&self) -> CheckError
         ensures { result ≡ error_of self.now }
     {
         match self {
-            Stop::Memory => CheckError::Memory,
-            Stop::Refused(refusal) => CheckError::Refused(refusal.fault()),
+            CheckEnd::Memory => CheckError::Memory,
+            CheckEnd::Refused(refusal) => CheckError::Refused(refusal.fault),
         }
     }
 
     /// Why the inputs are refused, unless memory ran out.
     pub(crate) fn refusal(self) -> Option<Refusal>
-        ensures { (i : Inputs) → IsStop i self → MatchOption result ⊤ (IsRefusal i) }
+        ensures { (i : Inputs) → IsCheckEnd i self → MatchOption result ⊤ (IsRefusal i) }
     {
         match self {
-            Stop::Memory => None,
-            Stop::Refused(refusal) => Some(refusal),
+            CheckEnd::Memory => None,
+            CheckEnd::Refused(refusal) => Some(refusal),
         }
     }
 }
 
-/// What a check made, if it found nothing. Otherwise the check stops for this refusal.
-pub(crate) fn passed<T: Drop>(is_right: bool, refusal: Refusal, made: T) -> Result<T, Stop>
-    ensures ok { IfOk result (λ x. (x ≡ made) × (is_right ≡ true)) }
-    ensures refused { IfErr result (λ s. (s ≡ Refused refusal) × (is_right ≡ false)) }
+/// What a check made, if it found no location. Otherwise the check ends, and the inputs are refused for this fault.
+pub(crate) fn passed<T: Drop>(
+    fault: Fault,
+    locations: Vec<Location>,
+    made: T,
+) -> Result<T, CheckEnd>
+    ensures ok { IfOk result (λ x. (x ≡ made) × (locations.items ≡ [])) }
+    ensures refused { IfErr result (λ e. (e ≡ Refused (record { fault = fault; locations = locations })) × (locations.items ≢ [])) }
 {
-    if is_right {
+    if locations.is_empty() {
         Ok(made)
     } else {
-        Err(Stop::Refused(refusal))
+        Err(CheckEnd::Refused(Refusal { fault, locations }))
     }
 }

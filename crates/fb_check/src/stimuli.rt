@@ -12,7 +12,7 @@ ghost use Rattle.fb_check.specs.Stimuli.{AreAllBad, AreSlotsOr, IsAdded, IsBadAt
 use crate::directory::{Directory, inputs_at};
 use crate::directory_making::{TypeInputs, inputs_of_each, targets_of};
 use crate::location::{StimulusFault, StimulusLocation};
-use crate::types::there::push_one;
+use crate::types::adding::push_one;
 use fb_check_names::{Catalog, index_of_name, indexes};
 use fb_system::{SlotValue, StimulusRow};
 use fb_types::{Items, Library, Name, Setting, Stimulus, Value, all_ports};
@@ -66,10 +66,10 @@ fn slots_of<'a>(
 {
     let settings = stimulus.settings.as_slice();
     let mut slots = Items::new(alloc);
-    for (location, setting) in settings.iter().enumerate() {
+    for (index, setting) in settings.iter().enumerate() {
         match slot_of(directory, inputs, stimulus, setting) {
             Some(slot) => slots.push(slot)?,
-            None => return Ok(Err(location)),
+            None => return Ok(Err(index)),
         }
     }
     Ok(Ok(slots))
@@ -104,6 +104,7 @@ fn row_of<'a>(
     if is_set_twice {
         return Ok(Err(StimulusFault::Twice));
     }
+    // for the prover: there are fewer than 2^32 instances, so the index fits
     library.application.network.instances.count();
     Ok(Ok(StimulusRow {
         tick: stimulus.tick,

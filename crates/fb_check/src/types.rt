@@ -9,10 +9,11 @@
 //! `laws` and `kind_laws` the number applies if a location is listed. `statements::all_statements` lists the statements
 //! of an algorithm as they begin in the text.
 //!
-//! Read in this order: `interface` and `scope`, the meaning of names; `there`, items added to lists; `mentions`,
+//! Read in this order: `interface` and `scope`, the meaning of names; `adding`, items added to lists; `mentions`,
 //! `charts` and `basics`, names in basic types; `ends` and `networks`, networks; `blocks` and `deployment`;
 //! `resolution`; `laws`. Then `value_kinds`, kinds; `variables`; `statements`, `misfits`; `kind_laws`.
 
+pub(crate) mod adding;
 mod basics;
 mod blocks;
 mod charts;
@@ -27,7 +28,6 @@ mod networks;
 pub mod resolution;
 pub mod scope;
 pub mod statements;
-pub(crate) mod there;
 pub mod value_kinds;
 pub mod variables;
 

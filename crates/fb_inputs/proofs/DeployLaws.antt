@@ -15,7 +15,7 @@ use Rattle.fb_inputs.specs.declared.deploy_location.DeployLocation.TheVariants a
 use Rattle.fb_inputs.specs.declared.deploy_location.TableFault.{TableFault}
 use Rattle.fb_inputs.specs.declared.deploy_location.TableFault.TheVariants as fault
 use Rattle.fb_inputs.specs.DeployFaults.{Has, HasArray, HasAt, IsDocumentFault, IsFaultAt, IsLinkFault, IsNumbersFault, IsRefusedAt, IsResourceFault, IsTableFault, Lacks, tick_before}
-use Rattle.fb_inputs.specs.DeployPlaces.{InDocument, InTable, at_top, element_at, shape_in, value_at}
+use Rattle.fb_inputs.specs.DeployLocations.{InDocument, InTable, at_top, element_at, shape_in, value_at}
 use Rattle.fb_inputs.specs.Deployments.{IsRefusedThere, among_links, deployment, document, either, entries_of_link, excess, first_failing, follows, has_latency, in_document, judged, latency_of_link, no_document, out_of_order, plan_of, start_of_link, too_long, unless}
 use Rattle.fb_inputs.specs.Documents.{array_of, constant, count_of, draft, known_keys, link, links_in, list_of, name_of, of_kind, of_table, pair, read_at, read_link, read_resource, resource, resources_in, table_of, tables_of}
 use Rattle.fb_inputs.specs.Lists.{each_at, each_in}

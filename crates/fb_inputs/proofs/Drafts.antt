@@ -6,7 +6,7 @@ use Rattle.fb_inputs.specs.declared.deploy_location.DeployKey.TheVariants as key
 use Rattle.fb_inputs.specs.declared.deploy_location.DeployLocation.{DeployLocation}
 use Rattle.fb_inputs.specs.declared.deploy_location.TableFault.TheVariants as fault
 use Rattle.fb_inputs.specs.declared.document.LinkDraft.{LinkDraft}
-use Rattle.fb_inputs.specs.DeployPlaces.{at_top, value_at}
+use Rattle.fb_inputs.specs.DeployLocations.{at_top, value_at}
 use Rattle.fb_inputs.specs.Documents.{count_of, draft, known_keys, links_in, resource, resources_in, tables_of}
 
 module _ (keys : Members) where

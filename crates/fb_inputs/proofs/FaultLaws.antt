@@ -14,7 +14,7 @@ use Rattle.fb_inputs.specs.declared.location.StimuliLocation.TheVariants as loca
 use Rattle.fb_inputs.specs.Faults.{IsFaultAt, IsRefusedAt, IsRowFault}
 use Rattle.fb_inputs.specs.Lists.{each_at, each_in, placed}
 use Rattle.fb_inputs.specs.Numbers.{natural}
-use Rattle.fb_inputs.specs.Places.{InRow, at_row, row_at, value_at, word_at}
+use Rattle.fb_inputs.specs.StimuliLocations.{InRow, at_row, row_at, value_at, word_at}
 use Rattle.fb_inputs.specs.Refusals.{and_then, or_refuse}
 use Rattle.fb_inputs.specs.Rows.{Row, draft, event, setting, word, words}
 use Rattle.fb_inputs.specs.Stimuli.{is_head, limited, most_bytes, most_rows, stimulus, stimulus_at, stimuli, stimuli_from, stimuli_in, three}

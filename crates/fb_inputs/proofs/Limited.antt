@@ -10,7 +10,7 @@ use Rattle.fb_inputs.specs.declared.location.RowFault.TheVariants as fault
 use Rattle.fb_inputs.specs.declared.row.Draft.{Draft}
 use Rattle.fb_inputs.specs.Lists.{each_at}
 use Rattle.fb_inputs.specs.Numbers.{natural}
-use Rattle.fb_inputs.specs.Places.{value_at}
+use Rattle.fb_inputs.specs.StimuliLocations.{value_at}
 use Rattle.fb_inputs.specs.Rows.{draft, setting}
 use Rattle.fb_inputs.specs.Stimuli.{limited, most_rows, stimulus, three}
 use Rattle.fb_inputs.specs.Words.{Text}

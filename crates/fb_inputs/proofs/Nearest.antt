@@ -5,7 +5,7 @@ use Rattle.std.proofs.lemmas.Slice.Zip.{all_zipped_more}
 use Rattle.std.specs.List.{AllZip}
 use Rattle.fb_read.specs.declared.token.Span.{Span}
 use Rattle.fb_inputs.specs.Counts.{Text}
-use Rattle.fb_inputs.specs.NearPlaces.{IsNearInStimuli}
+use Rattle.fb_inputs.specs.NearSpans.{IsNearInStimuli}
 use Rattle.fb_inputs.specs.declared.position.StimuliPosition.{StimuliPosition}
 
 -- one span more

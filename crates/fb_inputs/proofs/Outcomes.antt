@@ -14,7 +14,7 @@ use Rattle.fb_inputs.specs.declared.deploy_location.DeployLocation.{DeployLocati
 use Rattle.fb_inputs.specs.declared.deploy_location.DeployLocation.TheVariants as location
 use Rattle.fb_inputs.specs.declared.document.PlanDraft.{PlanDraft}
 use Rattle.fb_inputs.specs.declared.error.InputError.{InputError}
-use Rattle.fb_inputs.specs.DeployPlaces.{AnswersInDocument, InDocument, number_at, numbered, place_of}
+use Rattle.fb_inputs.specs.DeployLocations.{AnswersInDocument, InDocument, number_at, numbered, location_of}
 use Rattle.fb_inputs.specs.Deployments.{IsNoDocument, IsRefusedThere, Locates, deploy_of, deployment, deployment_of, document, in_document, judged, most_bytes, no_document, too_long}
 use Rattle.fb_inputs.specs.Documents.{draft}
 use Rattle.fb_inputs.specs.Refusals.{and_then, number_of}
@@ -61,7 +61,7 @@ refused_document seen bytes (deploy_fault.At location.Resources) le h = absurd h
 refused_document seen bytes (deploy_fault.At location.Links) le h = absurd h
 refused_document seen bytes (deploy_fault.At (location.Entries k)) le h = absurd h
 
-pub refused_draft : {X : Type 0} (seen : X → Plan) (bytes : Text) (keys : Members) (e : DeployFault) → length bytes ≤ most_bytes → document bytes ≡ Some keys → IfSome (place_of e) (λ p. draft keys ≡ Err p)
+pub refused_draft : {X : Type 0} (seen : X → Plan) (bytes : Text) (keys : Members) (e : DeployFault) → length bytes ≤ most_bytes → document bytes ≡ Some keys → IfSome (location_of e) (λ p. draft keys ≡ Err p)
     → Locates seen bytes (Err e)
 refused_draft seen bytes keys deploy_fault.Memory le read h = tt
 refused_draft seen bytes keys (deploy_fault.At p) le read h = in_document le read (undrafted keys p h)
@@ -80,6 +80,6 @@ numbered_there bytes p (too_long long) = rw (lt-leb (length bytes) most_bytes lo
 numbered_there bytes p (no_document le none within) = short_deploy bytes le ∙ ap deployment_of none
 numbered_there bytes p (in_document {keys = keys} le read refused) = of_document bytes keys le read ∙ ap (λ (r : InDocument Plan). numbered r) refused
 
-pub deploy_number : (bytes : Text) (e : DeployFault) (g : InputError) → number_of g ≡ option_map number_at (place_of e) → Locates (λ x. x) bytes (Err e) → IfSome (number_of g) (λ n. deploy_of bytes ≡ Err n)
+pub deploy_number : (bytes : Text) (e : DeployFault) (g : InputError) → number_of g ≡ option_map number_at (location_of e) → Locates (λ x. x) bytes (Err e) → IfSome (number_of g) (λ n. deploy_of bytes ≡ Err n)
 deploy_number bytes deploy_fault.Memory g is h = rw is tt
 deploy_number bytes (deploy_fault.At p) g is h = rw is (numbered_there bytes p h)

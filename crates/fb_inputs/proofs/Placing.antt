@@ -5,7 +5,7 @@ use Rattle.fb_inputs.specs.declared.deploy_location.DeployFault.{DeployFault}
 use Rattle.fb_inputs.specs.declared.deploy_location.DeployKey.{DeployKey}
 use Rattle.fb_inputs.specs.declared.deploy_location.TableError.{TableError}
 use Rattle.fb_inputs.specs.declared.deploy_location.TableFault.{TableFault}
-use Rattle.fb_inputs.specs.DeployPlaces.{AnswersInTable, InDocument, InTable, IsLocated, fault_of, place_of, shape_in}
+use Rattle.fb_inputs.specs.DeployLocations.{AnswersInTable, InDocument, InTable, IsLocated, fault_of, location_of, shape_in}
 use Rattle.fb_inputs.specs.Lists.{placed}
 
 abbrev got : {A : Type 0} → A → Result A DeployFault
@@ -27,7 +27,7 @@ by_fault k i m None h = tt
 by_fault k i m (Some why) h = ap (put k i) h
 
 pub placed-err : {A : Type 0} (k : DeployKey) (i : ℕ) (m : InTable A) (read : Result A TableError) (o : Result A DeployFault) (f : DeployFault) → AnswersInTable (λ t. t) m read → IsLocated k i read o → o ≡ Err f
-    → IfSome (place_of f) (λ n. placed (shape_in k i) m ≡ Err n)
+    → IfSome (location_of f) (λ n. placed (shape_in k i) m ≡ Err n)
 placed-err k i m (Ok y) o f h p is = absurd (let both = sym p ∙ is in cc)
 placed-err {A = A} k i m (Err e) o f h p is = rw (subst (λ (r : Result A DeployFault). IsLocated k i (Err e) r) is p) (by_fault k i m (fault_of e) h)
 

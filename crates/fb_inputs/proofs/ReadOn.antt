@@ -6,7 +6,7 @@ use Rattle.csv.specs.Records.{field_at, fields_of}
 use Rattle.csv.specs.declared.iter.ByteRecordsIntoIter.{ByteRecordsIntoIter}
 use Rattle.csv.specs.declared.record.ByteRecord.{ByteRecord}
 use Rattle.fb_inputs.specs.Counts.{Text}
-use Rattle.fb_inputs.specs.NearPlaces.{IsNextRow}
+use Rattle.fb_inputs.specs.NearSpans.{IsNextRow}
 use Rattle.fb_inputs.specs.Readers.{IsAt, IsLast, IsReaderOf, rows_from}
 use Rattle.fb_inputs.specs.Records.{IsReadAt}
 use Rattle.fb_inputs.specs.Rows.{Row}

@@ -12,7 +12,7 @@ use Rattle.fb_inputs.specs.declared.location.StimuliFault.{StimuliFault}
 use Rattle.fb_inputs.specs.declared.location.StimuliLocation.{StimuliLocation}
 use Rattle.fb_inputs.specs.declared.location.StimuliLocation.TheVariants.{Heading}
 use Rattle.fb_inputs.specs.Lists.{all_after}
-use Rattle.fb_inputs.specs.Places.{InRow, Located, at_row, fault_of, number_at, numbered, place_of, row_at}
+use Rattle.fb_inputs.specs.StimuliLocations.{InRow, Located, at_row, fault_of, number_at, numbered, location_of, row_at}
 use Rattle.fb_inputs.specs.Refusals.{number_of}
 use Rattle.fb_inputs.specs.declared.error.InputError.{InputError}
 use Rattle.fb_inputs.specs.declared.location.RowError.{RowError}
@@ -38,8 +38,8 @@ unfolding stimuli_from
 refused_by front row rows rest n total split refused so_far = rw split at so_far ∙ rw refused refl
 
 pub next_refused : (e : StimuliFault) (front : List Stimulus) (row : Row) (rows rest : List Row) (total : Located (List Stimulus)) → rest ≡ row ∷ rows
-    → IfSome (place_of e) (λ n. stimulus_at (length front) row ≡ Err n) → total ≡ all_after front (stimuli_from (length front) rest) → IfSome (place_of e) (λ n. total ≡ Err n)
-next_refused e front row rows rest total split refused so_far = by (place_of e) refused
+    → IfSome (location_of e) (λ n. stimulus_at (length front) row ≡ Err n) → total ≡ all_after front (stimuli_from (length front) rest) → IfSome (location_of e) (λ n. total ≡ Err n)
+next_refused e front row rows rest total split refused so_far = by (location_of e) refused
   where
     by : (o : Option StimuliLocation) → IfSome o (λ n. stimulus_at (length front) row ≡ Err n) → IfSome o (λ n. total ≡ Err n)
     by None h = tt
@@ -68,8 +68,8 @@ pub unheaded : (bytes : Text) (head : Row) (rows : List Row) → length bytes �
 unfolding stimuli
 unheaded bytes head rows le all no_head = opened bytes (head ∷ rows) le all ∙ rw no_head refl
 
-pub no_heading : (bytes : Text) (e : StimuliFault) → length bytes ≤ most_bytes → IfSome (place_of e) (λ p. (p ≡ Heading) × HasOtherHead bytes) → IfSome (place_of e) (λ n. stimuli_in bytes ≡ Err n)
-no_heading bytes e le h = by (place_of e) h
+pub no_heading : (bytes : Text) (e : StimuliFault) → length bytes ≤ most_bytes → IfSome (location_of e) (λ p. (p ≡ Heading) × HasOtherHead bytes) → IfSome (location_of e) (λ n. stimuli_in bytes ≡ Err n)
+no_heading bytes e le h = by (location_of e) h
   where
     by : (o : Option StimuliLocation) → IfSome o (λ n. (n ≡ Heading) × HasOtherHead bytes) → IfSome o (λ n. stimuli_in bytes ≡ Err n)
     by None h = tt
@@ -86,9 +86,9 @@ unfolding stimuli_of
 by_number bytes None h = tt
 by_number bytes (Some p) h = ap (λ (o : Located (List Stimulus)). numbered o) h
 
-pub refused_number : (bytes : Text) (e : StimuliFault) (g : InputError) → number_of g ≡ option_map number_at (place_of e) → IfSome (place_of e) (λ p. stimuli_in bytes ≡ Err p)
+pub refused_number : (bytes : Text) (e : StimuliFault) (g : InputError) → number_of g ≡ option_map number_at (location_of e) → IfSome (location_of e) (λ p. stimuli_in bytes ≡ Err p)
     → IfSome (number_of g) (λ n. stimuli_of bytes ≡ Err n)
-refused_number bytes e g is h = rw is (by_number bytes (place_of e) h)
+refused_number bytes e g is h = rw is (by_number bytes (location_of e) h)
 
 pub taken : (bytes : Text) (all : List Stimulus) → stimuli_in bytes ≡ Ok all → stimuli_of bytes ≡ Ok all
 unfolding stimuli_of
@@ -99,6 +99,6 @@ unfolding stimulus_at
 by_row k row None h = tt
 by_row k row (Some why) h = ap (λ (o : InRow Stimulus). at_row k o) h
 
-pub refused_at_row : (k : ℕ) (row : Row) (e : RowError) (g : StimuliFault) → place_of g ≡ option_map (row_at k) (fault_of e) → IfSome (fault_of e) (λ why. stimulus k row ≡ Err why)
-    → IfSome (place_of g) (λ p. stimulus_at k row ≡ Err p)
+pub refused_at_row : (k : ℕ) (row : Row) (e : RowError) (g : StimuliFault) → location_of g ≡ option_map (row_at k) (fault_of e) → IfSome (fault_of e) (λ why. stimulus k row ≡ Err why)
+    → IfSome (location_of g) (λ p. stimulus_at k row ≡ Err p)
 refused_at_row k row e g is h = rw is (by_row k row (fault_of e) h)

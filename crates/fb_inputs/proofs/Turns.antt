@@ -10,7 +10,7 @@ use Rattle.csv.specs.declared.record.ByteRecord.{ByteRecord}
 use Rattle.fb_types.specs.declared.deploy.Stimulus.{Stimulus}
 use Rattle.fb_inputs.specs.declared.location.StimuliFault.{StimuliFault}
 use Rattle.fb_inputs.specs.declared.location.StimuliFault.TheVariants.{Memory}
-use Rattle.fb_inputs.specs.Places.{place_of}
+use Rattle.fb_inputs.specs.StimuliLocations.{location_of}
 use Rattle.fb_inputs.specs.Words.{Text}
 use Rattle.fb_inputs.specs.Stimuli.{is_head, stimuli_from}
 use Rattle.fb_inputs.specs.Lists.{all_after}
@@ -37,7 +37,7 @@ turn_more a b z front following (Err e) u here step flexible added = absurd cc
 
 pub turn_refused :
     (a b : Rest) (z : Text) (front following : List Stimulus) (r : Result ByteRecord Error) (e : StimuliFault) → IsAt a z → RowStep known a.rdr b.rdr b.left (Some r) → FlexibleStep a.rdr b.rdr (Some r)
-    → IsAdded r front following (Err e) → IfSome (place_of e) (λ n. all_after front (stimuli_from (length front) (rows_from a.rdr.state z)) ≡ Err n)
+    → IsAdded r front following (Err e) → IfSome (location_of e) (λ n. all_after front (stimuli_from (length front) (rows_from a.rdr.state z)) ≡ Err n)
 turn_refused a b z front following (Ok row) e here step flexible added =
     let (y, there, rows) = at_more a b z (fields_of row) here step.0 step.1 step.2 flexible in
     next_refused e front (fields_of row) (rows_from b.rdr.state y) _ _ rows added refl

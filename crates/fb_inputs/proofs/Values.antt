@@ -5,7 +5,7 @@ use Rattle.toml.specs.Data.{Data, as_array}
 use Rattle.toml.specs.View.{view, items_view}
 use Rattle.toml.specs.declared.value.Value.{Value}
 use Rattle.fb_inputs.specs.declared.deploy_location.DeployKey.{DeployKey}
-use Rattle.fb_inputs.specs.DeployPlaces.{InTable, element_at, shape_in}
+use Rattle.fb_inputs.specs.DeployLocations.{InTable, element_at, shape_in}
 use Rattle.fb_inputs.specs.Lists.{each_at, each_in}
 use Rattle.fb_inputs.specs.Documents.{array_of, list_of, pair, pair_of, tables_of}
 

@@ -14,7 +14,7 @@ use Rattle.fb_inputs.specs.declared.deploy_location.TableFault.TheVariants as fa
 use Rattle.fb_inputs.specs.declared.deploy_location.TableLocation.{TableLocation}
 use Rattle.fb_inputs.specs.declared.deploy_location.TableLocation.TheVariants as table
 use Rattle.fb_inputs.specs.Deployments.{deploy_of, document, follows, is_latency, most_bytes}
-use Rattle.fb_inputs.specs.DeployPlaces.{number_at, value_at}
+use Rattle.fb_inputs.specs.DeployLocations.{number_at, value_at}
 use Rattle.fb_inputs.specs.Documents.{count_of, draft, known_keys, list_of, name_of, pair}
 use Rattle.fb_inputs.specs.Words.{Text}
 

@@ -17,7 +17,7 @@ use Rattle.fb_inputs.specs.declared.table.TableTest.{TableTest}
 use Rattle.fb_inputs.specs.declared.table.TableTest.TheVariants as table_test
 use Rattle.fb_inputs.specs.Refusals.{Outcome, and_then, over_limit}
 use Rattle.fb_inputs.specs.Refusals as refusals
-use Rattle.fb_inputs.specs.DeployPlaces.{InDocument, numbered}
+use Rattle.fb_inputs.specs.DeployLocations.{InDocument, numbered}
 use Rattle.fb_inputs.specs.Words.{Text}
 use Rattle.fb_inputs.specs.Documents.{draft}
 

@@ -10,7 +10,7 @@ use Rattle.fb_inputs.specs.declared.document.PlanDraft.{PlanDraft}
 use Rattle.fb_inputs.specs.declared.deploy_location.DeployKey.{DeployKey}
 use Rattle.fb_inputs.specs.declared.deploy_location.DeployKey.TheVariants as key
 use Rattle.fb_inputs.specs.declared.deploy_location.TableFault.TheVariants as fault
-use Rattle.fb_inputs.specs.DeployPlaces.{InDocument, InTable, at_top, element_at, shape_in, value_at}
+use Rattle.fb_inputs.specs.DeployLocations.{InDocument, InTable, at_top, element_at, shape_in, value_at}
 use Rattle.fb_inputs.specs.Lists.{each_at, each_in}
 use Rattle.fb_inputs.specs.Refusals.{◌>>=◌, and_then, or_refuse}
 use Rattle.fb_inputs.specs.Words.{Text, name}

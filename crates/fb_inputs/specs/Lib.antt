@@ -4,10 +4,10 @@ pub mod Records
 pub mod Lines
 pub mod Arrays
 pub mod Passing
-pub mod NearPlaces
+pub mod NearSpans
 pub mod Refusals
-pub mod Places
-pub mod DeployPlaces
+pub mod StimuliLocations
+pub mod DeployLocations
 pub mod Lists
 pub mod Words
 pub mod Numbers

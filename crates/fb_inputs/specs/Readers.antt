@@ -14,7 +14,7 @@ use Rattle.fb_types.specs.declared.deploy.Stimulus.{Stimulus}
 use Rattle.fb_inputs.specs.declared.location.StimuliFault.{StimuliFault}
 use Rattle.fb_inputs.specs.declared.location.StimuliFault.TheVariants.{Memory, At}
 use Rattle.fb_inputs.specs.declared.location.StimuliLocation.TheVariants.{Heading}
-use Rattle.fb_inputs.specs.Places.{place_of}
+use Rattle.fb_inputs.specs.StimuliLocations.{location_of}
 use Rattle.fb_inputs.specs.Rows.{Row}
 use Rattle.fb_inputs.specs.declared.row_positions.RecordReader.{RecordReader}
 use Rattle.fb_inputs.specs.Stimuli.{is_head, stimulus_at}
@@ -72,7 +72,7 @@ pub record HasOtherHead (bytes : Text) : Type 0 where
 abbrev pub Opens : Text → ByteRecordsIntoIter (Bor (List ℕ)) → Result Bool StimuliFault → Type 0
 Opens bytes it (Ok false) = records default_config (strip_bom bytes) ≡ []
 Opens bytes it (Ok true) = IsHeaded bytes it
-Opens bytes it (Err e) = IfSome (place_of e) (λ p. (p ≡ Heading) × HasOtherHead bytes)
+Opens bytes it (Err e) = IfSome (location_of e) (λ p. (p ≡ Heading) × HasOtherHead bytes)
 
 -- what a test of the first record says: that it is the heading, or where that should be
 abbrev pub heading_of : Bool → Result Bool StimuliFault
@@ -87,5 +87,5 @@ IsRead (Err e) answer = answer ≡ Err Memory
 -- the stimulus of what was read follows the others, unless it is refused or memory runs out
 abbrev pub IsAdded : Result ByteRecord Error → List Stimulus → List Stimulus → Result (Unit {0}) StimuliFault → Type 0
 IsAdded (Ok row) old new (Ok u) = (s : Stimulus) × (stimulus_at (length old) (fields_of row) ≡ Ok s) × (new ≡ old ++ s ∷ [])
-IsAdded (Ok row) old new (Err e) = IfSome (place_of e) (λ p. stimulus_at (length old) (fields_of row) ≡ Err p)
+IsAdded (Ok row) old new (Err e) = IfSome (location_of e) (λ p. stimulus_at (length old) (fields_of row) ≡ Err p)
 IsAdded (Err e) old new added = added ≡ Err Memory

@@ -7,7 +7,7 @@ use Rattle.fb_inputs.specs.declared.row.Draft.{Draft}
 use Rattle.fb_inputs.specs.declared.location.RowFault.TheVariants as fault
 use Rattle.fb_inputs.specs.Lists.{◌>>=◌, each_at}
 use Rattle.fb_inputs.specs.Refusals.{and_then, or_refuse}
-use Rattle.fb_inputs.specs.Places.{InRow, word_at}
+use Rattle.fb_inputs.specs.StimuliLocations.{InRow, word_at}
 use Rattle.fb_inputs.specs.Words.{Text, name, parted}
 use Rattle.fb_inputs.specs.Numbers.{value_of}
 

@@ -9,7 +9,7 @@ use Rattle.fb_types.specs.declared.deploy.Stimulus.{Stimulus}
 use Rattle.fb_inputs.specs.declared.location.RowFault.TheVariants as fault
 use Rattle.fb_inputs.specs.declared.location.StimuliLocation.TheVariants as location
 use Rattle.fb_inputs.specs.Refusals.{Outcome, ◌>>=◌, or_refuse}
-use Rattle.fb_inputs.specs.Places.{InRow, Located, at_row, numbered, value_at}
+use Rattle.fb_inputs.specs.StimuliLocations.{InRow, Located, at_row, numbered, value_at}
 use Rattle.fb_inputs.specs.Lists.{each_at}
 use Rattle.fb_inputs.specs.Words.{Text}
 use Rattle.fb_inputs.specs.Numbers.{natural}

@@ -1,7 +1,7 @@
 //! Where deployments are refused.
 
 ghost use Rattle.std.specs.Prelude.{◌≡◌, Some, option_map};
-ghost use Rattle.fb_inputs.specs.DeployPlaces as places;
+ghost use Rattle.fb_inputs.specs.DeployLocations as locations;
 ghost use Rattle.fb_inputs.specs.Refusals.{number_of};
 
 use crate::error::InputError;
@@ -32,7 +32,7 @@ pub enum DeployKey {
 impl DeployKey {
     /// The text of the key.
     pub fn text(self) -> &'static str
-        ensures { result.now ≡ places.text_of self }
+        ensures { result.now ≡ locations.text_of self }
     {
         match self {
             DeployKey::Resource => "resource",
@@ -109,7 +109,7 @@ pub enum DeployLocation {
 impl DeployLocation {
     /// The number of the refusal, one of 10, 11, 12, 15 and 16.
     pub fn number(self) -> u8
-        ensures { result ≡ places.number_at self }
+        ensures { result ≡ locations.number_at self }
     {
         match self {
             DeployLocation::Document(_) => 10,
@@ -164,7 +164,7 @@ impl From<AllocError> for DeployFault {
 
 /// The table at an index of the array at a key: a link, or else a resource.
 fn table_at(key: DeployKey, index: usize) -> TableLocation
-    ensures { result ≡ places.table_at key index }
+    ensures { result ≡ locations.table_at key index }
 {
     match key {
         DeployKey::Link => TableLocation::Link(index),
@@ -174,7 +174,7 @@ fn table_at(key: DeployKey, index: usize) -> TableLocation
 
 /// The fault of a table, with its location.
 pub(crate) fn in_table(key: DeployKey, index: usize, error: TableError) -> DeployFault
-    ensures { places.place_of result ≡ option_map (places.shape_in key index) (places.fault_of error) }
+    ensures { locations.location_of result ≡ option_map (locations.shape_in key index) (locations.fault_of error) }
 {
     match error {
         TableError::Memory => DeployFault::Memory,
@@ -187,7 +187,7 @@ pub(crate) fn in_table(key: DeployKey, index: usize, error: TableError) -> Deplo
 
 /// The fault of the document itself.
 pub(crate) fn at_top(fault: TableFault) -> DeployFault
-    ensures { places.place_of result ≡ Some (places.at_top fault) }
+    ensures { locations.location_of result ≡ Some (locations.at_top fault) }
 {
     DeployFault::At(DeployLocation::Shape {
         table: TableLocation::Top,
@@ -197,7 +197,7 @@ pub(crate) fn at_top(fault: TableFault) -> DeployFault
 
 /// The refusal without its location.
 pub(crate) fn deploy_error(fault: DeployFault) -> InputError
-    ensures { number_of result ≡ option_map places.number_at (places.place_of fault) }
+    ensures { number_of result ≡ option_map locations.number_at (locations.location_of fault) }
 {
     match fault {
         DeployFault::Memory => InputError::Memory,

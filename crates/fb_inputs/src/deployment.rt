@@ -4,7 +4,7 @@ ghost use Rattle.std.specs.Prelude.{◌≡◌, ◌≤◌, length, Some, IfErr, I
 ghost use Rattle.toml.specs.View.{table_view};
 ghost use Rattle.fb_inputs.specs.Refusals.{Answers};
 ghost use Rattle.fb_inputs.specs.DeployFaults.{IsPlanned, IsRefusedAt};
-ghost use Rattle.fb_inputs.specs.DeployPlaces.{AnswersInDocument};
+ghost use Rattle.fb_inputs.specs.DeployLocations.{AnswersInDocument};
 ghost use Rattle.fb_inputs.specs.Deployments.{IsNoDocument, Locates};
 ghost use Rattle.fb_inputs.specs.Deployments as spec;
 

@@ -3,8 +3,8 @@
 ghost use Rattle.std.specs.Prelude.{◌≡◌, ◌≤◌, map, length, IfOk, option_map};
 ghost use Rattle.toml.specs.View.{table_view, view};
 ghost use Rattle.fb_inputs.specs.Lists as lists;
-ghost use Rattle.fb_inputs.specs.DeployPlaces.{AnswersInDocument, AnswersInTable, IsLocated, element_at, shape_in};
-ghost use Rattle.fb_inputs.specs.DeployPlaces as places;
+ghost use Rattle.fb_inputs.specs.DeployLocations.{AnswersInDocument, AnswersInTable, IsLocated, element_at, shape_in};
+ghost use Rattle.fb_inputs.specs.DeployLocations as locations;
 ghost use Rattle.fb_inputs.specs.Documents as spec;
 ghost use Rattle.fb_inputs.specs.Refusals.{or_refuse};
 
@@ -92,7 +92,7 @@ fn array<T: Piece>(alloc: Global, value: &Value, key: DeployKey) -> Result<Items
 }
 
 fn value_at<'a>(keys: &'a Table, key: DeployKey) -> Option<&'a Value>
-    ensures { option_map (λ v. view v.now) result ≡ places.value_at (table_view keys.now) key }
+    ensures { option_map (λ v. view v.now) result ≡ locations.value_at (table_view keys.now) key }
 {
     keys.get(key.text())
 }
@@ -140,7 +140,7 @@ fn names_at(alloc: Global, keys: &Table, key: DeployKey) -> Result<Items<Name>, 
 /// What a table of a document represents.
 trait Entry: Drop {
     ghost use Rattle.toml.specs.Data.{Members};
-    ghost use Rattle.fb_inputs.specs.DeployPlaces.{InTable};
+    ghost use Rattle.fb_inputs.specs.DeployLocations.{InTable};
 
     ghost meaning: { Members → InTable Self };
 
@@ -199,7 +199,7 @@ fn constant(alloc: Global, value: &Value) -> Result<Items<LatencyDraft>, TableEr
 /// The latencies of a link: the same at every tick, or a table.
 #[tactic(auto, unfolding(crate::specs::Documents::table_of))]
 fn table_of(alloc: Global, keys: &Table) -> Result<Items<LatencyDraft>, TableError>
-    ensures { AnswersInTable (λ t. t) (spec.table_of (places.value_at (table_view keys.now) DeployKey.Latency) (places.value_at (table_view keys.now) DeployKey.Latencies)) result }
+    ensures { AnswersInTable (λ t. t) (spec.table_of (locations.value_at (table_view keys.now) DeployKey.Latency) (locations.value_at (table_view keys.now) DeployKey.Latencies)) result }
 {
     match (
         value_at(keys, DeployKey::Latency),
@@ -283,7 +283,7 @@ fn tables<T: Entry>(alloc: Global, value: &Value, key: DeployKey) -> Result<Item
 
 /// The links of a document, if any.
 fn links_at(alloc: Global, keys: &Table) -> Result<Items<LinkDraft>, DeployFault>
-    ensures { AnswersInDocument (λ t. t) (spec.links_in (places.value_at (table_view keys.now) DeployKey.Link)) result }
+    ensures { AnswersInDocument (λ t. t) (spec.links_in (locations.value_at (table_view keys.now) DeployKey.Link)) result }
 {
     match value_at(keys, DeployKey::Link) {
         Some(links) => tables::<LinkDraft>(alloc, links, DeployKey::Link),

@@ -1,7 +1,7 @@
 //! Where stimuli are refused.
 
 ghost use Rattle.std.specs.Prelude.{◌≡◌, option_map};
-ghost use Rattle.fb_inputs.specs.Places as places;
+ghost use Rattle.fb_inputs.specs.StimuliLocations as locations;
 ghost use Rattle.fb_inputs.specs.Refusals.{number_of};
 
 use crate::error::InputError;
@@ -40,7 +40,7 @@ pub enum StimuliLocation {
 impl StimuliLocation {
     /// The number of the refusal, 13 to 15.
     pub fn number(self) -> u8
-        ensures { result ≡ places.number_at self }
+        ensures { result ≡ locations.number_at self }
     {
         match self {
             StimuliLocation::Bytes => 15,
@@ -94,7 +94,7 @@ impl From<AllocError> for StimuliFault {
 
 /// The fault of a row, with its index.
 pub(crate) fn at_row(row: usize, error: RowError) -> StimuliFault
-    ensures { places.place_of result ≡ option_map (places.row_at row) (places.fault_of error) }
+    ensures { locations.location_of result ≡ option_map (locations.row_at row) (locations.fault_of error) }
 {
     match error {
         RowError::Memory => StimuliFault::Memory,
@@ -104,7 +104,7 @@ pub(crate) fn at_row(row: usize, error: RowError) -> StimuliFault
 
 /// The refusal without its location.
 pub(crate) fn error_at(fault: StimuliFault) -> InputError
-    ensures { number_of result ≡ option_map places.number_at (places.place_of fault) }
+    ensures { number_of result ≡ option_map locations.number_at (locations.location_of fault) }
 {
     match fault {
         StimuliFault::Memory => InputError::Memory,

@@ -1,7 +1,7 @@
 //! Finds a position of a deployment in its text.
 
 ghost use Rattle.std.specs.Prelude.{◌≡◌, IfSome};
-ghost use Rattle.fb_inputs.specs.NearPlaces.{IsByteAt, IsElementAt, IsHeadingAt, IsInDeployment, IsKeyAfter, IsKeyAt, IsNearInDeployment, IsTableAt};
+ghost use Rattle.fb_inputs.specs.NearSpans.{IsByteAt, IsElementAt, IsHeadingAt, IsInDeployment, IsKeyAfter, IsKeyAt, IsNearInDeployment, IsTableAt};
 
 use crate::arrays::{array_begin, element_begin};
 use crate::lines::{LINK, RESOURCE, heading_begin, is_first_after, key_from};

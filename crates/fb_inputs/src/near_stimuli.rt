@@ -3,7 +3,7 @@
 ghost use Rattle.std.specs.Prelude.{◌≡◌, ◌+◌, ◌<◌, ◌≤◌, ℕ, IfOk, IfSome, length};
 ghost use Rattle.std.specs.List.{AllZip};
 ghost use Rattle.fb_inputs.specs.Counts.{IsNth};
-ghost use Rattle.fb_inputs.specs.NearPlaces.{IsField, IsFieldAt, IsInStimuli, IsNearInStimuli, IsSearch, IsWordIn};
+ghost use Rattle.fb_inputs.specs.NearSpans.{IsField, IsFieldAt, IsInStimuli, IsNearInStimuli, IsSearch, IsWordIn};
 ghost use Rattle.fb_inputs.specs.Records.{begins_record};
 
 use crate::csv_records::{

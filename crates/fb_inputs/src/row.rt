@@ -2,7 +2,7 @@
 
 ghost use Rattle.std.specs.Prelude.{◌≡◌, ◌++◌, [], ◌∷◌, length, not, ◌==◌, if◌then◌else◌, IfOk, option_map};
 ghost use Rattle.fb_inputs.specs.Lists.{each_at};
-ghost use Rattle.fb_inputs.specs.Places.{AnswersInRow, value_at, word_at};
+ghost use Rattle.fb_inputs.specs.StimuliLocations.{AnswersInRow, value_at, word_at};
 ghost use Rattle.fb_inputs.specs.Refusals.{or_refuse};
 ghost use Rattle.fb_inputs.specs.Rows as spec;
 

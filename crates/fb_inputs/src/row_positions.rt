@@ -5,7 +5,7 @@ ghost use Rattle.csv.specs.Reading.{default_config, records, strip_bom};
 ghost use Rattle.csv.specs.Records.{field_at, fields_of};
 ghost use Rattle.fb_inputs.specs.Readers.{IsAt, IsReaderOf, rows_from};
 ghost use Rattle.fb_inputs.specs.Counts.{Text};
-ghost use Rattle.fb_inputs.specs.NearPlaces.{IsNextRow};
+ghost use Rattle.fb_inputs.specs.NearSpans.{IsNextRow};
 ghost use Rattle.fb_inputs.specs.Records.{IsReadAt};
 
 use crate::records_of;

@@ -2,7 +2,7 @@
 
 ghost use Rattle.std.specs.Prelude.{◌≡◌, ◌+◌, ◌<◌, ◌≤◌, ◌^◌, if◌then◌else◌, length};
 ghost use Rattle.fb_inputs.specs.Counts.{mark_len};
-ghost use Rattle.fb_inputs.specs.NearPlaces.{IsStart};
+ghost use Rattle.fb_inputs.specs.NearSpans.{IsStart};
 
 use fb_read::token::Span;
 

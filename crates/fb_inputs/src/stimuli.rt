@@ -6,7 +6,7 @@ ghost use Rattle.csv.specs.Records.{fields_of};
 ghost use Rattle.fb_inputs.specs.Readers.{IsAdded, IsAt, IsOpened, IsRead, Opens, rows_from};
 ghost use Rattle.fb_inputs.specs.Faults.{AreTaken, IsRefusedAt};
 ghost use Rattle.fb_inputs.specs.Lists.{all_after};
-ghost use Rattle.fb_inputs.specs.Places.{AnswersAt, AnswersInRow, place_of};
+ghost use Rattle.fb_inputs.specs.StimuliLocations.{AnswersAt, AnswersInRow, location_of};
 ghost use Rattle.fb_inputs.specs.Refusals.{Answers, number_of};
 ghost use Rattle.fb_inputs.specs.Stimuli as spec;
 ghost use Rattle.fb_inputs.specs.Words.{Text};

@@ -15,7 +15,7 @@ use Rattle.fb_types.specs.declared.library.Network.{Network}
 use Rattle.fb_types.specs.declared.library.PortName.{PortName}
 use Rattle.fb_types.specs.declared.library.Ports.{Ports}
 use Rattle.fb_types.specs.declared.library.State.{State}
-use Rattle.fb_read_positions.specs.Places.{action_at, network_inside}
+use Rattle.fb_read_positions.specs.Spans.{action_at, network_inside}
 use Rattle.fb_read_positions.specs.declared.position.BasicPart.{BasicPart}
 use Rattle.fb_read_positions.specs.declared.position.BasicPart.TheVariants as basic_part
 use Rattle.fb_read_positions.specs.declared.position.ConnectionPart.{ConnectionPart}

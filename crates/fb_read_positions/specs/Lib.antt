@@ -1,6 +1,6 @@
 pub mod Lists
 pub mod Walks
-pub mod Places
+pub mod Spans
 pub mod Resumed
 pub mod FindingPositions
-pub mod Locations
+pub mod Places

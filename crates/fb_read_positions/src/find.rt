@@ -8,7 +8,7 @@ ghost use Rattle.fb_read.specs.Located.{AreLocated};
 ghost use Rattle.fb_read.specs.Refusals.{IsNext};
 ghost use Rattle.fb_read.specs.Tokens.{after_mark};
 ghost use Rattle.fb_read.specs.Whole.{most_bytes};
-ghost use Rattle.fb_read_positions.specs.Places.{IsAt, IsNamed};
+ghost use Rattle.fb_read_positions.specs.Spans.{IsAt, IsNamed};
 ghost use Rattle.fb_read_positions.specs.Resumed.{IsReached};
 
 use crate::names::name_at;

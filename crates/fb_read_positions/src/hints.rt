@@ -164,7 +164,7 @@ pub fn push_time(message: &mut Text, milliseconds: usize) {
 
 /// Where a scan for comments is.
 #[derive(Clone, Copy)]
-enum Place {
+enum Scan {
     Code,
     /// In a comment that began at this offset, and whether another beginning was in it.
     Comment(usize, bool),
@@ -172,21 +172,21 @@ enum Place {
     Line,
 }
 
-/// The place after the first of these bytes, and whether the next byte is taken with it.
-fn after(place: Place, at: usize, rest: &[u8]) -> (Place, bool) {
-    match (place, rest) {
-        (Place::Code, [b'(', b'*', ..]) => (Place::Comment(at, false), true),
-        (Place::Code, [b'/', b'/', ..]) => (Place::Line, true),
-        (Place::Comment(begin, _), [b'(', b'*', ..]) => (Place::Comment(begin, true), false),
-        (Place::Comment(_, _), [b'*', b')', ..]) => (Place::Code, true),
-        (Place::Line, [b'\n', ..]) => (Place::Code, false),
-        _ => (place, false),
+/// The scan past the first of these bytes, and whether the next byte is taken with it.
+fn after(scan: Scan, at: usize, rest: &[u8]) -> (Scan, bool) {
+    match (scan, rest) {
+        (Scan::Code, [b'(', b'*', ..]) => (Scan::Comment(at, false), true),
+        (Scan::Code, [b'/', b'/', ..]) => (Scan::Line, true),
+        (Scan::Comment(begin, _), [b'(', b'*', ..]) => (Scan::Comment(begin, true), false),
+        (Scan::Comment(_, _), [b'*', b')', ..]) => (Scan::Code, true),
+        (Scan::Line, [b'\n', ..]) => (Scan::Code, false),
+        _ => (scan, false),
     }
 }
 
 /// Where the last comment of a text began that ended and had another beginning inside.
 fn outer_comment(text: &[u8]) -> Option<usize> {
-    let mut place = Place::Code;
+    let mut scan = Scan::Code;
     let mut is_second = false;
     let mut found = None;
     for at in 0..text.len() {
@@ -194,11 +194,11 @@ fn outer_comment(text: &[u8]) -> Option<usize> {
             is_second = false;
             continue;
         }
-        let (next, is_pair) = after(place, at, &text[at..]);
-        if let (Place::Comment(begin, true), Place::Code) = (place, next) {
+        let (next, is_pair) = after(scan, at, &text[at..]);
+        if let (Scan::Comment(begin, true), Scan::Code) = (scan, next) {
             found = Some(begin);
         }
-        place = next;
+        scan = next;
         is_second = is_pair;
     }
     found

@@ -2,7 +2,7 @@
 
 ghost use Rattle.std.specs.Prelude.{◌≡◌, option_and_then, option_map, slice_get};
 ghost use Rattle.std.specs.Option.{option_copied};
-ghost use Rattle.fb_read_positions.specs.Places as spec;
+ghost use Rattle.fb_read_positions.specs.Spans as spec;
 
 use crate::position::{BasicPart, ConnectionPart, NetworkPart, PortPart, Position, TransitionPart};
 use fb_check_names::Named;

@@ -1,6 +1,6 @@
-//! The source line of a location, with a mark.
+//! The source line of a place, with a mark.
 
-use crate::text_locations::TextLocation;
+use crate::places::Place;
 use crate::words::{Text, front, shown};
 use memchr::memchr;
 use std::alloc::{AllocError, Global};
@@ -8,7 +8,7 @@ use std::alloc::{AllocError, Global};
 /// The most bytes of a line that are shown.
 const MOST_OF_LINE: usize = 200;
 
-/// How many of them are before the location, if the line is cut.
+/// How many of them are before the place, if the line is cut.
 const MOST_BEFORE: usize = 100;
 
 /// The bytes of a text from the beginning of a line on, up to the end of the line, or as far past the marked byte as a
@@ -59,19 +59,19 @@ fn push_marked(text: &mut Text, bytes: &[u8], start: usize, marked: usize) {
     text.letter(b'^');
 }
 
-/// The line in which a location begins, and a line with a mark under its first byte.
+/// The line in which a place begins, and a line with a mark under its first byte.
 ///
 /// # Errors
 ///
 /// When memory runs out.
-pub fn excerpt(alloc: Global, bytes: &[u8], location: TextLocation) -> Result<String, AllocError> {
+pub fn excerpt(alloc: Global, bytes: &[u8], place: Place) -> Result<String, AllocError> {
     let mut text = Text::new(alloc);
-    let before = location.column.saturating_sub(1);
+    let before = place.column.saturating_sub(1);
     push_marked(
         &mut text,
         bytes,
-        location.start.saturating_sub(before),
-        location.start,
+        place.start.saturating_sub(before),
+        place.start,
     );
     text.into_string()
 }

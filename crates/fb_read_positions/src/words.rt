@@ -12,8 +12,8 @@ const MOST_SHOWN: usize = 60;
 const MOST_OF_TOKEN: usize = 40;
 
 /// The ending of an ordinal number, as in 1st.
-fn ending(location: usize) -> &'static str {
-    match (location % 10, location % 100) {
+fn ending(number: usize) -> &'static str {
+    match (number % 10, number % 100) {
         (_, 11..=13) => "th",
         (1, _) => "st",
         (2, _) => "nd",
@@ -134,8 +134,8 @@ impl Text {
     }
 
     /// Appends an index between words. It is counted from 0, and shown as 1st for 0.
-    pub fn placed(&mut self, before: &str, location: usize, after: &str) {
-        let counted = location.saturating_add(1);
+    pub fn placed(&mut self, before: &str, index: usize, after: &str) {
+        let counted = index.saturating_add(1);
         self.numbered(before, counted, ending(counted));
         self.words(after);
     }

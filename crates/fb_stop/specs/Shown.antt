@@ -9,7 +9,7 @@ use Rattle.fb_read.specs.Refusals.{IsNext}
 use Rattle.fb_read.specs.Tokens.{after_mark}
 use Rattle.fb_read.specs.declared.token.Located.{Located}
 use Rattle.fb_read.specs.declared.token.Span.{Span}
-use Rattle.fb_read_positions.specs.Places.{IsAt}
+use Rattle.fb_read_positions.specs.Spans.{IsAt}
 use Rattle.fb_read_positions.specs.declared.position.Position.{Position}
 use Rattle.fb_stop.specs.declared.statement.Placed.{Placed}
 use Rattle.fb_stop.specs.Places.{IsStopPosition}

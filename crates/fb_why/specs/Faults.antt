@@ -11,8 +11,8 @@ use Rattle.fb_read.specs.Front.{front}
 use Rattle.fb_read.specs.Whole.{HasTokens, IsLibraryText}
 use Rattle.fb_read.specs.Refusals.{IsErrorAt, IsFaultAt}
 use Rattle.fb_why.specs.declared.find.TextRefusal.{TextRefusal}
-use Rattle.fb_read_positions.specs.declared.text_locations.TextLocation.{TextLocation}
-use Rattle.fb_read_positions.specs.Locations.{IsLocation, IsStretch, line_at}
+use Rattle.fb_read_positions.specs.declared.places.Place.{Place}
+use Rattle.fb_read_positions.specs.Places.{IsPlace, IsStretch, line_at}
 
 -- The fault is the one of the refusal; a syntax fault is on this line.
 abbrev pub Agrees : ReadError → TextFault → ℕ → Type 0
@@ -37,29 +37,29 @@ pub record EndsAt (text : Text) (offset : ℕ) : Type 0 where
   pub is_token : front (drop begin text) ≡ Ok (token, offset - begin)
   pub blank : skip start (drop offset text) ≡ Some []
 
--- The location is empty, at the end of the last token before this offset.
-pub record IsAfterToken (text : Text) (offset : ℕ) (location : TextLocation) : Type 0 where
-  pub ends : EndsAt (take offset text) location.start
-  pub empty : location.end ≡ location.start
+-- The place is empty, at the end of the last token before this offset.
+pub record IsAfterToken (text : Text) (offset : ℕ) (place : Place) : Type 0 where
+  pub ends : EndsAt (take offset text) place.start
+  pub empty : place.end ≡ place.start
 
--- The location at which a fault between two offsets is shown: there, or after the token before it, where the grammar
+-- The place at which a fault between two offsets is shown: there, or after the token before it, where the grammar
 -- refuses the token.
-pub data IsShownFor (text : Text) (found : TextFault) (begin end : ℕ) (location : TextLocation) : Type 0 where
-  at_token : IsStretch begin end location → IsShownFor text found begin end location
-  before_token : found ≡ text_fault.Syntax → IsAfterToken text begin location → IsShownFor text found begin end location
+pub data IsShownFor (text : Text) (found : TextFault) (begin end : ℕ) (place : Place) : Type 0 where
+  at_token : IsStretch begin end place → IsShownFor text found begin end place
+  before_token : found ≡ text_fault.Syntax → IsAfterToken text begin place → IsShownFor text found begin end place
 
--- The location is in the text, and shows a fault of the refusal, which applies between two offsets. If it is for nesting,
+-- The place is in the text, and shows a fault of the refusal, which applies between two offsets. If it is for nesting,
 -- the text up to there is no library.
-pub record FindsFault (text : Text) (fault : ReadError) (location : TextLocation) : Type 0 where
-  pub is_location : IsLocation text location
+pub record FindsFault (text : Text) (fault : ReadError) (place : Place) : Type 0 where
+  pub is_place : IsPlace text place
   pub found : TextFault
   pub begin : ℕ
   pub end : ℕ
   pub agrees : Agrees fault found (line_at text begin)
   pub applies : IsFaultAt found text begin end
-  pub shown : IsShownFor text found begin end location
+  pub shown : IsShownFor text found begin end place
   pub up_to : found ≡ text_fault.Nesting → IsNoLibrary (take end text)
 
--- The location shows what the reader of libraries reports for this refusal.
+-- The place shows what the reader of libraries reports for this refusal.
 abbrev pub IsTextRefusal : Text → TextRefusal → Type 0
-IsTextRefusal text r = (fault : ReadError) → IsErrorAt r.refusal.fault text r.refusal.start fault → FindsFault text fault r.location
+IsTextRefusal text r = (fault : ReadError) → IsErrorAt r.refusal.fault text r.refusal.start fault → FindsFault text fault r.place

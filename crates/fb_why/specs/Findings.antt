@@ -19,9 +19,11 @@ use Rattle.fb_why.specs.declared.cause.Cause.TheVariants as cause
 use Rattle.fb_why.specs.declared.cause.Cause.{Cause}
 use Rattle.fb_check.specs.declared.fault.Fault.TheVariants as check
 use Rattle.fb_check.specs.declared.fault.Fault.{Fault}
-use Rattle.fb_why.specs.declared.spot.Spot.TheVariants as spot
 use Rattle.fb_why.specs.declared.place.PlacedFinding.{PlacedFinding}
-use Rattle.fb_why.specs.declared.spot.Spot.{Spot}
+use Rattle.fb_check.specs.declared.location.Location.{Location}
+use Rattle.fb_check.specs.declared.location.Location.TheVariants as at
+use Rattle.fb_why.specs.declared.location.FindingLocation.{FindingLocation}
+use Rattle.fb_why.specs.declared.location.FindingLocation.TheVariants as found
 use Rattle.fb_check.specs.networks.Heights.{IsTooHighAt}
 use Rattle.fb_check.specs.networks.Sources.{IsJoinedAt}
 use Rattle.fb_check_names.specs.Twice.{IsTwiceAt}
@@ -30,13 +32,13 @@ use Rattle.fb_check.specs.networks.Unmapped.{IsUnmappedAt}
 use Rattle.fb_check.specs.networks.Unserved.{IsUnservedAt}
 use Rattle.fb_inputs.specs.Faults as rows
 use Rattle.fb_inputs.specs.Faults.{AreTaken}
-use Rattle.fb_inputs.specs.Places.{number_at}
+use Rattle.fb_inputs.specs.StimuliLocations.{number_at}
 use Rattle.fb_inputs.specs.DeployFaults as tables
 use Rattle.fb_inputs.specs.DeployFaults.{IsPlanned}
-use Rattle.fb_inputs.specs.DeployPlaces as places
+use Rattle.fb_inputs.specs.DeployLocations as locations
 use Rattle.fb_check.specs.Stimuli.{IsBadAt, IsOver}
 use Rattle.fb_why.specs.Faults.{FindsFault}
-use Rattle.fb_read_positions.specs.declared.text_locations.TextLocation.{TextLocation}
+use Rattle.fb_read_positions.specs.declared.places.Place.{Place}
 use Rattle.fb_inputs.specs.declared.deploy_location.DeployLocation.{DeployLocation}
 use Rattle.fb_inputs.specs.declared.location.StimuliLocation.{StimuliLocation}
 use Rattle.fb_check.specs.types.Misfits.{IsMisfitAt}
@@ -45,7 +47,7 @@ use Rattle.fb_check.specs.networks.Misjoins.{IsMisjoinedAt}
 -- ---- What is found
 
 -- it is found at this location, with this place
-abbrev pub IsFoundAt : Spot → Option TextLocation → Option PlacedFinding → Type 0
+abbrev pub IsFoundAt : FindingLocation → Option Place → Option PlacedFinding → Type 0
 IsFoundAt location place o = MatchOption o ⊥ (λ r. (r.finding.location ≡ location) × (r.place ≡ place))
 
 -- ---- What is read
@@ -93,18 +95,18 @@ AreNotFed flaw given = AreNotFedIf (is_of_stimuli flaw) given
 -- ---- Inputs that are read
 
 -- The refusal applies at this location.
-abbrev pub AppliesAt : Fault → Library → Plan → List Stimulus → Spot → Type 0
-AppliesAt check.NameTwice lib plan stimuli (spot.Twice p) = IsTwiceAt lib plan p
-AppliesAt check.NameUnknown lib plan stimuli (spot.Unknown p) = IsUnknownAt lib plan p
-AppliesAt check.KindWrong lib plan stimuli (spot.Misfit p) = IsMisfitAt lib p
-AppliesAt check.OutOfRange lib plan stimuli (spot.Misjoin p) = IsMisjoinedAt lib p
-AppliesAt check.TwoSources lib plan stimuli (spot.Joined p) = IsJoinedAt lib p
-AppliesAt check.TooHigh lib plan stimuli (spot.TooHigh p) = IsTooHighAt lib p
-AppliesAt check.NotMapped lib plan stimuli (spot.Unmapped p) = IsUnmappedAt lib plan p
-AppliesAt check.NoLink lib plan stimuli (spot.Unlinked p) = IsUnlinkedAt lib plan p
-AppliesAt check.NoEvent lib plan stimuli (spot.Unserved p) = IsUnservedAt lib plan p
-AppliesAt check.BadStimulus lib plan stimuli (spot.Stimulus p) = IsBadAt lib stimuli p
-AppliesAt check.OverLimit lib plan stimuli (spot.Limit l) = IsOver lib stimuli l
+abbrev pub AppliesAt : Fault → Library → Plan → List Stimulus → Location → Type 0
+AppliesAt check.NameTwice lib plan stimuli (at.NameTwice p) = IsTwiceAt lib plan p
+AppliesAt check.NameUnknown lib plan stimuli (at.NameUnknown p) = IsUnknownAt lib plan p
+AppliesAt check.KindWrong lib plan stimuli (at.KindWrong p) = IsMisfitAt lib p
+AppliesAt check.OutOfRange lib plan stimuli (at.OutOfRange p) = IsMisjoinedAt lib p
+AppliesAt check.TwoSources lib plan stimuli (at.TwoSources p) = IsJoinedAt lib p
+AppliesAt check.TooHigh lib plan stimuli (at.TooHigh p) = IsTooHighAt lib p
+AppliesAt check.NotMapped lib plan stimuli (at.NotMapped p) = IsUnmappedAt lib plan p
+AppliesAt check.NoLink lib plan stimuli (at.NoLink p) = IsUnlinkedAt lib plan p
+AppliesAt check.NoEvent lib plan stimuli (at.NoEvent p) = IsUnservedAt lib plan p
+AppliesAt check.BadStimulus lib plan stimuli (at.BadStimulus p) = IsBadAt lib stimuli p
+AppliesAt check.OverLimit lib plan stimuli (at.OverLimit l) = IsOver lib stimuli l
 AppliesAt _ lib plan stimuli _ = ⊥
 
 -- The refusal applies nowhere; for one whose locations the check lists, it is not the first that applies.
@@ -113,7 +115,7 @@ AppliesNowhere check.NameTwice lib plan stimuli = ¬ (NameTwice lib plan)
 AppliesNowhere flaw lib plan stimuli = ¬ (IsLeastFault (check_number flaw) lib plan stimuli)
 
 -- They were read, and the refusal applies to them at this location.
-pub record FindsFlaw (flaw : Fault) (declaration : List ℕ) (deploy stimuli : Option (List ℕ)) (location : Spot) : Type 0 where
+pub record FindsFlaw (flaw : Fault) (declaration : List ℕ) (deploy stimuli : Option (List ℕ)) (location : Location) : Type 0 where
   pub library : Library
   pub plan : Plan
   pub list : List Stimulus
@@ -121,6 +123,10 @@ pub record FindsFlaw (flaw : Fault) (declaration : List ℕ) (deploy stimuli : O
   pub planned : IsPlan deploy plan
   pub fed : AreFed flaw stimuli list
   pub applies : AppliesAt flaw library plan list location
+
+abbrev pub FindsInInputs : Fault → (declaration : List ℕ) → (deploy stimuli : Option (List ℕ)) → FindingLocation → Type 0
+FindsInInputs flaw declaration deploy stimuli (found.Check location) = FindsFlaw flaw declaration deploy stimuli location
+FindsInInputs flaw declaration deploy stimuli _ = ⊥
 
 -- They were read, and the refusal does not apply to them.
 pub record IsFlawless (flaw : Fault) (declaration : List ℕ) (deploy stimuli : Option (List ℕ)) : Type 0 where
@@ -143,42 +149,42 @@ HasNoFlaw flaw declaration deploy stimuli = IsFlawless flaw declaration deploy s
 -- ---- The text of the declaration
 
 -- A fault of the text has this number, and applies at this location.
-abbrev pub FindsInText : (number : ℕ) → (declaration : List ℕ) → Spot → Type 0
-FindsInText number declaration (spot.Text p) = (fault : ReadError) × (number_of fault ≡ Some number) × FindsFault declaration fault p
+abbrev pub FindsInText : (number : ℕ) → (declaration : List ℕ) → FindingLocation → Type 0
+FindsInText number declaration (found.Text p) = (fault : ReadError) × (number_of fault ≡ Some number) × FindsFault declaration fault p
 FindsInText number declaration _ = ⊥
 
 -- The text declares a library, or is refused with another number.
 abbrev pub IsSilentOfText : (number : ℕ) → (declaration : List ℕ) → Type 0
 IsSilentOfText number declaration =
-    ((library : Library) × IsLibraryText declaration library) ⊎ ((fault : ReadError) × (location : TextLocation) × (number_of fault ≡ Some number → ⊥) × FindsFault declaration fault location)
+    ((library : Library) × IsLibraryText declaration library) ⊎ ((fault : ReadError) × (place : Place) × (number_of fault ≡ Some number → ⊥) × FindsFault declaration fault place)
 
 -- ---- The bytes of the deployment and of the stimuli
 
 -- The deployment is refused with this number, for what is reported of the location.
-abbrev pub IsDeploymentSpot : (number : ℕ) → (bytes : List ℕ) → Spot → Type 0
-IsDeploymentSpot number bytes (spot.Deployment p) = (places.number_at p ≡ number) × tables.IsRefusedAt bytes p
-IsDeploymentSpot number bytes _ = ⊥
+abbrev pub IsDeploymentLocation : (number : ℕ) → (bytes : List ℕ) → FindingLocation → Type 0
+IsDeploymentLocation number bytes (found.Deployment p) = (locations.number_at p ≡ number) × tables.IsRefusedAt bytes p
+IsDeploymentLocation number bytes _ = ⊥
 
 -- The stimuli are refused with this number, for what is reported of the location.
-abbrev pub IsStimuliSpot : (number : ℕ) → (bytes : List ℕ) → Spot → Type 0
-IsStimuliSpot number bytes (spot.Stimuli p) = (number_at p ≡ number) × rows.IsRefusedAt bytes p
-IsStimuliSpot number bytes _ = ⊥
+abbrev pub IsStimuliLocation : (number : ℕ) → (bytes : List ℕ) → FindingLocation → Type 0
+IsStimuliLocation number bytes (found.Stimuli p) = (number_at p ≡ number) × rows.IsRefusedAt bytes p
+IsStimuliLocation number bytes _ = ⊥
 
 -- The deployment is given, and what has this number is wrong at the location.
-abbrev pub FindsInDeployment : (number : ℕ) → Option (List ℕ) → Spot → Type 0
-FindsInDeployment number deploy location = (bytes : List ℕ) × (deploy ≡ Some bytes) × IsDeploymentSpot number bytes location
+abbrev pub FindsInDeployment : (number : ℕ) → Option (List ℕ) → FindingLocation → Type 0
+FindsInDeployment number deploy location = (bytes : List ℕ) × (deploy ≡ Some bytes) × IsDeploymentLocation number bytes location
 
 -- The stimuli are given, and refused with this number for what is reported of the location.
-abbrev pub FindsInStimuli : (number : ℕ) → Option (List ℕ) → Spot → Type 0
-FindsInStimuli number stimuli location = (bytes : List ℕ) × (stimuli ≡ Some bytes) × IsStimuliSpot number bytes location
+abbrev pub FindsInStimuli : (number : ℕ) → Option (List ℕ) → FindingLocation → Type 0
+FindsInStimuli number stimuli location = (bytes : List ℕ) × (stimuli ≡ Some bytes) × IsStimuliLocation number bytes location
 
-abbrev pub FindsInBytes : (number : ℕ) → (deploy stimuli : Option (List ℕ)) → Spot → Type 0
+abbrev pub FindsInBytes : (number : ℕ) → (deploy stimuli : Option (List ℕ)) → FindingLocation → Type 0
 FindsInBytes number deploy stimuli location = FindsInDeployment number deploy location ⊎ FindsInStimuli number stimuli location
 
 -- The deployment is refused with another number, for what is wrong at a location.
 pub record IsRefusedOtherwise (number : ℕ) (bytes : List ℕ) : Type 0 where
   pub location : DeployLocation
-  pub differs : places.number_at location ≢ number
+  pub differs : locations.number_at location ≢ number
   pub refused : tables.IsRefusedAt bytes location
 
 -- The stimuli are refused with another number, for what is wrong at a location.
@@ -202,10 +208,10 @@ IsSilentOfBytes number deploy stimuli = IfSome deploy (IsSilentOfDeployment numb
 -- ---- By the number
 
 -- What is refused with this number applies at this location.
-abbrev pub FindsOf : Cause → (number : ℕ) → (declaration : List ℕ) → (deploy stimuli : Option (List ℕ)) → Spot → Type 0
+abbrev pub FindsOf : Cause → (number : ℕ) → (declaration : List ℕ) → (deploy stimuli : Option (List ℕ)) → FindingLocation → Type 0
 FindsOf cause.Text number declaration deploy stimuli location = FindsInText number declaration location
 FindsOf cause.Bytes number declaration deploy stimuli location = FindsInBytes number deploy stimuli location
-FindsOf (cause.Check flaw) number declaration deploy stimuli location = FindsFlaw flaw declaration deploy stimuli location
+FindsOf (cause.Check flaw) number declaration deploy stimuli location = FindsInInputs flaw declaration deploy stimuli location
 FindsOf cause.Other number declaration deploy stimuli location = ⊥
 
 -- Nothing is reported if the refusal does not apply, or if something can't be read or is refused with another number.
@@ -216,7 +222,7 @@ IsSilentOf (cause.Check flaw) number declaration deploy stimuli = HasNoFlaw flaw
 IsSilentOf cause.Other number declaration deploy stimuli = Unit {0}
 
 -- The refusal with this number applies at this location.
-abbrev pub Finds : (declaration : List ℕ) → (deploy stimuli : Option (List ℕ)) → (number : ℕ) → Spot → Type 0
+abbrev pub Finds : (declaration : List ℕ) → (deploy stimuli : Option (List ℕ)) → (number : ℕ) → FindingLocation → Type 0
 Finds declaration deploy stimuli number location = (cause : Cause) × IsCause number cause × FindsOf cause number declaration deploy stimuli location
 
 -- No location is reported.

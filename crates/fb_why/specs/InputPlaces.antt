@@ -4,7 +4,7 @@ use Rattle.fb_types.specs.declared.deploy.Plan.{Plan}
 use Rattle.fb_types.specs.declared.deploy.ResourceEntry.{ResourceEntry}
 use Rattle.fb_read.specs.declared.token.Span.{Span}
 use Rattle.fb_inputs.specs.Deployments.{deploy_of}
-use Rattle.fb_inputs.specs.NearPlaces.{IsNearInStimuli}
+use Rattle.fb_inputs.specs.NearSpans.{IsNearInStimuli}
 use Rattle.fb_inputs.specs.declared.deploy_location.DeployKey.{DeployKey}
 use Rattle.fb_inputs.specs.declared.deploy_location.DeployKey.TheVariants as key
 use Rattle.fb_inputs.specs.declared.deploy_location.TableLocation.TheVariants as table
@@ -25,10 +25,12 @@ use Rattle.fb_check.specs.declared.location.StimulusFault.{StimulusFault}
 use Rattle.fb_check.specs.declared.location.StimulusFault.TheVariants as fault
 use Rattle.fb_check.specs.declared.location.StimulusLocation.{StimulusLocation}
 use Rattle.fb_why.specs.declared.input_place.InputFile.TheVariants as file
-use Rattle.fb_why.specs.declared.input_place.Place.{Place}
+use Rattle.fb_why.specs.declared.input_place.InputPlace.{InputPlace}
 use Rattle.fb_why.specs.declared.place.PlacedFinding.{PlacedFinding}
-use Rattle.fb_why.specs.declared.spot.Spot.{Spot}
-use Rattle.fb_why.specs.declared.spot.Spot.TheVariants as spot
+use Rattle.fb_check.specs.declared.location.Location.{Location}
+use Rattle.fb_check.specs.declared.location.Location.TheVariants as at
+use Rattle.fb_why.specs.declared.location.FindingLocation.{FindingLocation}
+use Rattle.fb_why.specs.declared.location.FindingLocation.TheVariants as found
 use Rattle.fb_check_names.specs.declared.twice.GivenTwice.{GivenTwice}
 use Rattle.fb_check_names.specs.declared.twice.GivenTwice.TheVariants as given
 use Rattle.fb_check_names.specs.declared.location.Unmapped.TheVariants as unmapped
@@ -68,16 +70,21 @@ fault_position row fault.Twice = in_stimuli.Field row 2
 abbrev pub stimulus_position : StimulusLocation → StimuliPosition
 stimulus_position location = fault_position location.row location.fault
 
--- The position at which a location is shown, if it is one in the deployment or in the stimuli. For a name that is listed
--- twice the deployment says where it is.
-abbrev pub position_of : Spot → Option InputPosition
-position_of (spot.Deployment location) = Some (input.Deployment (deploy_position location))
-position_of (spot.Stimuli location) = Some (input.Stimuli (stimuli_position location))
-position_of (spot.Twice what) = twice_position what
-position_of (spot.Unknown name) = unknown_position name
-position_of (spot.Stimulus location) = Some (input.Stimuli (stimulus_position location))
-position_of (spot.Limit limit.Stimuli) = Some (input.Stimuli in_stimuli.Start)
-position_of _ = None
+-- The position at which a location of the check is shown, if it is one in the deployment or in the stimuli. For a name
+-- that is listed twice the deployment says where it is.
+abbrev pub checked_position : Location → Option InputPosition
+checked_position (at.NameTwice what) = twice_position what
+checked_position (at.NameUnknown name) = unknown_position name
+checked_position (at.BadStimulus location) = Some (input.Stimuli (stimulus_position location))
+checked_position (at.OverLimit limit.Stimuli) = Some (input.Stimuli in_stimuli.Start)
+checked_position _ = None
+
+-- the position at which a location is shown, if it is one in the deployment or in the stimuli
+abbrev pub position_of : FindingLocation → Option InputPosition
+position_of (found.Text place) = None
+position_of (found.Deployment location) = Some (input.Deployment (deploy_position location))
+position_of (found.Stimuli location) = Some (input.Stimuli (stimuli_position location))
+position_of (found.Check location) = checked_position location
 
 -- the position in the stimuli; for one elsewhere it is their beginning
 abbrev pub row_of : Option InputPosition → StimuliPosition
@@ -97,23 +104,23 @@ IsListedIn deploy index position =
     (bytes : Text) × (plan : Plan) × (deploy ≡ Some bytes) × (deploy_of bytes ≡ Ok plan) × (listed_at 0 plan.resources index ≡ Some position)
 
 -- The location is shown at the position.
-abbrev pub IsInputPosition : (deploy : Option Text) → Spot → InputPosition → Type 0
-IsInputPosition deploy (spot.Unmapped (unmapped.Again pair)) position = IsListedIn deploy pair.1 position
+abbrev pub IsInputPosition : (deploy : Option Text) → FindingLocation → InputPosition → Type 0
+IsInputPosition deploy (found.Check (at.NotMapped (unmapped.Again pair))) position = IsListedIn deploy pair.1 position
 IsInputPosition deploy location position = position_of location ≡ Some position
 
 -- ---- Places
 
 -- The place is that of the position in the deployment that is given.
-abbrev pub IsPlaceInDeploy : (deploy : Option Text) → DeployPosition → Place → Type 0
+abbrev pub IsPlaceInDeploy : (deploy : Option Text) → DeployPosition → InputPlace → Type 0
 IsPlaceInDeploy deploy position place =
     (bytes : Text) × (deploy ≡ Some bytes) × (place.file ≡ file.Deployment) × IsDeployPlace bytes position place.at
 
 -- The place is that of the position in the stimuli that are given.
-abbrev pub IsPlaceInRows : (stimuli : Option Text) → StimuliPosition → Place → Type 0
+abbrev pub IsPlaceInRows : (stimuli : Option Text) → StimuliPosition → InputPlace → Type 0
 IsPlaceInRows stimuli position place =
     (bytes : Text) × (stimuli ≡ Some bytes) × (place.file ≡ file.Stimuli) × IsStimuliPlace bytes position place.at
 
-abbrev pub IsPlaceIn : (deploy stimuli : Option Text) → InputPosition → Place → Type 0
+abbrev pub IsPlaceIn : (deploy stimuli : Option Text) → InputPosition → InputPlace → Type 0
 IsPlaceIn deploy stimuli (input.Deployment position) place = IsPlaceInDeploy deploy position place
 IsPlaceIn deploy stimuli (input.Stimuli position) place = IsPlaceInRows stimuli position place
 
@@ -123,19 +130,19 @@ IsNearIn None position span = Unit {0}
 IsNearIn (Some bytes) position span = IsNearInStimuli bytes position span
 
 -- The place, if there is one, is that of the position.
-abbrev pub IsPlaceFor : (deploy stimuli : Option Text) → Option InputPosition → Option Place → Type 0
+abbrev pub IsPlaceFor : (deploy stimuli : Option Text) → Option InputPosition → Option InputPlace → Type 0
 IsPlaceFor deploy stimuli None place = place ≡ None
 IsPlaceFor deploy stimuli (Some position) place = IfSome place (IsPlaceIn deploy stimuli position)
 
 -- The finding is shown at the position, if there is one.
 abbrev pub IsShownAt : (deploy : Option Text) → PlacedFinding → Option InputPosition → Type 0
-IsShownAt deploy found position = IfSome position (IsInputPosition deploy found.finding.location)
+IsShownAt deploy x position = IfSome position (IsInputPosition deploy x.finding.location)
 
 -- The place is that of the position at which the location is shown.
-abbrev pub IsInputPlace : (deploy stimuli : Option Text) → Spot → Place → Type 0
+abbrev pub IsInputPlace : (deploy stimuli : Option Text) → FindingLocation → InputPlace → Type 0
 IsInputPlace deploy stimuli location place =
     (position : InputPosition) × IsInputPosition deploy location position × IsPlaceIn deploy stimuli position place
 
 -- The place, if there is one, is that of the finding.
-abbrev pub IsPlaceOf : (deploy stimuli : Option Text) → PlacedFinding → Option Place → Type 0
-IsPlaceOf deploy stimuli found place = IfSome place (IsInputPlace deploy stimuli found.finding.location)
+abbrev pub IsPlaceOf : (deploy stimuli : Option Text) → PlacedFinding → Option InputPlace → Type 0
+IsPlaceOf deploy stimuli x place = IfSome place (IsInputPlace deploy stimuli x.finding.location)

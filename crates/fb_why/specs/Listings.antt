@@ -1,95 +1,62 @@
 -- The findings of one number: all locations at which it applies, and the first of them (this project's own).
-use Rattle.std.specs.Prelude.{◌≡◌, ◌≤◌, ◌⊎◌, ℕ, false, List, [], ◌∷◌, Option, All, MatchOption, map, take, length, nat_lt}
+use Rattle.std.specs.Prelude.{◌≡◌, ◌≤◌, ◌⊎◌, ℕ, false, List, [], Option, All, MatchOption, map, take, length, nat_lt}
 use Rattle.std.specs.Option.{option_to_list}
 use Rattle.fb_read.specs.Whole.{IsLibraryText}
 use Rattle.fb_types.specs.declared.deploy.Plan.{Plan}
 use Rattle.fb_types.specs.declared.deploy.Stimulus.{Stimulus}
 use Rattle.fb_types.specs.declared.library.Library.{Library}
-use Rattle.fb_check.specs.networks.Misjoins.{misjoins_all}
-use Rattle.fb_check.specs.types.MisfitLists.{misfits_all}
-use Rattle.fb_check.specs.types.Unknowns.{unknown_all}
 use Rattle.fb_types.specs.Accepted.{IsLeastFault}
-use Rattle.fb_check.specs.Stimuli.{AreAllBad}
-use Rattle.fb_check.specs.declared.location.StimulusLocation.{StimulusLocation}
-use Rattle.fb_check.specs.declared.refusal.Refusal.{Refusal}
-use Rattle.fb_check.specs.declared.refusal.Refusal.TheVariants as refusal
-use Rattle.fb_check.specs.Faults.{number_of}
-use Rattle.fb_why.specs.Causes.{IsCause}
-use Rattle.fb_why.specs.Findings.{AppliesAt, AppliesNowhere, AreFed, Finds, FindsOf, IsPlan, IsSilent, IsSilentOf, IsUnread}
 use Rattle.fb_check_names.specs.TwiceLists.{twice_all}
-use Rattle.fb_check.specs.networks.Sources.{joined_all}
-use Rattle.fb_check.specs.networks.Links.{unlinked_all}
-use Rattle.fb_check.specs.networks.Unmapped.{unmapped_all}
-use Rattle.fb_check.specs.networks.Unserved.{unserved_all}
-use Rattle.fb_why.specs.declared.cause.Cause.{Cause}
-use Rattle.fb_why.specs.declared.cause.Cause.TheVariants as cause
+use Rattle.fb_check.specs.Faults.{number_of}
+use Rattle.fb_check.specs.Refusals as refusal
 use Rattle.fb_check.specs.declared.fault.Fault.{Fault}
 use Rattle.fb_check.specs.declared.fault.Fault.TheVariants as check
+use Rattle.fb_check.specs.declared.location.Location.{Location}
+use Rattle.fb_check.specs.declared.location.Location.TheVariants as at
+use Rattle.fb_why.specs.Causes.{IsCause}
+use Rattle.fb_why.specs.Findings.{AppliesAt, AppliesNowhere, AreFed, Finds, FindsOf, IsPlan, IsSilent, IsSilentOf, IsUnread}
+use Rattle.fb_why.specs.declared.cause.Cause.{Cause}
+use Rattle.fb_why.specs.declared.cause.Cause.TheVariants as cause
 use Rattle.fb_why.specs.declared.listing.Findings.{Findings}
+use Rattle.fb_why.specs.declared.location.FindingLocation.{FindingLocation}
+use Rattle.fb_why.specs.declared.location.FindingLocation.TheVariants.{Check}
 use Rattle.fb_why.specs.declared.place.PlacedFinding.{PlacedFinding}
-use Rattle.fb_why.specs.declared.spot.Spot.{Spot}
-use Rattle.fb_why.specs.declared.spot.Spot.TheVariants as spot
 
 -- the greatest number of findings that are shown
 abbrev pub most_findings : ℕ
 most_findings = 20
 
-abbrev pub locations_of : Findings → List Spot
+abbrev pub locations_of : Findings → List FindingLocation
 locations_of f = map (λ r. r.finding.location) f.shown.items
 
 -- ---- Inputs that are read
 
--- these are stimuli, and each that the application can't take is among them
-abbrev pub AreAllStimuli : Library → List Stimulus → List Spot → Type 0
-AreAllStimuli lib stimuli spots = (found : List StimulusLocation) × (spots ≡ map (λ p. spot.Stimulus p) found) × AreAllBad lib stimuli found
-
 -- these are all locations of the number; of types that are too high and of limits one is listed at most, of a stimulus one
--- fault, and those that the check lists are all if it refuses for this fault first
-abbrev pub AreAll : Fault → Library → Plan → List Stimulus → List Spot → Type 0
-AreAll check.NameTwice lib plan stimuli spots = spots ≡ map (λ p. spot.Twice p) (twice_all lib plan)
-AreAll check.TooHigh lib plan stimuli spots = length spots ≤ 1
-AreAll check.OverLimit lib plan stimuli spots = length spots ≤ 1
-AreAll check.NotMapped lib plan stimuli spots = IsLeastFault (number_of check.NotMapped) lib plan stimuli → spots ≡ map (λ p. spot.Unmapped p) (unmapped_all lib plan)
-AreAll check.NameUnknown lib plan stimuli spots = IsLeastFault (number_of check.NameUnknown) lib plan stimuli → spots ≡ map (λ p. spot.Unknown p) (unknown_all lib plan)
-AreAll check.KindWrong lib plan stimuli spots = IsLeastFault (number_of check.KindWrong) lib plan stimuli → spots ≡ map (λ p. spot.Misfit p) (misfits_all lib)
-AreAll check.OutOfRange lib plan stimuli spots = IsLeastFault (number_of check.OutOfRange) lib plan stimuli → spots ≡ map (λ p. spot.Misjoin p) (misjoins_all lib)
-AreAll check.TwoSources lib plan stimuli spots = IsLeastFault (number_of check.TwoSources) lib plan stimuli → spots ≡ map (λ p. spot.Joined p) (joined_all lib)
-AreAll check.NoLink lib plan stimuli spots = IsLeastFault (number_of check.NoLink) lib plan stimuli → spots ≡ map (λ p. spot.Unlinked p) (unlinked_all lib plan)
-AreAll check.NoEvent lib plan stimuli spots = IsLeastFault (number_of check.NoEvent) lib plan stimuli → spots ≡ map (λ p. spot.Unserved p) (unserved_all lib plan)
-AreAll check.BadStimulus lib plan stimuli spots = IsLeastFault (number_of check.BadStimulus) lib plan stimuli → AreAllStimuli lib stimuli spots
-
--- the locations of a refusal
-abbrev pub spots_of : Refusal → List Spot
-spots_of (refusal.Twice v) = map (λ p. spot.Twice p) v.items
-spots_of (refusal.NameUnknown v) = map (λ p. spot.Unknown p) v.items
-spots_of (refusal.KindWrong v) = map (λ p. spot.Misfit p) v.items
-spots_of (refusal.OutOfRange v) = map (λ p. spot.Misjoin p) v.items
-spots_of (refusal.TwoSources v) = map (λ p. spot.Joined p) v.items
-spots_of (refusal.TooHigh d) = spot.TooHigh d ∷ []
-spots_of (refusal.NotMapped v) = map (λ p. spot.Unmapped p) v.items
-spots_of (refusal.NoLink v) = map (λ p. spot.Unlinked p) v.items
-spots_of (refusal.NoEvent v) = map (λ p. spot.Unserved p) v.items
-spots_of (refusal.BadStimulus v) = map (λ p. spot.Stimulus p) v.items
-spots_of (refusal.OverLimit l) = spot.Limit l ∷ []
+-- fault, and those of the others are all if the check refuses for this fault first
+abbrev pub AreAll : Fault → Library → Plan → List Stimulus → List Location → Type 0
+AreAll check.NameTwice lib plan stimuli found = found ≡ map (λ p. at.NameTwice p) (twice_all lib plan)
+AreAll check.TooHigh lib plan stimuli found = length found ≤ 1
+AreAll check.OverLimit lib plan stimuli found = length found ≤ 1
+AreAll flaw lib plan stimuli found = IsLeastFault (number_of flaw) lib plan stimuli → refusal.AreAll lib plan stimuli flaw found
 
 -- The refusal applies at each of these locations, and nowhere if there is none.
-pub record AreSpots (flaw : Fault) (lib : Library) (plan : Plan) (stimuli : List Stimulus) (spots : List Spot) : Type 0 where
-  pub each : All (AppliesAt flaw lib plan stimuli) spots
-  pub none : spots ≡ [] → AppliesNowhere flaw lib plan stimuli
-  pub all : AreAll flaw lib plan stimuli spots
+pub record AreLocations (flaw : Fault) (lib : Library) (plan : Plan) (stimuli : List Stimulus) (found : List Location) : Type 0 where
+  pub each : All (AppliesAt flaw lib plan stimuli) found
+  pub none : found ≡ [] → AppliesNowhere flaw lib plan stimuli
+  pub all : AreAll flaw lib plan stimuli found
 
 -- They were read, and the first of their locations are shown.
 pub record AreShown (flaw : Fault) (declaration : List ℕ) (deploy stimuli : Option (List ℕ)) (f : Findings) : Type 0 where
   pub library : Library
   pub plan : Plan
   pub list : List Stimulus
-  pub spots : List Spot
+  pub locations : List Location
   pub read : IsLibraryText declaration library
   pub planned : IsPlan deploy plan
   pub fed : AreFed flaw stimuli list
-  pub are : AreSpots flaw library plan list spots
-  pub shown : locations_of f ≡ take most_findings spots
-  pub more : f.more ≡ nat_lt most_findings (length spots)
+  pub are : AreLocations flaw library plan list locations
+  pub shown : locations_of f ≡ map (λ p. Check p) (take most_findings locations)
+  pub more : f.more ≡ nat_lt most_findings (length locations)
 
 -- They can't be read, and nothing is shown.
 pub record AreUnread (flaw : Fault) (declaration : List ℕ) (deploy stimuli : Option (List ℕ)) (f : Findings) : Type 0 where

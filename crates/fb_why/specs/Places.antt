@@ -4,15 +4,16 @@ use Rattle.fb_types.specs.declared.library.Library.{Library}
 use Rattle.fb_read.specs.Blank.{Text}
 use Rattle.fb_read.specs.Whole.{IsLibraryText}
 use Rattle.fb_read_positions.specs.declared.position.Position.{Position}
-use Rattle.fb_read_positions.specs.Locations.{IsPlaceAt}
-use Rattle.fb_read_positions.specs.declared.text_locations.TextLocation.{TextLocation}
+use Rattle.fb_read_positions.specs.Places.{IsPlaceAt}
+use Rattle.fb_read_positions.specs.declared.places.Place.{Place}
 use Rattle.fb_why.specs.Positions.{position_of}
 use Rattle.fb_why.specs.declared.place.PlacedFinding.{PlacedFinding}
-use Rattle.fb_why.specs.declared.spot.Spot.{Spot}
-use Rattle.fb_why.specs.declared.spot.Spot.TheVariants as spot
+use Rattle.fb_check.specs.declared.location.Location.{Location}
+use Rattle.fb_why.specs.declared.location.FindingLocation.{FindingLocation}
+use Rattle.fb_why.specs.declared.location.FindingLocation.TheVariants as at
 
 -- The text declares a library, and the place is that of the position at which the location is shown.
-pub record IsShown (text : Text) (location : Spot) (place : TextLocation) : Type 0 where
+pub record IsShown (text : Text) (location : Location) (place : Place) : Type 0 where
   pub library : Library
   pub read : IsLibraryText text library
   pub position : Position
@@ -20,8 +21,11 @@ pub record IsShown (text : Text) (location : Spot) (place : TextLocation) : Type
   pub placed : IsPlaceAt text library position place
 
 -- The place is the location itself, or that of what was declared.
-abbrev pub IsPlaceOf : Text → Spot → TextLocation → Type 0
-IsPlaceOf text location place = (location ≡ spot.Text place) ⊎ IsShown text location place
+abbrev pub IsPlaceOf : Text → FindingLocation → Place → Type 0
+IsPlaceOf text (at.Text location) place = location ≡ place
+IsPlaceOf text (at.Check location) place = IsShown text location place
+IsPlaceOf text (at.Deployment location) place = ⊥
+IsPlaceOf text (at.Stimuli location) place = ⊥
 
 -- the place of what was found, if it has one
 abbrev pub IsPlacedFinding : Text → PlacedFinding → Type 0

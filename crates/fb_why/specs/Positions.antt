@@ -8,8 +8,8 @@ use Rattle.fb_check.specs.declared.location.Limit.TheVariants as limit
 use Rattle.fb_read_positions.specs.FindingPositions.{data_position, descent_position, misfit_position, twice_position, unknown_position, unlinked_position, unmapped_position}
 use Rattle.fb_read_positions.specs.declared.position.Position.{Position}
 use Rattle.fb_read_positions.specs.declared.position.Position.TheVariants as position
-use Rattle.fb_why.specs.declared.spot.Spot.{Spot}
-use Rattle.fb_why.specs.declared.spot.Spot.TheVariants as spot
+use Rattle.fb_check.specs.declared.location.Location.{Location}
+use Rattle.fb_check.specs.declared.location.Location.TheVariants as at
 
 -- too many instances are shown at the name of the application
 abbrev pub limit_position : Limit → Option Position
@@ -20,18 +20,15 @@ limit_position limit.Stimuli = None
 abbrev pub later_position : Joined → Position
 later_position j = data_position j.site j.connections.1
 
-abbrev pub position_of : Library → Spot → Option Position
-position_of lib (spot.Twice p) = twice_position lib p
-position_of lib (spot.Unknown p) = unknown_position lib p
-position_of lib (spot.Misfit p) = Some (misfit_position p)
-position_of lib (spot.Misjoin p) = Some (data_position p.site p.connection)
-position_of lib (spot.Joined p) = Some (later_position p)
-position_of lib (spot.TooHigh p) = Some (descent_position p)
-position_of lib (spot.Unmapped p) = unmapped_position p
-position_of lib (spot.Unlinked p) = Some (unlinked_position p)
-position_of lib (spot.Unserved connection) = Some (data_position site.Application connection)
-position_of lib (spot.Limit p) = limit_position p
-position_of lib (spot.Text p) = None
-position_of lib (spot.Deployment p) = None
-position_of lib (spot.Stimuli p) = None
-position_of lib (spot.Stimulus p) = None
+abbrev pub position_of : Library → Location → Option Position
+position_of lib (at.NameTwice p) = twice_position lib p
+position_of lib (at.NameUnknown p) = unknown_position lib p
+position_of lib (at.KindWrong p) = Some (misfit_position p)
+position_of lib (at.OutOfRange p) = Some (data_position p.site p.connection)
+position_of lib (at.TwoSources p) = Some (later_position p)
+position_of lib (at.TooHigh p) = Some (descent_position p)
+position_of lib (at.NotMapped p) = unmapped_position p
+position_of lib (at.NoLink p) = Some (unlinked_position p)
+position_of lib (at.NoEvent connection) = Some (data_position site.Application connection)
+position_of lib (at.OverLimit p) = limit_position p
+position_of lib (at.BadStimulus p) = None

@@ -1,4 +1,4 @@
-//! The refusal of a text, and its location.
+//! The refusal of a text, and its place.
 
 ghost use Rattle.std.specs.Prelude.{◌≤◌, IfOk, IfSome, MatchOption, length};
 ghost use Rattle.fb_read.specs.Located.{AreLocated};
@@ -7,13 +7,13 @@ ghost use Rattle.fb_read.specs.Tokens.{after_mark};
 ghost use Rattle.fb_read.specs.Whole.{IsLibraryText};
 ghost use Rattle.fb_types.specs.declared.library.Library.{Library};
 ghost use Rattle.fb_why.specs.Faults.{EndsAt, IsAfterToken, IsShownFor, IsTextRefusal};
-ghost use Rattle.fb_read_positions.specs.Locations.{IsLocation};
+ghost use Rattle.fb_read_positions.specs.Places.{IsPlace};
 
 use fb_read::read::span_before;
 use fb_read::token::Located;
 use fb_read::{ReadFault, Refusal, TextFault, discard, read_located};
 use fb_read_positions::hints::misses_semicolon;
-use fb_read_positions::{TextLocation, discard as discard_tokens, location_at, tokens_of};
+use fb_read_positions::{Place, discard as discard_tokens, place_between, tokens_of};
 use std::alloc::{AllocError, Global};
 
 /// Why a declaration text is refused, and where it shows.
@@ -22,7 +22,7 @@ pub struct TextRefusal {
     /// What is wrong, and what was expected.
     pub refusal: Refusal,
     /// Where it is shown: at the token that is refused, or where a semicolon is missing before it.
-    pub location: TextLocation,
+    pub place: Place,
 }
 
 /// The end of the last of these tokens of a text.
@@ -54,9 +54,9 @@ fn end_of_tokens(alloc: Global, text: &[u8]) -> Option<usize>
 }
 
 /// The end of the last token before an offset, if a line ends between them.
-fn end_of_earlier_line(alloc: Global, text: &[u8], offset: usize) -> Option<TextLocation>
+fn end_of_earlier_line(alloc: Global, text: &[u8], offset: usize) -> Option<Place>
     requires { offset ≤ length text.now }
-    ensures location { IfSome result (IsLocation text.now) }
+    ensures place { IfSome result (IsPlace text.now) }
     ensures after { IfSome result (IsAfterToken text.now offset) }
 {
     let before = &text[..offset];
@@ -64,25 +64,25 @@ fn end_of_earlier_line(alloc: Global, text: &[u8], offset: usize) -> Option<Text
     if !before[end..].contains(&b'\n') {
         return None;
     }
-    location_at(text, end, end)
+    place_between(text, end, end)
 }
 
 /// Where a refusal is shown: where a semicolon is missing before the token that is refused, if one is and the token
 /// before is on an earlier line, or else at this token.
-fn shown(alloc: Global, text: &[u8], refusal: Refusal) -> TextLocation
+fn shown(alloc: Global, text: &[u8], refusal: Refusal) -> Place
     requires { IsFaultAt refusal.fault text.now refusal.start refusal.end }
-    ensures location { IsLocation text.now result }
+    ensures place { IsPlace text.now result }
     ensures shown { IsShownFor text.now refusal.fault refusal.start refusal.end result }
 {
     if let TextFault::Syntax = refusal.fault {
         if misses_semicolon(alloc, refusal.expected) {
-            if let Some(location) = end_of_earlier_line(alloc, text, refusal.start) {
-                return location;
+            if let Some(place) = end_of_earlier_line(alloc, text, refusal.start) {
+                return place;
             }
         }
     }
-    match location_at(text, refusal.start, refusal.end) {
-        Some(location) => location,
+    match place_between(text, refusal.start, refusal.end) {
+        Some(place) => place,
         None => unreachable!(),
     }
 }
@@ -102,8 +102,8 @@ pub fn text_refusal(alloc: Global, text: &[u8]) -> Result<Option<TextRefusal>, A
         }
         Err(ReadFault::Memory) => Err(AllocError),
         Err(ReadFault::Refused(refusal)) => {
-            let location = shown(alloc, text, refusal);
-            Ok(Some(TextRefusal { refusal, location }))
+            let place = shown(alloc, text, refusal);
+            Ok(Some(TextRefusal { refusal, place }))
         }
     }
 }

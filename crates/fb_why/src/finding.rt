@@ -7,7 +7,7 @@ ghost use Rattle.fb_why.specs.Listings.{AreFlaws, AreFound};
 ghost use Rattle.fb_why.specs.Places.{IsPlacedFinding};
 
 use crate::cause::{Cause, cause_of, is_of_stimuli};
-use crate::declared::spots_in;
+use crate::declared::locations_in;
 use crate::listing::{Findings, listed, one};
 use crate::place::PlacedFinding;
 use crate::refused::{bytes_finding, text_finding};
@@ -77,8 +77,8 @@ fn flaws_in(
         plan: deploy.plan(),
         stimuli: stimuli.as_slice(),
     };
-    let spots = spots_in(alloc, flaw, &case)?;
-    listed(alloc, declaration, &case, spots.as_slice())
+    let locations = locations_in(alloc, flaw, &case)?;
+    listed(alloc, declaration, &case, locations.as_slice())
 }
 
 /// Where the refusal applies to the inputs in these bytes.

@@ -1,12 +1,11 @@
 //! The text for a location in inputs that can be read (E20 to E30): words for a position, and what is wrong there.
 
 use crate::contents::Contents;
-use crate::kind_messages::{push_misfit, push_misjoin};
+use crate::kind_messages::{push_kind_wrong, push_out_of_range};
 use crate::place::position_of;
-use crate::spot::Spot;
 use crate::stimulus_messages::push_stimulus;
 use crate::unknown_messages::push_unknown;
-use fb_check::{Case, Limit};
+use fb_check::{Case, Limit, Location};
 use fb_check_names::{Descent, FlowKind, GivenTwice, InBlock, Joined, Repeat, Unlinked, Unmapped};
 use fb_read_positions::finding_positions::port_at;
 use fb_read_positions::headings::{
@@ -63,15 +62,15 @@ fn push_given(text: &mut Text, library: &Library, plan: &Plan, given: GivenTwice
 }
 
 /// Adds which two of these data connections lead to one port (E24).
-fn push_joined(text: &mut Text, connections: &[Connection], (first, second): Repeat) {
+fn push_two_sources(text: &mut Text, connections: &[Connection], (first, second): Repeat) {
     push_connection(text, ": data connections ", connections.get(first));
     push_connection(text, " and ", connections.get(second));
     text.words(" lead to one port");
 }
 
 /// The resource and the name at an index in the lists of all resources, one after another.
-fn listed_at(resources: &[ResourceEntry], location: usize) -> Option<(&ResourceEntry, &Name)> {
-    let mut rest = location;
+fn listed_at(resources: &[ResourceEntry], index: usize) -> Option<(&ResourceEntry, &Name)> {
+    let mut rest = index;
     for resource in resources {
         let names = resource.instances.as_slice();
         if rest < names.len() {
@@ -126,7 +125,7 @@ fn push_resource(text: &mut Text, words: &str, resources: &[ResourceEntry], end:
 }
 
 /// Adds which link a connection would need (E27).
-fn push_unlinked(text: &mut Text, resources: &[ResourceEntry], connection: Option<&Connection>) {
+fn push_no_link(text: &mut Text, resources: &[ResourceEntry], connection: Option<&Connection>) {
     if let Some(connection) = connection {
         text.words(": there is no link");
         push_resource(text, " from resource ", resources, &connection.from);
@@ -135,7 +134,7 @@ fn push_unlinked(text: &mut Text, resources: &[ResourceEntry], connection: Optio
 }
 
 /// Adds which event could serve a data connection (E28).
-fn push_unserved(text: &mut Text, resources: &[ResourceEntry], connection: Option<&Connection>) {
+fn push_no_event(text: &mut Text, resources: &[ResourceEntry], connection: Option<&Connection>) {
     if let Some(connection) = connection {
         if let Some(component) = &connection.from.component {
             text.named(": no output event of ", component);
@@ -146,52 +145,56 @@ fn push_unserved(text: &mut Text, resources: &[ResourceEntry], connection: Optio
 }
 
 /// Adds what is wrong at a location, for the numbers that are not about types.
-fn push_untyped(text: &mut Text, library: &Library, plan: &Plan, location: Spot) {
+fn push_untyped(text: &mut Text, library: &Library, plan: &Plan, location: Location) {
     let network = &library.application.network;
     let resources = plan.resources.as_slice();
     match location {
-        Spot::Twice(given) => push_given(text, library, plan, given),
-        Spot::Joined(Joined { site, connections }) => {
+        Location::NameTwice(given) => push_given(text, library, plan, given),
+        Location::TwoSources(Joined { site, connections }) => {
             if let Some(network) = network_at(library, site) {
-                push_joined(text, network.data_connections.as_slice(), connections);
+                push_two_sources(text, network.data_connections.as_slice(), connections);
             }
         }
-        Spot::TooHigh(Descent::Circle(block, _)) => {
+        Location::TooHigh(Descent::Circle(block, _)) => {
             push_item(text, ": ", library.blocks.as_slice(), block);
             text.words(" contains itself through it");
         }
-        Spot::TooHigh(Descent::Height(_, _)) => {
+        Location::TooHigh(Descent::Height(_, _)) => {
             text.words(": composites nest more than 16 deep through it");
         }
-        Spot::Unmapped(Unmapped::Again(pair)) => push_listed(text, resources, pair),
-        Spot::Unmapped(Unmapped::Unlisted(_)) => text.words(": no resource lists it"),
-        Spot::Unlinked(Unlinked { flow, connection }) => {
+        Location::NotMapped(Unmapped::Again(pair)) => push_listed(text, resources, pair),
+        Location::NotMapped(Unmapped::Unlisted(_)) => text.words(": no resource lists it"),
+        Location::NoLink(Unlinked { flow, connection }) => {
             let connections = match flow {
                 FlowKind::Events => network.event_connections.as_slice(),
                 FlowKind::Data => network.data_connections.as_slice(),
             };
-            push_unlinked(text, resources, connections.get(connection));
+            push_no_link(text, resources, connections.get(connection));
         }
-        Spot::Unserved(at) => push_unserved(text, resources, network.data_connections.get(at)),
-        Spot::Limit(Limit::Instances) => {
+        Location::NoEvent(at) => push_no_event(text, resources, network.data_connections.get(at)),
+        Location::OverLimit(Limit::Instances) => {
             text.words("application: there are more than 4,096 instances, components included");
         }
-        Spot::Limit(Limit::Stimuli) => text.words("there are more than 100,000 rows"),
-        Spot::Unknown(_) | Spot::Misfit(_) | Spot::Misjoin(_) | Spot::Stimulus(_) => {}
-        Spot::Text(_) | Spot::Deployment(_) | Spot::Stimuli(_) => {}
+        Location::OverLimit(Limit::Stimuli) => text.words("there are more than 100,000 rows"),
+        Location::NameUnknown(_)
+        | Location::KindWrong(_)
+        | Location::OutOfRange(_)
+        | Location::BadStimulus(_) => {}
     }
 }
 
 /// The position whose words come first: mostly the one at which the location is shown.
-fn heading_of(location: Spot, position: Option<Position>) -> Option<Position> {
+fn heading_of(location: Location, position: Option<Position>) -> Option<Position> {
     match location {
-        Spot::Twice(GivenTwice::Block(block, InBlock::Port(_))) => Some(Position::Block(block)),
-        Spot::Joined(joined) => Some(site_position(joined.site)),
-        Spot::Unmapped(Unmapped::Again(_)) => Some(Position::Application),
-        Spot::TooHigh(Descent::Circle(block, instance) | Descent::Height(block, instance)) => {
+        Location::NameTwice(GivenTwice::Block(block, InBlock::Port(_))) => {
+            Some(Position::Block(block))
+        }
+        Location::TwoSources(joined) => Some(site_position(joined.site)),
+        Location::NotMapped(Unmapped::Again(_)) => Some(Position::Application),
+        Location::TooHigh(Descent::Circle(block, instance) | Descent::Height(block, instance)) => {
             Some(Position::InComposite(block, NetworkPart::InstanceType(instance)))
         }
-        Spot::Limit(_) => None,
+        Location::OverLimit(_) => None,
         _ => position,
     }
 }
@@ -202,17 +205,19 @@ pub(crate) fn push_flaw<'a>(
     types: &BlockTypes<'a>,
     contents: &mut Contents<'a>,
     case: &Case,
-    location: Spot,
+    location: Location,
 ) {
     let position = position_of(case.library, location);
     if let Some(heading) = heading_of(location, position) {
         push_position(text, case.library, heading);
     }
     match location {
-        Spot::Unknown(name) => push_unknown(text, types, contents, case.plan, name, position),
-        Spot::Misfit(misfit) => push_misfit(text, types, contents, misfit),
-        Spot::Misjoin(misjoin) => push_misjoin(text, types, misjoin),
-        Spot::Stimulus(at) => push_stimulus(text, types, case.stimuli, at),
+        Location::NameUnknown(name) => {
+            push_unknown(text, types, contents, case.plan, name, position);
+        }
+        Location::KindWrong(misfit) => push_kind_wrong(text, types, contents, misfit),
+        Location::OutOfRange(misjoin) => push_out_of_range(text, types, misjoin),
+        Location::BadStimulus(at) => push_stimulus(text, types, case.stimuli, at),
         _ => push_untyped(text, case.library, case.plan, location),
     }
 }

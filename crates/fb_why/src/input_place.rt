@@ -6,16 +6,16 @@ ghost use Rattle.fb_why.specs.InputPlaces as spec;
 ghost use Rattle.fb_why.specs.InputPlaces.{IsInputPosition, IsListedIn, IsNearIn, IsPlaceFor, IsPlaceOf, IsShownAt};
 ghost use Rattle.fb_why.specs.InputStretches.{IsDeployPlace};
 
+use crate::location::FindingLocation;
 use crate::place::PlacedFinding;
-use crate::spot::Spot;
-use fb_check::{Limit, StimulusFault, StimulusLocation};
+use fb_check::{Limit, Location, StimulusFault, StimulusLocation};
 use fb_check_names::{GivenTwice, Side, UnknownName, Unmapped};
 use fb_inputs::{
     DeployKey, DeployPosition, InputError, StimuliPosition, TableLocation, deploy_position,
     nearest_in_deployment, nearest_spans, read_deploy, stimuli_position,
 };
 use fb_read::token::Span;
-use fb_read_positions::{TextLocation, location_at};
+use fb_read_positions::{Place, place_between};
 use fb_types::ResourceEntry;
 use std::alloc::{AllocError, Global};
 
@@ -28,11 +28,11 @@ pub enum InputFile {
 
 /// A place in an input.
 #[derive(Clone, Copy)]
-pub struct Place {
+pub struct InputPlace {
     /// The input.
     pub file: InputFile,
     /// The place in its text.
-    pub at: TextLocation,
+    pub at: Place,
 }
 
 /// A position in the deployment or in the stimuli.
@@ -43,11 +43,11 @@ pub enum InputPosition {
 }
 
 /// The place of a position of a deployment: where its key or its table is, or else the beginning of the text.
-pub fn place_in_deployment(bytes: &[u8], position: DeployPosition) -> Option<TextLocation>
+pub fn place_in_deployment(bytes: &[u8], position: DeployPosition) -> Option<Place>
     ensures { IfSome result (IsDeployPlace bytes.now position) }
 {
     let span = nearest_in_deployment(bytes, position);
-    location_at(bytes, span.start, span.end)
+    place_between(bytes, span.start, span.end)
 }
 
 /// An instance that a resource lists.
@@ -108,19 +108,35 @@ fn stimulus_position(location: StimulusLocation) -> StimuliPosition
     }
 }
 
-/// The position at which a location is shown, if it is one in the deployment or in the stimuli. For a name that is
-/// listed twice the deployment says where it is.
-fn position_of(location: Spot) -> Option<InputPosition>
+/// The position at which a location of the check is shown, if it is one in the deployment or in the stimuli. For a name
+/// that is listed twice the deployment says where it is.
+fn checked_position(location: Location) -> Option<InputPosition>
+    ensures { result ≡ spec.checked_position location }
+{
+    match location {
+        Location::NameTwice(given) => twice_position(given),
+        Location::NameUnknown(name) => unknown_position(name),
+        Location::BadStimulus(location) => {
+            Some(InputPosition::Stimuli(stimulus_position(location)))
+        }
+        Location::OverLimit(Limit::Stimuli) => Some(InputPosition::Stimuli(StimuliPosition::Start)),
+        _ => None,
+    }
+}
+
+/// The position at which a location is shown, if it is one in the deployment or in the stimuli.
+fn position_of(location: FindingLocation) -> Option<InputPosition>
     ensures { result ≡ spec.position_of location }
 {
     match location {
-        Spot::Deployment(location) => Some(InputPosition::Deployment(deploy_position(location))),
-        Spot::Stimuli(location) => Some(InputPosition::Stimuli(stimuli_position(location))),
-        Spot::Twice(given) => twice_position(given),
-        Spot::Unknown(name) => unknown_position(name),
-        Spot::Stimulus(location) => Some(InputPosition::Stimuli(stimulus_position(location))),
-        Spot::Limit(Limit::Stimuli) => Some(InputPosition::Stimuli(StimuliPosition::Start)),
-        _ => None,
+        FindingLocation::Text(_) => None,
+        FindingLocation::Deployment(location) => {
+            Some(InputPosition::Deployment(deploy_position(location)))
+        }
+        FindingLocation::Stimuli(location) => {
+            Some(InputPosition::Stimuli(stimuli_position(location)))
+        }
+        FindingLocation::Check(location) => checked_position(location),
     }
 }
 
@@ -161,12 +177,14 @@ fn listed_in(
 fn input_position(
     alloc: Global,
     deploy: Option<&[u8]>,
-    location: Spot,
+    location: FindingLocation,
 ) -> Result<Option<InputPosition>, AllocError>
     ensures { IfOk result (λ o. IfSome o (IsInputPosition (option_map (λ b. b.now) deploy.entry) location)) }
 {
     match location {
-        Spot::Unmapped(Unmapped::Again((_, index))) => listed_in(alloc, deploy, index),
+        FindingLocation::Check(Location::NotMapped(Unmapped::Again((_, index)))) => {
+            listed_in(alloc, deploy, index)
+        }
         _ => Ok(position_of(location)),
     }
 }
@@ -217,21 +235,21 @@ fn place_of(
     stimuli: Option<&[u8]>,
     position: Option<InputPosition>,
     span: Span,
-) -> Option<Place>
+) -> Option<InputPlace>
     requires { IsNearIn (option_map (λ b. b.now) stimuli) (spec.row_of position) span }
     ensures { IsPlaceFor (option_map (λ b. b.now) deploy.entry) (option_map (λ b. b.now) stimuli.entry) position result }
 {
     match position? {
         InputPosition::Deployment(position) => {
             let at = place_in_deployment(deploy?, position)?;
-            Some(Place {
+            Some(InputPlace {
                 file: InputFile::Deployment,
                 at,
             })
         }
         InputPosition::Stimuli(_) => {
-            let at = location_at(stimuli?, span.start, span.end)?;
-            Some(Place {
+            let at = place_between(stimuli?, span.start, span.end)?;
+            Some(InputPlace {
                 file: InputFile::Stimuli,
                 at,
             })
@@ -246,7 +264,7 @@ fn places_of(
     stimuli: Option<&[u8]>,
     positions: &[Option<InputPosition>],
     spans: &[Span],
-) -> Result<Vec<Option<Place>>, AllocError>
+) -> Result<Vec<Option<InputPlace>>, AllocError>
     requires { AllZip (IsNearIn (option_map (λ b. b.now) stimuli)) (map spec.row_of positions.now) spans.now }
     ensures { IfOk result (λ places. AllZip (IsPlaceFor (option_map (λ b. b.now) deploy.entry) (option_map (λ b. b.now) stimuli.entry)) positions.now places.items) }
 {
@@ -268,7 +286,7 @@ pub fn places_in_inputs(
     deploy: Option<&[u8]>,
     stimuli: Option<&[u8]>,
     found: &[PlacedFinding],
-) -> Result<Vec<Option<Place>>, AllocError>
+) -> Result<Vec<Option<InputPlace>>, AllocError>
     ensures { IfOk result (λ places. AllZip (IsPlaceOf (option_map (λ b. b.now) deploy.entry) (option_map (λ b. b.now) stimuli.entry)) found.now places.items) }
 {
     let positions = input_positions(alloc, deploy, found)?;

@@ -161,7 +161,7 @@ fn push_statement<'a>(
 }
 
 /// Adds what is there of a wrong kind, and which kind was expected.
-pub(crate) fn push_misfit<'a>(
+pub(crate) fn push_kind_wrong<'a>(
     text: &mut Text,
     types: &BlockTypes<'a>,
     contents: &mut Contents<'a>,
@@ -230,7 +230,7 @@ fn type_at_end(types: &BlockTypes, site: Site, network: &Network, end: &PortName
 }
 
 /// Adds the types of which the first does not fit the second.
-pub(crate) fn push_misjoin(text: &mut Text, types: &BlockTypes, misjoin: Misjoin) {
+pub(crate) fn push_out_of_range(text: &mut Text, types: &BlockTypes, misjoin: Misjoin) {
     let Misjoin { site, connection } = misjoin;
     let Some(network) = network_at(types.library, site) else {
         return;

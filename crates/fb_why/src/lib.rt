@@ -8,7 +8,7 @@
 //! the inputs are refused for something else or can't be read. `find::text_refusal` returns a location in the text,
 //! with its line and column, at which a declaration is refused. The wording of the texts is not part of any contract.
 //!
-//! Read in this order: `explanation` and `table`; `cause` and `spot`, what each number is about, and where. Then the
+//! Read in this order: `explanation` and `table`; `cause` and `location`, what each number is about, and where. Then the
 //! bytes: `find`, the refusal of a text and its location. Then a location as text: the modules `.._messages`, with
 //! `contents`. Then `refused` and `declared`, locations in bytes and in what they declare; `place` and `input_place`,
 //! where a location is in its text; `listing` and `finding`, which reads the bytes again. All of this runs only after
@@ -26,10 +26,10 @@ mod flaw_messages;
 pub mod input_place;
 mod kind_messages;
 pub mod listing;
+pub mod location;
 pub mod place;
 mod refused;
 pub mod rules_messages;
-pub mod spot;
 pub mod stimuli_messages;
 mod stimulus_messages;
 pub mod table;
@@ -41,11 +41,11 @@ pub use deployment_messages::deployment_message;
 pub use explanation::explain;
 pub use find::{TextRefusal, text_refusal};
 pub use finding::findings_of;
-pub use input_place::{InputFile, Place, place_in_deployment, places_in_inputs};
+pub use input_place::{InputFile, InputPlace, place_in_deployment, places_in_inputs};
 pub use listing::{Findings, MOST_FINDINGS, discard_findings};
+pub use location::{Finding, FindingLocation};
 pub use place::PlacedFinding;
 pub use rules_messages::{rules_message, unknown_key_message};
-pub use spot::{Finding, Spot};
 pub use stimuli_messages::stimuli_message;
 pub use table::{Explanation, OF_CHECKS, OF_DECLARATIONS, OF_INPUTS};
 pub use text_messages::text_message;

@@ -5,13 +5,14 @@ ghost use Rattle.std.specs.Option.{option_to_list};
 ghost use Rattle.fb_read.specs.Whole.{IsLibraryText};
 ghost use Rattle.fb_why.specs.Listings.{locations_of, most_findings};
 ghost use Rattle.fb_why.specs.Places.{IsPlacedFinding};
+ghost use Rattle.fb_why.specs.declared.location.FindingLocation.TheVariants.{Check};
 
 use crate::contents::Contents;
 use crate::flaw_messages::push_flaw;
+use crate::location::{Finding, FindingLocation};
 use crate::place::{PlacedFinding, position_of};
-use crate::spot::{Finding, Spot};
-use fb_check::Case;
-use fb_read_positions::{BlockTypes, Text, TextLocation, places_of};
+use fb_check::{Case, Location};
+use fb_read_positions::{BlockTypes, Place, Text, places_of};
 use std::alloc::{AllocError, Global};
 
 /// The greatest number of findings that are shown.
@@ -44,11 +45,11 @@ fn findings_at<'a>(
     types: &BlockTypes<'a>,
     contents: &mut Contents<'a>,
     case: &Case,
-    locations: &[Spot],
-    places: &[Option<TextLocation>],
+    locations: &[Location],
+    places: &[Option<Place>],
 ) -> Result<Vec<PlacedFinding>, AllocError>
     requires { length places.now ≡ length locations.now }
-    ensures found { IfOk result (λ all. map (λ r. r.finding.location) all.items ≡ locations.now) }
+    ensures found { IfOk result (λ all. map (λ r. r.finding.location) all.items ≡ map Check locations.now) }
     ensures placed { IfOk result (λ all. map (λ r. r.place) all.items ≡ places.now) }
 {
     let mut all = Vec::new(alloc);
@@ -57,6 +58,7 @@ fn findings_at<'a>(
         let mut text = Text::new(alloc);
         push_flaw(&mut text, types, contents, case, location);
         let text = text.into_string()?;
+        let location = FindingLocation::Check(location);
         let finding = Finding { location, text };
         all.push(PlacedFinding { finding, place })?;
     }
@@ -67,11 +69,11 @@ fn findings_at<'a>(
 fn shown_at(
     alloc: Global,
     case: &Case,
-    locations: &[Spot],
-    places: &[Option<TextLocation>],
+    locations: &[Location],
+    places: &[Option<Place>],
 ) -> Result<Vec<PlacedFinding>, AllocError>
     requires { length places.now ≡ length locations.now }
-    ensures found { IfOk result (λ all. map (λ r. r.finding.location) all.items ≡ locations.now) }
+    ensures found { IfOk result (λ all. map (λ r. r.finding.location) all.items ≡ map Check locations.now) }
     ensures placed { IfOk result (λ all. map (λ r. r.place) all.items ≡ places.now) }
 {
     let types = BlockTypes::new(alloc, case.library)?;
@@ -84,10 +86,10 @@ pub(crate) fn listed(
     alloc: Global,
     declaration: &[u8],
     case: &Case,
-    locations: &[Spot],
+    locations: &[Location],
 ) -> Result<Findings, AllocError>
     requires { IsLibraryText declaration.now case.now.library.now }
-    ensures shown { IfOk result (λ f. locations_of f ≡ take most_findings locations.now) }
+    ensures shown { IfOk result (λ f. locations_of f ≡ map Check (take most_findings locations.now)) }
     ensures more { IfOk result (λ f. f.more ≡ nat_lt most_findings (length locations.now)) }
     ensures placed { IfOk result (λ f. All (IsPlacedFinding declaration.now) f.shown.items) }
 {

@@ -4,17 +4,17 @@ ghost use Rattle.std.specs.Prelude.{◌≡◌, None, IfOk, IfSome, MatchOption, 
 ghost use Rattle.fb_why.specs.Findings.{IsFoundAt, IsSilentOfBytes, IsSilentOfDeployment, IsSilentOfStimuli, IsSilentOfText, FindsInBytes, FindsInDeployment, FindsInStimuli, FindsInText};
 ghost use Rattle.fb_why.specs.Places.{IsPlacedFinding};
 
+use crate::location::{Finding, FindingLocation};
 use crate::place::PlacedFinding;
-use crate::spot::{Finding, Spot};
 use crate::{deployment_message, stimuli_message, text_message, text_refusal};
 use fb_inputs::{deployment_location, stimuli_location};
-use fb_read_positions::TextLocation;
+use fb_read_positions::Place;
 use std::alloc::{AllocError, Global};
 
 /// A finding at a location, with its place if it has one in the declaration, or an error if memory ran out for its text.
 fn found(
-    location: Spot,
-    place: Option<TextLocation>,
+    location: FindingLocation,
+    place: Option<Place>,
     text: Result<String, AllocError>,
 ) -> Result<Option<PlacedFinding>, AllocError>
     ensures { IfOk result (IsFoundAt location place) }
@@ -40,7 +40,11 @@ pub fn text_finding(
         return Ok(None);
     }
     let words = text_message(alloc, declaration, refused);
-    found(Spot::Text(refused.location), Some(refused.location), words)
+    found(
+        FindingLocation::Text(refused.place),
+        Some(refused.place),
+        words,
+    )
 }
 
 /// Where the bytes of a deployment, if given, are refused, if their refusal has this number.
@@ -59,7 +63,7 @@ fn deployment_finding(
     match deployment_location(alloc, bytes)? {
         Some(location) if location.number() == number => {
             let words = deployment_message(alloc, bytes, location);
-            found(Spot::Deployment(location), None, words)
+            found(FindingLocation::Deployment(location), None, words)
         }
         _ => Ok(None),
     }
@@ -81,7 +85,7 @@ fn stimuli_finding(
     match stimuli_location(alloc, bytes)? {
         Some(location) if location.number() == number => {
             let words = stimuli_message(alloc, bytes, location);
-            found(Spot::Stimuli(location), None, words)
+            found(FindingLocation::Stimuli(location), None, words)
         }
         _ => Ok(None),
     }

@@ -101,8 +101,8 @@ fn sets(settings: &[Setting], variable: &Name) -> bool {
 
 /// Adds the first variable that is set twice.
 fn push_twice(text: &mut Text, settings: &[Setting]) {
-    for (location, setting) in settings.iter().enumerate() {
-        let (earlier, variable) = (&settings[..location], &setting.variable);
+    for (index, setting) in settings.iter().enumerate() {
+        let (earlier, variable) = (&settings[..index], &setting.variable);
         if sets(earlier, variable) {
             text.named("", variable);
             text.words(" is set twice");

@@ -19,7 +19,7 @@ fn push_fault(alloc: Global, message: &mut Text, text: &[u8], found: TextRefusal
     let here = token(text.get(start..found.refusal.end).unwrap_or(&[]));
     match found.refusal.fault {
         TextFault::Syntax => {
-            let is_earlier = found.location.start < start;
+            let is_earlier = found.place.start < start;
             push_found(message, here, is_earlier);
             push_left_out(message, here);
             push_expected(alloc, message, front(text, start), found.refusal.expected);

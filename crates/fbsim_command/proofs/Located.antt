@@ -13,9 +13,9 @@ use Rattle.fb_stop.specs.Places.{IsStopPosition}
 use Rattle.fb_stop.specs.Shown.{IsStopShown}
 use Rattle.fb_stop.specs.declared.found.FoundStop.{FoundStop}
 use Rattle.fb_stop.specs.declared.shown.Shown.{Shown}
-use Rattle.fb_read_positions.specs.Locations.{IsPlaceAt}
-use Rattle.fb_read_positions.specs.Locations.{IsLocation, IsStretch}
-use Rattle.fb_read_positions.specs.declared.text_locations.TextLocation.{TextLocation}
+use Rattle.fb_read_positions.specs.Places.{IsPlaceAt}
+use Rattle.fb_read_positions.specs.Places.{IsPlace, IsStretch}
+use Rattle.fb_read_positions.specs.declared.places.Place.{Place}
 use Rattle.fbsim_command.specs.Outcomes.{Held}
 use Rattle.fbsim_command.specs.Stops.{IsNoteAtStop, IsNoteOfRun, IsNoteOfStop, IsStopPlace}
 
@@ -45,21 +45,21 @@ pub hears_no_more : (old new : Held) (first : List ℕ) (heard : Bool) → Hears
 hears_no_more old new first heard h = subst (λ (t : List ℕ). Hears heard old new t) (sym (append-nil first)) h
 
 -- the place of a position
-pub placed : (text : Text) (i : Inputs) (stop : FoundStop) (p : Position) (library : Library) {E : Type 0} (r : Result (Option TextLocation) E) → IsStopPosition i stop p → library ≡ i.library
+pub placed : (text : Text) (i : Inputs) (stop : FoundStop) (p : Position) (library : Library) {E : Type 0} (r : Result (Option Place) E) → IsStopPosition i stop p → library ≡ i.library
     → IfOk r (λ o. IfSome o (IsPlaceAt text library p)) → IfOk r (IsStopPlace text i stop)
 placed text i stop p library (Ok None) is same h = tt
 placed text i stop p library (Ok (Some at)) is same h = inr (p, is, subst (λ (l : Library). IsPlaceAt text l p at) same h)
 placed text i stop p library (Err e) is same h = tt
 
 -- the place of an operator
-pub operated : (text : Text) (i : Inputs) (stop : FoundStop) (x : Shown) (o : Option TextLocation) → IsStopShown text i stop x → IfSome o (IsLocation text)
+pub operated : (text : Text) (i : Inputs) (stop : FoundStop) (x : Shown) (o : Option Place) → IsStopShown text i stop x → IfSome o (IsPlace text)
     → IfSome o (λ at. IsStretch x.operator.start x.operator.end at) → IsStopPlace text i stop o
 operated text i stop x None is located there = tt
 operated text i stop x (Some at) is located there = inl (record { shown = x; is = is; there = there; located = located })
 
 -- the note with a place, if there is one, as that of a stop
 pub noted_at :
-    {A : Type 0} (types : List (List ℕ)) (own lines : List ℕ) (given : Given) (i : Inputs) (stop : FoundStop) (at : Option TextLocation) (words : List ℕ) (o : Option (String A))
+    {A : Type 0} (types : List (List ℕ)) (own lines : List ℕ) (given : Given) (i : Inputs) (stop : FoundStop) (at : Option Place) (words : List ℕ) (o : Option (String A))
     → IfSome o (λ note. IsNoteAtStop types own lines at words (string_bytes note)) → IsStopPlace given.declaration i stop at → IfSome o (λ note. IsNoteOfStop types own lines given i stop (string_bytes note))
 noted_at types own lines given i stop at words None noted place = tt
 noted_at types own lines given i stop at words (Some note) noted place = (at, words, place, noted)

@@ -12,13 +12,13 @@ use Rattle.fbsim_command.specs.Notes.{AreNotesFrom, AreNotesOf, IsNote, IsNoteBy
 use Rattle.fbsim_command.specs.InputNotes.{FileNames, IsNoteThere, IsNoteWith}
 use Rattle.std.specs.List.{AllZip}
 use Rattle.fb_why.specs.InputPlaces.{IsPlaceOf}
-use Rattle.fb_why.specs.declared.input_place.Place.{Place}
-use Rattle.fb_why.specs.declared.spot.Spot.{Spot}
+use Rattle.fb_why.specs.declared.input_place.InputPlace.{InputPlace}
+use Rattle.fb_why.specs.declared.location.FindingLocation.{FindingLocation}
 use Rattle.fb_why.specs.Listings.{AreFound}
 use Rattle.fb_why.specs.declared.listing.Findings.{Findings}
 use Rattle.fb_why.specs.declared.place.PlacedFinding.{PlacedFinding}
 use Rattle.fb_why.specs.Places.{IsPlacedFinding}
-use Rattle.fb_read_positions.specs.declared.text_locations.TextLocation.{TextLocation}
+use Rattle.fb_read_positions.specs.declared.places.Place.{Place}
 use Rattle.fbsim_command.specs.Outcomes.{End}
 use Rattle.fbsim_command.specs.declared.failure.Failure.{Failure}
 
@@ -91,10 +91,10 @@ noted-in types own names lines given n f (Some t) placed found is = (f, is, plac
 
 -- of a place
 pub noted-by :
-    {A : Type 0} (types : List (List ℕ)) (own : List ℕ) (names : FileNames) (lines : List ℕ) (given : Given) (location : Spot) (text : List ℕ) (place other : Option TextLocation) (note : Option (String A)) → place ≡ other
+    {A : Type 0} (types : List (List ℕ)) (own : List ℕ) (names : FileNames) (lines : List ℕ) (given : Given) (location : FindingLocation) (text : List ℕ) (place other : Option Place) (note : Option (String A)) → place ≡ other
     → IfSome note (λ t. IsNoteBy types own names lines given location other text (string_bytes t)) → IfSome note (λ t. IsNoteBy types own names lines given location place text (string_bytes t))
 noted-by {A} types own names lines given location text place other note same is =
-    subst (λ (o : Option TextLocation). IfSome note (λ t. IsNoteBy types own names lines given location o text (string_bytes t))) (sym same) is
+    subst (λ (o : Option Place). IfSome note (λ t. IsNoteBy types own names lines given location o text (string_bytes t))) (sym same) is
 
 -- that of what is declared, for rules
 pub plan-noted :
@@ -107,7 +107,7 @@ plan-noted x bytes declared texts n (Some t) is noted =
 
 -- the note with the place of a finding in an input beside the declaration
 pub noted-there :
-    {A : Type 0} (names : FileNames) (given : Given) (found : PlacedFinding) (place : Option Place) (words : List ℕ) (note : Option (String A)) → IsPlaceOf given.deploy given.stimuli found place
+    {A : Type 0} (names : FileNames) (given : Given) (found : PlacedFinding) (place : Option InputPlace) (words : List ℕ) (note : Option (String A)) → IsPlaceOf given.deploy given.stimuli found place
     → IfSome note (λ t. IsNoteWith names place words (string_bytes t)) → IfSome note (λ t. IsNoteThere names given found.finding.location words (string_bytes t))
 noted-there names given found place words None at is = tt
 noted-there names given found None words (Some t) at is = inr is
@@ -115,7 +115,7 @@ noted-there names given found (Some place) words (Some t) at is = inl (place, at
 
 -- the place of a finding is at the same index
 pub place-at :
-    (given : Given) (fs : List PlacedFinding) (os : List (Option Place)) (i : ℕ) (f : PlacedFinding) (d : Option Place) → AllZip (IsPlaceOf given.deploy given.stimuli) fs os → i < length fs → f ≡ get_or fs i f
+    (given : Given) (fs : List PlacedFinding) (os : List (Option InputPlace)) (i : ℕ) (f : PlacedFinding) (d : Option InputPlace) → AllZip (IsPlaceOf given.deploy given.stimuli) fs os → i < length fs → f ≡ get_or fs i f
     → IsPlaceOf given.deploy given.stimuli f (get_or os i d)
 place-at given [] os i f d all within is = absurd (omega (arith, within))
 place-at given (g ∷ fs) [] i f d all within is = absurd all

@@ -8,9 +8,9 @@ use Rattle.fb_types.specs.declared.library.Library.{Library}
 use Rattle.fb_lint.specs.Positions.{position_of}
 use Rattle.fb_lint.specs.declared.warning.Warning.{Warning}
 use Rattle.fb_lint.specs.declared.warning.Warning.TheVariants.{UnusedLink}
-use Rattle.fb_read_positions.specs.Locations.{IsPlaceFor}
+use Rattle.fb_read_positions.specs.Places.{IsPlaceFor}
 use Rattle.fb_read_positions.specs.declared.position.Position.{Position}
-use Rattle.fb_read_positions.specs.declared.text_locations.TextLocation.{TextLocation}
+use Rattle.fb_read_positions.specs.declared.places.Place.{Place}
 use Rattle.fb_sim.specs.Given.{Given}
 use Rattle.fb_inputs.specs.declared.deploy_location.TableLocation.TheVariants as table
 use Rattle.fb_inputs.specs.declared.position.DeployPosition.TheVariants as position
@@ -19,7 +19,7 @@ use Rattle.fbsim_command.specs.WarningLines.{AreLines, IsAdded, IsLinkPlace, IsP
 
 module _ (n : Naming) (given : Given) (library : Library) where
   -- the text of a location is that of the warning at whose position it is
-  is_place : (w : Warning) (at : TextLocation) (text : List ℕ) → IsPlaceFor given.declaration library (position_of w) (Some at) → IsPlaceText n at.line at.column text → IsPlace n given library w text
+  is_place : (w : Warning) (at : Place) (text : List ℕ) → IsPlaceFor given.declaration library (position_of w) (Some at) → IsPlaceText n at.line at.column text → IsPlace n given library w text
   is_place w at text placed shown = go (position_of w) refl placed
     where
       go : (p : Option Position) → position_of w ≡ p → IsPlaceFor given.declaration library p (Some at) → IsPlace n given library w text
@@ -27,11 +27,11 @@ module _ (n : Naming) (given : Given) (library : Library) where
       go (Some p) is h = inl (record { position = p; position_is = is; place = at; placed = h; shown = shown })
 
   pub place_shown :
-      {S E : Type 0} (bytes : S → List ℕ) (r : Result S E) (w : Warning) (o : Option TextLocation) (at : TextLocation) → o ≡ Some at → IsPlaceFor given.declaration library (position_of w) o
+      {S E : Type 0} (bytes : S → List ℕ) (r : Result S E) (w : Warning) (o : Option Place) (at : Place) → o ≡ Some at → IsPlaceFor given.declaration library (position_of w) o
       → IfOk r (λ s. IsPlaceText n at.line at.column (bytes s)) → IfOk r (λ s. IsPlace n given library w (bytes s))
   place_shown bytes (Err e) w o at is placed shown = tt
   place_shown bytes (Ok s) w o at is placed shown =
-      is_place w at (bytes s) (subst (λ (q : Option TextLocation). IsPlaceFor given.declaration library (position_of w) q) is placed) shown
+      is_place w at (bytes s) (subst (λ (q : Option Place). IsPlaceFor given.declaration library (position_of w) q) is placed) shown
 
   pub link_shown :
       {S E : Type 0} (bytes : S → List ℕ) (r : Result S E) (w : Warning) (link : ℕ) → w ≡ UnusedLink link → IfOk r (λ s. IsLinkPlace n given.deploy link (bytes s) ⊎ (bytes s ≡ []))
@@ -40,19 +40,19 @@ module _ (n : Naming) (given : Given) (library : Library) where
   link_shown bytes (Ok s) w link is (inl at) = inr (inl (link, is, at))
   link_shown bytes (Ok s) w link is (inr none) = inr (inr none)
 
-  abbrev pub AreAt : List Warning → List (Option TextLocation) → Type 0
+  abbrev pub AreAt : List Warning → List (Option Place) → Type 0
   AreAt ws os = AllZip (IsPlaceFor given.declaration library) (map position_of ws) os
 
   -- the location of a warning is at the same index
   pub place_at_index :
-      (ws : List Warning) (os : List (Option TextLocation)) (k : ℕ) (d : Warning) (e : Option TextLocation) → AreAt ws os → k < length ws
+      (ws : List Warning) (os : List (Option Place)) (k : ℕ) (d : Warning) (e : Option Place) → AreAt ws os → k < length ws
       → IsPlaceFor given.declaration library (position_of (get_or ws k d)) (get_or os k e)
   place_at_index [] os k d e all within = absurd (omega arith)
   place_at_index (x ∷ ws) [] k d e all within = absurd all
   place_at_index (x ∷ ws) (y ∷ os) zero d e all within = all.0
   place_at_index (x ∷ ws) (y ∷ os) (suc k) d e all within = place_at_index ws os k d e all.1 (omega arith)
 
-  pub as_many_places : (ws : List Warning) (os : List (Option TextLocation)) → AreAt ws os → length os ≡ length ws
+  pub as_many_places : (ws : List Warning) (os : List (Option Place)) → AreAt ws os → length os ≡ length ws
   as_many_places ws os all = AllZip-long (IsPlaceFor given.declaration library) (map position_of ws) os all ∙ length-map ws position_of
 
   -- one line more
@@ -76,7 +76,7 @@ module _ (n : Naming) (given : Given) (library : Library) where
 
 -- the text of the place of a link
 pub link_placed :
-    {S E : Type 0} (n : Naming) (deploy : Option (List ℕ)) (link : ℕ) (bytes : S → List ℕ) (r : Result S E) (name text : List ℕ) (at : TextLocation) → n.deploy ≡ Some name → deploy ≡ Some text
+    {S E : Type 0} (n : Naming) (deploy : Option (List ℕ)) (link : ℕ) (bytes : S → List ℕ) (r : Result S E) (name text : List ℕ) (at : Place) → n.deploy ≡ Some name → deploy ≡ Some text
     → IsDeployPlace text (position.Table (table.Link link)) at → IfOk r (λ s. bytes s ≡ place_text name at.line at.column)
     → IfOk r (λ s. IsLinkPlace n deploy link (bytes s) ⊎ (bytes s ≡ []))
 link_placed n deploy link bytes (Ok s) name text at named given placed shown =

@@ -4,8 +4,8 @@ use Rattle.fb_sim.specs.Given.{Given}
 use Rattle.fb_why.specs.InputPlaces.{IsInputPlace}
 use Rattle.fb_why.specs.declared.input_place.InputFile.{InputFile}
 use Rattle.fb_why.specs.declared.input_place.InputFile.TheVariants as file
-use Rattle.fb_why.specs.declared.input_place.Place.{Place}
-use Rattle.fb_why.specs.declared.spot.Spot.{Spot}
+use Rattle.fb_why.specs.declared.input_place.InputPlace.{InputPlace}
+use Rattle.fb_why.specs.declared.location.FindingLocation.{FindingLocation}
 use Rattle.fbsim_command.specs.OwnLines.{IsPlacedText}
 use Rattle.fbsim_command.specs.declared.input_notes.InputNames.{InputNames}
 use Rattle.fbsim_command.specs.declared.input_notes.RefusedInputs.{RefusedInputs}
@@ -27,15 +27,15 @@ name_in names file.Deployment = names.deploy
 name_in names file.Stimuli = names.stimuli
 
 -- The note names the file, the line and the column of the place.
-abbrev pub IsNotedAt : FileNames → Place → (note : List ℕ) → Type 0
+abbrev pub IsNotedAt : FileNames → InputPlace → (note : List ℕ) → Type 0
 IsNotedAt names place note = (name : List ℕ) × (name_in names place.file ≡ Some name) × IsPlacedText name place.at.line place.at.column note
 
 -- The note is that of the place, or the words where there is none.
-abbrev pub IsNoteWith : FileNames → Option Place → (words note : List ℕ) → Type 0
+abbrev pub IsNoteWith : FileNames → Option InputPlace → (words note : List ℕ) → Type 0
 IsNoteWith names None words note = note ≡ words
 IsNoteWith names (Some place) words note = IsNotedAt names place note
 
 -- The note is that of the place of the location in the deployment or in the stimuli, or the words.
-abbrev pub IsNoteThere : FileNames → Given → Spot → (words note : List ℕ) → Type 0
+abbrev pub IsNoteThere : FileNames → Given → FindingLocation → (words note : List ℕ) → Type 0
 IsNoteThere names given location words note =
-    ((place : Place) × IsInputPlace given.deploy given.stimuli location place × IsNotedAt names place note) ⊎ (note ≡ words)
+    ((place : InputPlace) × IsInputPlace given.deploy given.stimuli location place × IsNotedAt names place note) ⊎ (note ≡ words)

@@ -4,12 +4,12 @@ use Rattle.fbsim_line.specs.declared.line.Task.{Task}
 use Rattle.fb_sim.specs.Given.{Given}
 use Rattle.fb_why.specs.InputPlaces.{IsPlaceOf}
 use Rattle.fb_why.specs.Listings.{AreFound}
-use Rattle.fb_why.specs.declared.input_place.Place.{Place}
+use Rattle.fb_why.specs.declared.input_place.InputPlace.{InputPlace}
 use Rattle.fb_why.specs.declared.listing.Findings.{Findings}
 use Rattle.fb_why.specs.declared.place.PlacedFinding.{PlacedFinding}
 use Rattle.fb_why.specs.Places.{IsPlacedFinding}
-use Rattle.fb_why.specs.declared.spot.Spot.{Spot}
-use Rattle.fb_read_positions.specs.declared.text_locations.TextLocation.{TextLocation}
+use Rattle.fb_why.specs.declared.location.FindingLocation.{FindingLocation}
+use Rattle.fb_read_positions.specs.declared.places.Place.{Place}
 use Rattle.fbsim_command.specs.InputNotes.{FileNames, IsNoteThere, names_of, types_in}
 use Rattle.fbsim_command.specs.Texts.{given_of, lines_of}
 use Rattle.fbsim_command.specs.declared.input_notes.RefusedInputs.{RefusedInputs}
@@ -70,7 +70,7 @@ number_of (Refused (Syntax line)) = Some 3
 number_of _ = None
 
 -- The note names the file, the line and the column of the place in the declaration, or else in another input.
-abbrev pub IsNoteBy : (types : List (List ℕ)) → (own : List ℕ) → FileNames → (lines : List ℕ) → Given → Spot → Option TextLocation → (text note : List ℕ) → Type 0
+abbrev pub IsNoteBy : (types : List (List ℕ)) → (own : List ℕ) → FileNames → (lines : List ℕ) → Given → FindingLocation → Option Place → (text note : List ℕ) → Type 0
 IsNoteBy types own names lines given location (Some at) text note = IsPlaced types own lines at.line at.column note
 IsNoteBy types own names lines given location None text note = IsNoteThere names given location text note
 
@@ -105,7 +105,7 @@ IsNoteOfFindings types own names lines given f note =
 -- ---- The same of a refusal
 
 -- The place, if there is one, is that of what was found, in another input than the declaration.
-abbrev pub IsPlaceIn : RefusedInputs → PlacedFinding → Option Place → Type 0
+abbrev pub IsPlaceIn : RefusedInputs → PlacedFinding → Option InputPlace → Type 0
 IsPlaceIn r found place = IsPlaceOf (given_of r.texts.now).deploy (given_of r.texts.now).stimuli found place
 
 abbrev pub IsNoteOfOne : RefusedInputs → PlacedFinding → List ℕ → Type 0

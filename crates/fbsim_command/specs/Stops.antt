@@ -10,9 +10,9 @@ use Rattle.fb_stop.specs.Places.{IsStopPosition}
 use Rattle.fb_stop.specs.Shown.{IsStopShown}
 use Rattle.fb_stop.specs.declared.found.FoundStop.{FoundStop}
 use Rattle.fb_stop.specs.declared.shown.Shown.{Shown}
-use Rattle.fb_read_positions.specs.Locations.{IsPlaceAt}
-use Rattle.fb_read_positions.specs.Locations.{IsLocation, IsStretch}
-use Rattle.fb_read_positions.specs.declared.text_locations.TextLocation.{TextLocation}
+use Rattle.fb_read_positions.specs.Places.{IsPlaceAt}
+use Rattle.fb_read_positions.specs.Places.{IsPlace, IsStretch}
+use Rattle.fb_read_positions.specs.declared.places.Place.{Place}
 use Rattle.fbsim_command.specs.Outcomes.{End}
 use Rattle.fbsim_command.specs.OwnLines.{IsPlaced}
 use Rattle.fbsim_line.specs.declared.line.Action.{Action}
@@ -21,26 +21,26 @@ use Rattle.fbsim_line.specs.declared.line.Task.{Task}
 use Rattle.fbsim_command.specs.declared.statuses.Done.TheVariants.{Stopped}
 
 -- The place is that of the operator of the operation at which the simulation stops.
-pub record IsOperatorPlace (text : Text) (i : Inputs) (stop : FoundStop) (at : TextLocation) : Type 0 where
+pub record IsOperatorPlace (text : Text) (i : Inputs) (stop : FoundStop) (at : Place) : Type 0 where
   pub shown : Shown
   pub is : IsStopShown text i stop shown
   pub there : IsStretch shown.operator.start shown.operator.end at
-  pub located : IsLocation text at
+  pub located : IsPlace text at
 
 -- The place of a stop is that of its operator, or of its position in the declaration.
-abbrev pub IsStopPlace : Text → Inputs → FoundStop → Option TextLocation → Type 0
+abbrev pub IsStopPlace : Text → Inputs → FoundStop → Option Place → Type 0
 IsStopPlace text i stop None = Unit {0}
 IsStopPlace text i stop (Some at) = IsOperatorPlace text i stop at ⊎ ((p : Position) × IsStopPosition i stop p × IsPlaceAt text i.library p at)
 
 -- The note names the file, the line and the column of the place, or is the words.
-abbrev pub IsNoteAtStop : (types : List (List ℕ)) → (own : List ℕ) → (lines : List ℕ) → Option TextLocation → (words note : List ℕ) → Type 0
+abbrev pub IsNoteAtStop : (types : List (List ℕ)) → (own : List ℕ) → (lines : List ℕ) → Option Place → (words note : List ℕ) → Type 0
 IsNoteAtStop types own lines (Some at) words note = IsPlaced types own lines at.line at.column note
 IsNoteAtStop types own lines None words note = note ≡ words
 
 -- The note of a stop names its place, or is its words.
 abbrev pub IsNoteOfStop : (types : List (List ℕ)) → (own : List ℕ) → (lines : List ℕ) → Given → Inputs → FoundStop → (note : List ℕ) → Type 0
 IsNoteOfStop types own lines given i stop note =
-    (place : Option TextLocation) × (words : List ℕ) × IsStopPlace given.declaration i stop place × IsNoteAtStop types own lines place words note
+    (place : Option Place) × (words : List ℕ) × IsStopPlace given.declaration i stop place × IsNoteAtStop types own lines place words note
 
 -- It is the note of the stop of the simulation.
 abbrev pub IsNoteOfRun : (types : List (List ℕ)) → (own : List ℕ) → (lines : List ℕ) → Given → Inputs → (horizon steps : ℕ) → (note : List ℕ) → Type 0

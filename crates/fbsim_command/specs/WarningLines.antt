@@ -11,9 +11,9 @@ use Rattle.fb_lint.specs.declared.warning.Warning.TheVariants.{UnusedLink}
 use Rattle.fb_inputs.specs.declared.deploy_location.TableLocation.TheVariants as table
 use Rattle.fb_inputs.specs.declared.position.DeployPosition.TheVariants as position
 use Rattle.fb_read_positions.specs.declared.position.Position.{Position}
-use Rattle.fb_read_positions.specs.Locations.{IsPlaceAt}
+use Rattle.fb_read_positions.specs.Places.{IsPlaceAt}
 use Rattle.fb_why.specs.InputStretches.{IsDeployPlace}
-use Rattle.fb_read_positions.specs.declared.text_locations.TextLocation.{TextLocation}
+use Rattle.fb_read_positions.specs.declared.places.Place.{Place}
 use Rattle.fb_sim.specs.Given.{Given}
 use Rattle.fb_sim.specs.Serial.{Declares}
 use Rattle.fbsim_command.specs.Joining.{IsLineOf, name_at}
@@ -52,7 +52,7 @@ IsPlaceText n whole column text =
 pub record IsDeclaredPlace (n : Naming) (declaration : Text) (library : Library) (w : Warning) (text : Text) : Type 0 where
   pub position : Position
   pub position_is : position_of w ≡ Some position
-  pub place : TextLocation
+  pub place : Place
   pub placed : IsPlaceAt declaration library position place
   pub shown : IsPlaceText n place.line place.column text
 
@@ -62,7 +62,7 @@ pub record IsLinkPlace (n : Naming) (deploy : Option Text) (link : ℕ) (text : 
   pub named : n.deploy ≡ Some name
   pub bytes : Text
   pub given : deploy ≡ Some bytes
-  pub place : TextLocation
+  pub place : Place
   pub placed : IsDeployPlace bytes (position.Table (table.Link link)) place
   pub shown : text ≡ place_text name place.line place.column
 

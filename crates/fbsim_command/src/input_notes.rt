@@ -6,7 +6,7 @@ ghost use Rattle.fbsim_command.specs.InputNotes.{IsNotedAt, IsNoteWith, name_in,
 use crate::notes::matter_at;
 use crate::own_lines::placed;
 use crate::texts::Texts;
-use fb_why::{InputFile, Place};
+use fb_why::{InputFile, InputPlace};
 use std::alloc::Global;
 
 /// The names that a call gives to its deployment and its stimuli, where it gives some.
@@ -47,7 +47,12 @@ fn bytes_in(texts: &Texts, file: InputFile) -> Option<&[u8]> {
 }
 
 /// The note for a place in an input.
-fn note_at(alloc: Global, refused: &RefusedInputs<'_>, place: Place, words: &str) -> Option<String>
+fn note_at(
+    alloc: Global,
+    refused: &RefusedInputs<'_>,
+    place: InputPlace,
+    words: &str,
+) -> Option<String>
     ensures { IfSome result (λ note. IsNotedAt (names_of refused.now.names) place (string_bytes note)) }
 {
     let name = name_in(&refused.names, place.file)?;
@@ -62,7 +67,7 @@ fn note_at(alloc: Global, refused: &RefusedInputs<'_>, place: Place, words: &str
 pub(crate) fn note_there(
     alloc: Global,
     refused: &RefusedInputs<'_>,
-    place: Option<Place>,
+    place: Option<InputPlace>,
     words: String,
 ) -> Option<String>
     ensures { IfSome result (λ note. IsNoteWith (names_of refused.now.names) place (string_bytes words) (string_bytes note)) }

@@ -11,7 +11,7 @@ use crate::lint::report_lines;
 use crate::own_lines::note_at;
 use crate::statuses::Done;
 use crate::texts::Texts;
-use fb_read_positions::{TextLocation, excerpt, location_at, place_at};
+use fb_read_positions::{Place, excerpt, place_at, place_between};
 use fb_sim::{discard, open};
 use fb_stop::{FoundStop, Shown, find_stop, position_of, shown_of, spent_words, words_of};
 use fb_system::System;
@@ -27,13 +27,13 @@ fn place_of(
     system: &System,
     stop: &FoundStop,
     shown: Option<Shown>,
-) -> Result<Option<TextLocation>, AllocError>
+) -> Result<Option<Place>, AllocError>
     requires { IfSome shown (IsStopShown declaration.now system.now stop.now) }
     ensures { IfOk result (IsStopPlace declaration.now system.now stop.now) }
 {
     if let Some(shown) = shown {
         // The place of the operator of an operation.
-        let at = location_at(declaration, shown.operator.start, shown.operator.end);
+        let at = place_between(declaration, shown.operator.start, shown.operator.end);
         if at.is_some() {
             return Ok(at);
         }
@@ -49,7 +49,7 @@ fn place_of(
 fn matter_of(
     alloc: Global,
     declaration: &[u8],
-    at: Option<TextLocation>,
+    at: Option<Place>,
     words: &str,
     spent: &str,
 ) -> Result<String, AllocError> {
@@ -66,7 +66,7 @@ fn note_with(
     types: &[&str],
     own: &str,
     texts: &Texts,
-    at: Option<TextLocation>,
+    at: Option<Place>,
     matter: String,
 ) -> Option<String>
     ensures { IfSome result (λ note. IsNoteAtStop (map (λ t. t.now) types.now) own.now (lines_of texts.now) at (string_bytes matter) (string_bytes note)) }

@@ -12,8 +12,10 @@ use crate::input_notes::{InputNames, RefusedInputs, note_there};
 use crate::own_lines::note_at;
 use crate::sources::SourceFault;
 use crate::texts::{Part, Texts, Unread};
-use fb_read_positions::{TextLocation, excerpt};
-use fb_why::{Findings, Place, PlacedFinding, discard_findings, findings_of, places_in_inputs};
+use fb_read_positions::{Place, excerpt};
+use fb_why::{
+    Findings, InputPlace, PlacedFinding, discard_findings, findings_of, places_in_inputs,
+};
 use fbsim_line::Task;
 use std::alloc::{AllocError, Global};
 
@@ -115,7 +117,7 @@ pub(crate) fn matter_at(
     number: u8,
     words: &str,
     bytes: &[u8],
-    at: TextLocation,
+    at: Place,
 ) -> Result<String, AllocError> {
     let source = excerpt(alloc, bytes, at)?;
     let tens = number / 10;
@@ -127,7 +129,7 @@ pub(crate) fn matter_at(
 fn note_at_place(
     alloc: Global,
     refused: &RefusedInputs<'_>,
-    at: TextLocation,
+    at: Place,
     words: &str,
 ) -> Option<String>
     ensures { IfSome result (λ note. IsPlaced (types_in refused.now) refused.now.own.now (lines_of refused.now.texts.now) at.line at.column (string_bytes note)) }
@@ -158,7 +160,7 @@ fn note_elsewhere(
     alloc: Global,
     refused: &RefusedInputs<'_>,
     found: &PlacedFinding,
-    place: Option<Place>,
+    place: Option<InputPlace>,
 ) -> Option<String>
     requires { IsPlaceIn refused.now found.now place }
     ensures { IfSome result (λ note. IsNoteThere (names_of refused.now.names) (given_of refused.now.texts.now) found.now.finding.location (string_bytes found.now.finding.text) (string_bytes note)) }
@@ -172,7 +174,7 @@ fn note_of_finding(
     alloc: Global,
     refused: &RefusedInputs<'_>,
     found: &PlacedFinding,
-    place: Option<Place>,
+    place: Option<InputPlace>,
 ) -> Option<String>
     requires { IsPlaceIn refused.now found.now place }
     ensures { IfSome result (λ note. IsNoteOfOne refused.now found.now (string_bytes note)) }
@@ -209,7 +211,7 @@ fn notes_at(
     alloc: Global,
     refused: &RefusedInputs<'_>,
     shown: &[PlacedFinding],
-    places: &[Option<Place>],
+    places: &[Option<InputPlace>],
 ) -> Option<String>
     requires { AllZip (IsPlaceIn refused.now) shown.now places.now }
     ensures { IfSome result (λ note. AreNotesOfAll refused.now shown.now (string_bytes note)) }

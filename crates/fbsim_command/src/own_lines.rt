@@ -10,7 +10,7 @@ use crate::failure::{Failure, RefusalLine};
 use crate::join::{file_name, line_in_file};
 use crate::statuses::Done;
 use crate::texts::Texts;
-use fb_read_positions::TextLocation;
+use fb_read_positions::Place;
 use std::alloc::Global;
 
 /// The failure for a syntax fault in this line of a file.
@@ -96,7 +96,7 @@ pub(crate) fn note_at(
     types: &[&str],
     own: &str,
     lines: &[usize],
-    at: TextLocation,
+    at: Place,
     matter: &str,
 ) -> Option<String>
     ensures { IfSome result (λ note. IsPlaced (map (λ t. t.now) types.now) own.now lines.now at.line at.column (string_bytes note)) }

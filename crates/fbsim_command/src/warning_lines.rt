@@ -3,14 +3,14 @@
 ghost use Rattle.std.specs.Prelude.{◌≡◌, ◌⊎◌, [], IfOk, option_map, string_bytes};
 ghost use Rattle.fb_lint.specs.Positions.{position_of};
 ghost use Rattle.fb_types.specs.declared.library.Library.{Library};
-ghost use Rattle.fb_read_positions.specs.Locations.{IsPlaceFor};
+ghost use Rattle.fb_read_positions.specs.Places.{IsPlaceFor};
 ghost use Rattle.fbsim_command.specs.WarningLines.{AreLines, IsAdded, IsLinkPlace, IsPlace, IsPlaceText, naming_of, place_text};
 
 use crate::call_names::Naming;
 use crate::join::{file_name, line_in_file};
 use fb_inputs::{DeployPosition, TableLocation};
 use fb_lint::{Warning, line_of, positions_of};
-use fb_read_positions::{TextLocation, places_of};
+use fb_read_positions::{Place, places_of};
 use fb_sim::Inputs;
 use fb_types::{Library, Plan};
 use fb_why::place_in_deployment;
@@ -27,7 +27,7 @@ fn place_text(alloc: Global, name: &str, line: usize, column: usize) -> Result<S
 fn place_in_files(
     alloc: Global,
     naming: &Naming<'_, '_, '_>,
-    at: TextLocation,
+    at: Place,
 ) -> Result<String, AllocError>
     ensures { IfOk result (λ text. IsPlaceText (naming_of naming.now) at.line at.column (string_bytes text)) }
 {
@@ -65,7 +65,7 @@ fn place_of(
     naming: &Naming<'_, '_, '_>,
     inputs: &Inputs<'_>,
     warning: &Warning,
-    at: Option<TextLocation>,
+    at: Option<Place>,
 ) -> Result<String, AllocError>
     ensures { (library : Library) → IsPlaceFor inputs.now.declaration library (position_of warning.now) at → IfOk result (λ text. IsPlace (naming_of naming.now) inputs.now library warning.now (string_bytes text)) }
 {
@@ -87,7 +87,7 @@ fn push_line(
     library: &Library,
     plan: &Plan,
     warning: &Warning,
-    at: Option<TextLocation>,
+    at: Option<Place>,
 ) -> Result<(), AllocError>
     requires { IsPlaceFor inputs.now.declaration library.now (position_of warning.now) at }
     ensures { IfOk result (λ _. IsAdded (naming_of naming.now) inputs.now library.now warning.now text.old.items text.new.items) }

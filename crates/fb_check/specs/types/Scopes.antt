@@ -17,7 +17,7 @@ use Rattle.fb_check_names.specs.declared.numbers.ConnectionEnd.{ConnectionEnd}
 use Rattle.fb_check_names.specs.declared.numbers.TypeNumber.{TypeNumber}
 use Rattle.fb_check_names.specs.declared.numbers.TypeNumber.TheVariants as number
 use Rattle.fb_check_names.specs.declared.numbers.NumberedConnection.{NumberedConnection}
-use Rattle.fb_check.specs.types.There.{each_there}
+use Rattle.fb_check.specs.types.Present.{each_some}
 use Rattle.fb_check.specs.types.Unknown.{inputs_of, outputs_of}
 use Rattle.fb_check.specs.declared.types.ends.NetworkScope.{NetworkScope}
 use Rattle.fb_check_names.specs.declared.location.FlowKind.{FlowKind}
@@ -47,12 +47,12 @@ number_in lib n = number_or (number_past lib) (type_number lib n)
 
 -- the types of all instances
 abbrev pub AreTyped : Library → List Instance → List TypeNumber → Type 0
-AreTyped lib is ks = ks ≡ each_there (λ i. Some (number_in lib i.block_type)) is
+AreTyped lib is ks = ks ≡ each_some (λ i. Some (number_in lib i.block_type)) is
 
 -- the inputs that an instance's parameters set, if its type is known
 abbrev pub inputs_of_type : Library → Instance → Option TypeNumber → List ℕ
 inputs_of_type lib i None = []
-inputs_of_type lib i (Some t) = each_there (λ x. port_number lib t data_ins x.name) i.parameters
+inputs_of_type lib i (Some t) = each_some (λ x. port_number lib t data_ins x.name) i.parameters
 
 abbrev pub inputs_in : Library → Instance → List ℕ
 inputs_in lib i = inputs_of_type lib i (type_number lib i.block_type)

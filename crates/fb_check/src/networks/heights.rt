@@ -124,7 +124,7 @@ fn below(blocks: &[Option<NetworkNumbers>], marks: &[bool], block: usize) -> Opt
 
 /// Whether steps to first marked components lead from the one block type down to the other. A circle is not found if it
 /// is longer than the steps that are tried, or if such a step leaves it: its types are reported as too high.
-#[tactic(auto, using(crate::proofs::networks::Circles::leads_itself))]
+#[tactic(auto, using(crate::proofs::lemmas::networks::Circles::leads_itself))]
 fn leads_to(blocks: &[Option<NetworkNumbers>], marks: &[bool], from: usize, to: usize) -> bool
     ensures { IsTrue result → spec.LeadsTo blocks.now from to }
 {

@@ -2,10 +2,10 @@
 
 ghost use Rattle.std.specs.Prelude.{◌≡◌, ◌++◌, Some, IfOk, option_map, option_and_then};
 ghost use Rattle.fb_check_names.specs.Indexes.{index_in};
-ghost use Rattle.fb_check.specs.types.There.{each_there, ends_in, mapped_unless, sides_unless};
+ghost use Rattle.fb_check.specs.types.Present.{each_some, ends_in, mapped_unless, sides_unless};
 ghost use Rattle.fb_check_names.specs.Listed.{each_at};
 
-use crate::types::there::{push_found, push_some};
+use crate::types::adding::{push_found, push_some};
 use fb_check_names::{Indexes, LinkEnds, Side, UnknownName, index_of_name, push_unless};
 use fb_types::{Items, Link, Name, ResourceEntry};
 use std::alloc::{AllocError, Global};
@@ -19,7 +19,7 @@ fn listed_of(
     names: &[Name],
 ) -> Result<Items<usize>, AllocError>
     ensures listed { IfOk result (λ _. found.new.items ≡ found.old.items ++ each_at (mapped_unless instances.now resource) names.now) }
-    ensures numbers { IfOk result (λ ks. ks ≡ each_there (index_in instances.now) names.now) }
+    ensures numbers { IfOk result (λ ks. ks ≡ each_some (index_in instances.now) names.now) }
 {
     let mut numbers = Items::new(alloc);
     for (instance, name) in names.iter().enumerate() {
@@ -38,7 +38,7 @@ pub fn held_of(
     resources: &[ResourceEntry],
 ) -> Result<Items<Items<usize>>, AllocError>
     ensures listed { IfOk result (λ _. found.new.items ≡ found.old.items ++ each_at (λ r x. each_at (mapped_unless instances.now r) x.instances) resources.now) }
-    ensures numbers { IfOk result (λ hs. hs ≡ each_there (λ x. Some (each_there (index_in instances.now) x.instances)) resources.now) }
+    ensures numbers { IfOk result (λ hs. hs ≡ each_some (λ x. Some (each_some (index_in instances.now) x.instances)) resources.now) }
 {
     let mut held = Items::new(alloc);
     for (resource, declared) in resources.iter().enumerate() {
@@ -67,7 +67,7 @@ pub fn links_of(
     links: &[Link],
 ) -> Result<Items<LinkEnds>, AllocError>
     ensures listed { IfOk result (λ _. found.new.items ≡ found.old.items ++ each_at (sides_unless resources.now) links.now) }
-    ensures numbers { IfOk result (λ es. es ≡ each_there (ends_in resources.now) links.now) }
+    ensures numbers { IfOk result (λ es. es ≡ each_some (ends_in resources.now) links.now) }
 {
     let mut all = Items::new(alloc);
     for (link, declared) in links.iter().enumerate() {

@@ -5,12 +5,12 @@ ghost use Rattle.fb_check_names.specs.Numbers.{both_ends, end_number};
 ghost use Rattle.fb_check_names.specs.PortKinds.{names_of_kind};
 ghost use Rattle.fb_check_names.specs.Types.{AreTypes};
 ghost use Rattle.fb_check.specs.types.Scopes.{AreTyped, IsScope, connection_number, placed, side_number};
-ghost use Rattle.fb_check.specs.types.There.{each_there};
+ghost use Rattle.fb_check.specs.types.Present.{each_some};
 ghost use Rattle.fb_check.specs.types.Unknown.{inputs_of, outputs_of};
 ghost use Rattle.fb_check.specs.types.Unknowns.{unknown_ends};
 ghost use Rattle.fb_check_names.specs.Listed.{each_at};
 
-use crate::types::there::push_some;
+use crate::types::adding::push_some;
 use fb_check_names::ports::index_in;
 use fb_check_names::types::Types;
 use fb_check_names::{
@@ -136,7 +136,7 @@ pub(crate) fn wires_of(
     requires scope { IsScope scope.now }
     requires typed { AreTyped types.now.library.now scope.now.network.now.instances kinds.now }
     ensures listed { IfOk result (λ _. found.new.items ≡ found.old.items ++ each_at (unknown_ends types.now.library.now site (placed scope.now) flow) connections.now) }
-    ensures numbers { IfOk result (λ ws. ws ≡ each_there (connection_number types.now.library.now (placed scope.now) flow) connections.now) }
+    ensures numbers { IfOk result (λ ws. ws ≡ each_some (connection_number types.now.library.now (placed scope.now) flow) connections.now) }
 {
     let mut wires = Items::new(alloc);
     for (connection, declared) in connections.iter().enumerate() {

@@ -6,8 +6,8 @@ ghost use Rattle.fb_types.specs.Unknown.{OfVariable, is_known, mentions, mention
 ghost use Rattle.fb_check.specs.types.Trees.{all_of, arguments_of, branches_of, choices_of};
 ghost use Rattle.fb_check.specs.types.Mentions.{meant, meant_all, mentions_of_control, mentions_of_step};
 
+use crate::types::adding::push_one;
 use crate::types::scope::Scope;
-use crate::types::there::push_one;
 use fb_types::{Body, Branch, Choice, Expr, Function, Items, Name, Reference, Stmt};
 use std::alloc::{AllocError, Global};
 

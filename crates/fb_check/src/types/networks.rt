@@ -5,13 +5,13 @@ ghost use Rattle.fb_types.specs.Unknown.{data_ins};
 ghost use Rattle.fb_check_names.specs.Numbers.{IsNetwork};
 ghost use Rattle.fb_check_names.specs.Types.{AreTypes, port_number};
 ghost use Rattle.fb_check.specs.types.Scopes.{IsScope, inputs_in, number_in, placed};
-ghost use Rattle.fb_check.specs.types.There.{each_there};
+ghost use Rattle.fb_check.specs.types.Present.{each_some};
 ghost use Rattle.fb_check.specs.types.Unknowns.{unknown_in_instance, unknown_in_network};
 ghost use Rattle.fb_check_names.specs.Listed.{each_at, unless};
 ghost use Rattle.fb_check_names.specs.declared.location.UnknownName.TheVariants as location;
 
+use crate::types::adding::{push_found, push_one};
 use crate::types::ends::{NetworkScope, wires_of};
-use crate::types::there::{push_found, push_one};
 use fb_check_names::types::Types;
 use fb_check_names::{FlowKind, NetworkNumbers, PortKind, Site, TypeNumber, UnknownName};
 use fb_types::{Instance, Items, Parameter};
@@ -30,7 +30,7 @@ fn inputs_of(
 ) -> Result<Items<usize>, AllocError>
     requires { AreTypes types.now }
     ensures listed { IfOk result (λ _. found.new.items ≡ found.old.items ++ each_at (λ p x. unless (is_some (port_number types.now.library.now number data_ins x.name)) (location.Parameter site instance p)) parameters.now) }
-    ensures numbers { IfOk result (λ ks. ks ≡ each_there (λ x. port_number types.now.library.now number data_ins x.name) parameters.now) }
+    ensures numbers { IfOk result (λ ks. ks ≡ each_some (λ x. port_number types.now.library.now number data_ins x.name) parameters.now) }
 {
     let mut inputs = Items::new(alloc);
     for (parameter, declared) in parameters.iter().enumerate() {
@@ -89,8 +89,8 @@ fn push_instances(
 ) -> Result<(), AllocError>
     requires { AreTypes types.now }
     ensures listed { IfOk result (λ _. found.new.items ≡ found.old.items ++ each_at (unknown_in_instance types.now.library.now site) instances.now) }
-    ensures kinds { IfOk result (λ _. kinds.new ≡ kinds.old ++ each_there (λ i. Some (number_in types.now.library.now i.block_type)) instances.now) }
-    ensures inputs { IfOk result (λ _. inputs.new ≡ inputs.old ++ each_there (λ i. Some (inputs_in types.now.library.now i)) instances.now) }
+    ensures kinds { IfOk result (λ _. kinds.new ≡ kinds.old ++ each_some (λ i. Some (number_in types.now.library.now i.block_type)) instances.now) }
+    ensures inputs { IfOk result (λ _. inputs.new ≡ inputs.old ++ each_some (λ i. Some (inputs_in types.now.library.now i)) instances.now) }
 {
     for (instance, declared) in instances.iter().enumerate() {
         push_instance(alloc, found, kinds, inputs, types, site, instance, declared)?;

@@ -9,7 +9,7 @@ ghost use Rattle.fb_check_names.specs.Listed.{each_at, unless};
 ghost use Rattle.fb_check.specs.types.MisfitLists.{misfits_in_body, misfits_in_statement, part_at, wrong_choices, wrong_control, wrong_parts};
 ghost use Rattle.fb_check.specs.types.Statements.{all_standing, each_in_body, each_in_branches, each_in_choices, each_inside, standing_of};
 
-use crate::types::there::push_one;
+use crate::types::adding::push_one;
 use crate::types::{Scope, Typing, are_same, is_step_whole, value_kind_of_type};
 use fb_check_names::{Misfit, StatementPart, push_unless};
 use fb_types::{Algorithm, Body, Branch, Choice, Expr, Items, Reference, Stmt, ValueKind};

@@ -1,5 +1,5 @@
 use Rattle.fb_types.specs.Headline.{inputs}
-use Rattle.fb_check.proofs.Passed.{accepted_is, accepted_of, known_of}
+use Rattle.fb_check.proofs.lemmas.AcceptedInputs.{accepted_is, accepted_of, known_of}
 use Rattle.fb_check.proofs.acceptance.accept.Goals as goal
 
 pub interfaces_of-requires : goal.interfaces_of-requires

@@ -4,7 +4,7 @@ use Rattle.std.specs.Prelude.{slice_get}
 use Rattle.fb_types.specs.Blocks.{event_block_named}
 use Rattle.fb_check.specs.Directory.{IsFound}
 use Rattle.fb_check.specs.declared.directory_making.TypeInputs.{TypeInputs}
-use Rattle.fb_check.proofs.Found.{ports_named, found_event, found_none, found_declared, found_instance, missing_instance}
+use Rattle.fb_check.proofs.lemmas.DirectoryEntries.{ports_named, found_event, found_none, found_declared, found_instance, missing_instance}
 use Rattle.fb_check.proofs.directory.inputs_at.Goals as goal
 
 pub returns-in_err-instance-clause-found : goal.returns-in_err-instance-clause-found

@@ -1,5 +1,5 @@
 use Rattle.std.proofs.Common.{refl}
-use Rattle.fb_check.proofs.Steps.{at_name, extended_none, extended_more}
+use Rattle.fb_check.proofs.lemmas.FilledByName.{at_name, extended_none, extended_more}
 use Rattle.fb_check.proofs.directory_making.extend.Goals as goal
 
 pub loop-variable-init : goal.loop-variable-init

@@ -1,5 +1,5 @@
 use Rattle.std.proofs.Common.{refl}
-use Rattle.fb_check.proofs.Steps.{at_name, targets_kept, targets_more}
+use Rattle.fb_check.proofs.lemmas.FilledByName.{at_name, targets_kept, targets_more}
 use Rattle.fb_check.proofs.directory_making.targets_of.Goals as goal
 use Rattle.fb_check.proofs.directory_making.targets_of.Goals.{in-Some+in_ok-insert, in_default}
 

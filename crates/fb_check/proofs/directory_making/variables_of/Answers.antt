@@ -2,7 +2,7 @@ use Rattle.std.proofs.Common.{refl, sym, ◌∙◌}
 use Rattle.fb_types.specs.Names.{Name}
 use Rattle.fb_types.specs.declared.library.Variable.{Variable}
 use Rattle.fb_check.specs.Directory.{input_of}
-use Rattle.fb_check.proofs.Steps.{at_name, first_none, first_kept, first_more}
+use Rattle.fb_check.proofs.lemmas.FilledByName.{at_name, first_none, first_kept, first_more}
 use Rattle.fb_check.proofs.directory_making.variables_of.Goals as goal
 use Rattle.fb_check.proofs.directory_making.variables_of.Goals.{then-not-contains_key+in_ok-insert, else-not-contains_key}
 

@@ -2,7 +2,7 @@ use Rattle.std.proofs.Common.{List, refl, subst}
 use Rattle.std.proofs.lemmas.List.{take_all}
 use Rattle.fb_types.specs.declared.library.EventPort.{EventPort}
 use Rattle.fb_check.specs.Directory.{AreWiths}
-use Rattle.fb_check.proofs.Steps.{withs_none, withs_more}
+use Rattle.fb_check.proofs.lemmas.FilledByName.{withs_none, withs_more}
 use Rattle.fb_check.proofs.directory_making.withs_of.Goals as goal
 
 pub loop-event-init : goal.loop-event-init

@@ -1,10 +1,12 @@
-use Rattle.std.proofs.Common.{arith, vec_len}
+use Rattle.std.proofs.Common.{rules, map, ap, arith}
 use Rattle.fb_check_names.proofs.Listing.{some_says}
+use Rattle.fb_check_names.specs.declared.location.Misjoin.{Misjoin}
 use Rattle.fb_check.specs.networks.Misjoins.{IsMisjoinedAt}
-use Rattle.fb_check.proofs.networks.Joined.{misjoin_applies}
+use Rattle.fb_check.proofs.lemmas.networks.Joined.{misjoin_applies}
 use Rattle.fb_check.specs.Refusals.{inputs_in}
-use Rattle.fb_check.specs.declared.refusal.Refusal.TheVariants.{OutOfRange}
-use Rattle.fb_check.proofs.Verdict.{least_23, made_so, no_location, once, passes_23, some_location, stopped_so}
+use Rattle.fb_check.specs.declared.fault.Fault.TheVariants as of
+use Rattle.fb_check.specs.declared.location.Location.TheVariants as at
+use Rattle.fb_check.proofs.lemmas.Verdict.{least_23, made_so, once, passes_23, refused_so}
 use Rattle.fb_check.proofs.network_checks.judge_ranges.Goals as goal
 
 pub misjoin_locations-requires : goal.misjoin_locations-requires
@@ -16,19 +18,17 @@ misjoin_locations-requires c = (
 
 pub returns-clause-refused : goal.returns-clause-refused
 returns-clause-refused c =
-    let found = c.in_ok-found.found in
-    stopped_so c.passed.result (inputs_in c.args.case.now) (OutOfRange found) c.is_empty-is_right.result
-    (λ h. record {
-      least = least_23 c.args.case.now.library.now c.args.case.now.plan.now c.args.case.now.stimuli.now c.requires.passed
-          (some_says (IsMisjoinedAt c.args.case.now.library.now) found.items (misjoin_applies c.args.case.now.library.now) c.in_ok-found.ensures.each (some_location found.items (vec_len found) c.is_empty-is_right.result found.ok.0 c.is_empty-is_right.ensures h));
-      all = c.in_ok-found.ensures.listed;
-    })
+    let lib = c.args.case.now.library.now in
+    let plan = c.args.case.now.plan.now in
+    let ss = c.args.case.now.stimuli.now in
+    refused_so c.passed.result (inputs_in c.args.case.now) of.OutOfRange (λ (p : Misjoin). at.OutOfRange p) c.in_ok-found.found.items c.in_ok-locations.locations (search rules)
+    (λ some. least_23 lib plan ss c.requires.passed (some_says (IsMisjoinedAt lib) c.in_ok-found.found.items (misjoin_applies lib) c.in_ok-found.ensures.each some))
+    (λ some. ap (map (λ (p : Misjoin). at.OutOfRange p)) c.in_ok-found.ensures.listed)
     c.passed.ensures.refused
 
 pub returns-clause-ok : goal.returns-clause-ok
 returns-clause-ok c =
-    let found = c.in_ok-found.found in
-    made_so _ c.passed.result tt c.is_empty-is_right.result
-    (λ h. passes_23 c.args.case.now.library.now c.args.case.now.plan.now c.args.case.now.stimuli.now c.requires.passed
-    (c.in_ok-found.ensures.none (no_location found.items (vec_len found) c.is_empty-is_right.result found.ok.0 c.is_empty-is_right.ensures h)))
-    c.passed.ensures.ok
+    let lib = c.args.case.now.library.now in
+    let plan = c.args.case.now.plan.now in
+    let ss = c.args.case.now.stimuli.now in
+    made_so _ c.passed.result tt (λ (p : Misjoin). at.OutOfRange p) c.in_ok-found.found.items c.in_ok-locations.locations.items (search rules) (λ none. passes_23 lib plan ss c.requires.passed (c.in_ok-found.ensures.none none)) c.passed.ensures.ok

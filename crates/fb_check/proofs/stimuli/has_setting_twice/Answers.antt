@@ -4,7 +4,7 @@ use Rattle.fb_types.specs.Names.{Name}
 use Rattle.fb_types.specs.Repeated.{Twice}
 use Rattle.fb_types.specs.declared.deploy.Setting.{Setting}
 use Rattle.fb_check_names.specs.Indexes.{IsIndex}
-use Rattle.fb_check.proofs.Good.{none_exactly}
+use Rattle.fb_check.proofs.lemmas.GoodStimuli.{none_exactly}
 use Rattle.fb_check.proofs.stimuli.has_setting_twice.Goals as goal
 
 pub returns : goal.returns

@@ -2,7 +2,7 @@ use Rattle.std.proofs.Common.{Result, refl, sym, subst}
 use Rattle.fb_system.specs.declared.rows.StimulusRow.{StimulusRow}
 use Rattle.fb_check.specs.Stimuli.{IsAdded}
 use Rattle.fb_check.specs.declared.location.StimulusFault.{StimulusFault}
-use Rattle.fb_check.proofs.types.Added.{if_ok}
+use Rattle.fb_check.proofs.lemmas.types.GrowingLists.{if_ok}
 use Rattle.fb_check.proofs.stimuli.push_row.Goals as goal
 
 pub returns-in-Ok : goal.returns-in-Ok

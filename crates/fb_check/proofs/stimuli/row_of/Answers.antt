@@ -7,9 +7,9 @@ use Rattle.fb_system.specs.declared.rows.SlotValue.{SlotValue}
 use Rattle.fb_check.specs.Stimuli.{AreSlotsOr}
 use Rattle.fb_check.specs.Directory.{IsFound, ports_at_index, slot_of}
 use Rattle.fb_check.specs.declared.directory_making.TypeInputs.{TypeInputs}
-use Rattle.fb_check.proofs.Found.{unknown_instance}
-use Rattle.fb_check.proofs.Good.{Known, found_at, no_event, no_instance, placed_at}
-use Rattle.fb_check.proofs.Rows.{slot_none, taken_is}
+use Rattle.fb_check.proofs.lemmas.DirectoryEntries.{unknown_instance}
+use Rattle.fb_check.proofs.lemmas.GoodStimuli.{Known, found_at, no_event, no_instance, placed_at}
+use Rattle.fb_check.proofs.lemmas.StimulusRows.{slot_none, taken_is}
 use Rattle.fb_check.proofs.stimuli.row_of.Goals as goal
 
 pub returns-in_default : goal.returns-in_default

@@ -2,11 +2,11 @@ use Rattle.std.proofs.Common.{List, sym, subst, arith}
 use Rattle.std.specs.Prelude.{All}
 use Rattle.std.proofs.lemmas.List.Elements.{All-nil}
 use Rattle.fb_check.specs.declared.location.StimulusLocation.{StimulusLocation}
-use Rattle.fb_check.proofs.networks.Looking.{at_element}
+use Rattle.fb_check.proofs.lemmas.networks.SearchLoops.{at_element}
 use Rattle.fb_check.specs.Stimuli.{IsBadAt}
-use Rattle.fb_check.proofs.Good.{Known, none_bad}
-use Rattle.fb_check.proofs.Refused.{refused_none, refused_all}
-use Rattle.fb_check.proofs.Rows.{added_all, added_bad, added_rows, all_of, rows_none, rows_all}
+use Rattle.fb_check.proofs.lemmas.GoodStimuli.{Known, none_bad}
+use Rattle.fb_check.proofs.lemmas.RefusedStimuli.{refused_none, refused_all}
+use Rattle.fb_check.proofs.lemmas.StimulusRows.{added_all, added_bad, added_rows, all_of, rows_none, rows_all}
 use Rattle.fb_check.proofs.stimuli.rows_by.Goals as goal
 
 pub loop-row-init : goal.loop-row-init

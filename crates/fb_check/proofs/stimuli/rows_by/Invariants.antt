@@ -1,7 +1,7 @@
 use Rattle.std.proofs.Common.{◌≡◌, ◌≤◌, [], length}
 use Rattle.std.specs.Prelude.{All}
 use Rattle.fb_check.specs.Stimuli.{AreAllBadUpTo, IsBadAt}
-use Rattle.fb_check.proofs.Rows.{AreGoodUpTo}
+use Rattle.fb_check.proofs.lemmas.StimulusRows.{AreGoodUpTo}
 use Rattle.fb_check.proofs.stimuli.rows_by.Given as goal
 
 abbrev pub invariant-loop-row : goal.invariant-loop-row

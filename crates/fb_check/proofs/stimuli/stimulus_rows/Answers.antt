@@ -5,7 +5,7 @@ use Rattle.fb_types.specs.Flat.{kind_of}
 use Rattle.fb_types.specs.declared.library.BlockType.{BlockType}
 use Rattle.fb_types.specs.declared.library.Connection.{Connection}
 use Rattle.fb_check.specs.Directory.{AreInputs, AreTargets}
-use Rattle.fb_check.proofs.Steps.{event_inputs}
+use Rattle.fb_check.proofs.lemmas.FilledByName.{event_inputs}
 use Rattle.fb_check.proofs.stimuli.stimulus_rows.Goals as goal
 
 pub rows_by-requires-clause-directory : goal.rows_by-requires-clause-directory

@@ -4,7 +4,7 @@ use Rattle.std.proofs.lemmas.Result.{err_from_is_err_and}
 use Rattle.toml.specs.View.{table_view, view}
 use Rattle.fb_inputs.specs.declared.deploy_location.DeployKey.TheVariants as key
 use Rattle.fb_inputs.specs.declared.deploy_location.DeployLocation.{DeployLocation}
-use Rattle.fb_inputs.specs.DeployPlaces.{place_of, value_at}
+use Rattle.fb_inputs.specs.DeployLocations.{location_of, value_at}
 use Rattle.fb_inputs.specs.Documents.{count_of, known_keys}
 use Rattle.fb_inputs.proofs.Drafts.{drafted, further_keys, no_resources, refused_links, refused_resources, resources_by, without_resource}
 use Rattle.fb_inputs.proofs.Placing.{if-some}
@@ -18,7 +18,7 @@ returns-in_err-resources-clause-value c =
     let keys = table_view c.args.keys.now in
     let found : Some (view c.in-Some.resources.now) ≡ value_at keys key.Resource = rw c.in-Some.is at c.value_at.ensures in
     let p = err_from_is_err_and c.from_residual.result c.from_residual.ensures.1 in
-    rw (p.1, p.2) (if-some (place_of c.in_err-resources.field-0.0) _ _ (λ (q : DeployLocation) e. refused_resources keys q (resources_by keys (view c.in-Some.resources.now) found ∙ e)) c.in_err-resources.ensures)
+    rw (p.1, p.2) (if-some (location_of c.in_err-resources.field-0.0) _ _ (λ (q : DeployLocation) e. refused_resources keys q (resources_by keys (view c.in-Some.resources.now) found ∙ e)) c.in_err-resources.ensures)
 
 pub returns-in_err-links-clause-value : goal.returns-in_err-links-clause-value
 returns-in_err-links-clause-value c =
@@ -26,7 +26,7 @@ returns-in_err-links-clause-value c =
     let found : Some (view c.in-Some.resources.now) ≡ value_at keys key.Resource = rw c.in-Some.is at c.value_at.ensures in
     let read = resources_by keys (view c.in-Some.resources.now) found ∙ c.in_ok-resources.ensures in
     let p = err_from_is_err_and c.from_residual-in_err-links.result c.from_residual-in_err-links.ensures.1 in
-    rw (p.1, p.2) (if-some (place_of c.in_err-links.field-0.0) _ _ (λ (q : DeployLocation) e. refused_links keys c.in_ok-resources.resources read q e) c.in_err-links.ensures)
+    rw (p.1, p.2) (if-some (location_of c.in_err-links.field-0.0) _ _ (λ (q : DeployLocation) e. refused_links keys c.in_ok-resources.resources read q e) c.in_err-links.ensures)
 
 pub returns-then-count_of-known_keys-clause-value : goal.returns-then-count_of-known_keys-clause-value
 returns-then-count_of-known_keys-clause-value c =

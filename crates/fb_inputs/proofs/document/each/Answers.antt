@@ -2,7 +2,7 @@ use Rattle.std.proofs.Common.{◌+◌, map, drop, arith}
 use Rattle.std.proofs.lemmas.List.{length-map, length-drop}
 use Rattle.std.proofs.lemmas.Result.{err_from_is_err_and}
 use Rattle.toml.specs.View.{view}
-use Rattle.fb_inputs.specs.DeployPlaces.{element_at, fault_of}
+use Rattle.fb_inputs.specs.DeployLocations.{element_at, fault_of}
 use Rattle.fb_inputs.specs.declared.deploy_location.TableFault.{TableFault}
 use Rattle.fb_inputs.proofs.Each.{nothing_before, more_at, fails_at, not_refused, done_at}
 use Rattle.fb_inputs.proofs.Placing.{if-some}

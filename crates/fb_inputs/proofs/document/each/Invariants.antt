@@ -1,6 +1,6 @@
 use Rattle.std.proofs.Common.{◌≡◌, drop, length, map}
 use Rattle.toml.specs.View.{view}
-use Rattle.fb_inputs.specs.DeployPlaces.{element_at}
+use Rattle.fb_inputs.specs.DeployLocations.{element_at}
 use Rattle.fb_inputs.specs.Lists.{all_after, each_at}
 use Rattle.fb_inputs.proofs.document.each.Given as goal
 

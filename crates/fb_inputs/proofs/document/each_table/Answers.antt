@@ -4,7 +4,7 @@ use Rattle.std.proofs.lemmas.List.{length-map, length-drop}
 use Rattle.std.proofs.lemmas.Result.{err_from_is_err_and}
 use Rattle.toml.specs.View.{view}
 use Rattle.fb_inputs.specs.Documents.{of_table}
-use Rattle.fb_inputs.specs.DeployPlaces.{place_of, shape_in}
+use Rattle.fb_inputs.specs.DeployLocations.{location_of, shape_in}
 use Rattle.fb_inputs.specs.Lists.{placed}
 use Rattle.fb_inputs.specs.declared.deploy_location.DeployLocation.{DeployLocation}
 use Rattle.fb_inputs.proofs.Each.{nothing_before, more_in, fails_in, done_in}
@@ -22,9 +22,9 @@ returns-in_err-entry g c =
     let k = c.args.key in
     let n = length c.loop-value.found in
     let f = c.in_err-entry.field-0.0 in
-    let failed : IfSome (place_of f) (λ q. placed (shape_in k n) (of_table g.T.Entry.meaning (view c.value-item.result)) ≡ Err q) =
+    let failed : IfSome (location_of f) (λ q. placed (shape_in k n) (of_table g.T.Entry.meaning (view c.value-item.result)) ≡ Err q) =
     placed-err k n (of_table g.T.Entry.meaning (view c.value-item.result)) c.read_entry.result c.placed.result f c.read_entry.ensures (rw c.len.ensures at c.placed.ensures) c.in_err-entry.was in
-    rw (p.1, p.2) (if-some (place_of f) _ _
+    rw (p.1, p.2) (if-some (location_of f) _ _
     (λ (q : DeployLocation) e. fails_in (shape_in k) (of_table g.T.Entry.meaning) c.loop-value.found (view c.value-item.result) (map view (drop (c.loop-value.value-index + 1) c.args.values.now)) _ q _ next e c.loop-value.invariant)
     failed)
 

@@ -1,7 +1,7 @@
 use Rattle.std.proofs.Common.{◌≡◌, drop, length, map}
 use Rattle.toml.specs.View.{view}
 use Rattle.fb_inputs.specs.Documents.{of_table}
-use Rattle.fb_inputs.specs.DeployPlaces.{shape_in}
+use Rattle.fb_inputs.specs.DeployLocations.{shape_in}
 use Rattle.fb_inputs.specs.Lists.{all_after, each_in}
 use Rattle.fb_inputs.proofs.document.each_table.Given as goal
 

@@ -1,5 +1,5 @@
 use Rattle.std.proofs.Common.{sym, ap}
-use Rattle.fb_inputs.specs.DeployPlaces.{element_at}
+use Rattle.fb_inputs.specs.DeployLocations.{element_at}
 use Rattle.fb_inputs.specs.Refusals.{or_refuse}
 use Rattle.fb_inputs.proofs.document.element.Goals as goal
 

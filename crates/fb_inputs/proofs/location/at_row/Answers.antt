@@ -1,5 +1,5 @@
 use Rattle.std.proofs.Common.{option_map, sym, ap}
-use Rattle.fb_inputs.specs.Places.{fault_of, row_at}
+use Rattle.fb_inputs.specs.StimuliLocations.{fault_of, row_at}
 use Rattle.fb_inputs.specs.declared.location.RowError.{RowError}
 use Rattle.fb_inputs.proofs.location.at_row.Goals as goal
 

@@ -1,5 +1,5 @@
 use Rattle.std.proofs.Common.{inl, inr, subst}
-use Rattle.fb_inputs.specs.NearPlaces.{IsInDeployment}
+use Rattle.fb_inputs.specs.NearSpans.{IsInDeployment}
 use Rattle.fb_inputs.specs.Positions.{around_deploy}
 use Rattle.fb_inputs.specs.declared.position.DeployPosition.{DeployPosition}
 use Rattle.fb_inputs.proofs.Around.{next_step, no_step}

@@ -1,7 +1,7 @@
 use Rattle.std.proofs.Common.{List, subst, arith}
 use Rattle.std.specs.List.{AllZip}
 use Rattle.std.proofs.lemmas.List.{take_all}
-use Rattle.fb_inputs.specs.NearPlaces.{IsNearInStimuli}
+use Rattle.fb_inputs.specs.NearSpans.{IsNearInStimuli}
 use Rattle.fb_inputs.specs.declared.position.StimuliPosition.{StimuliPosition}
 use Rattle.fb_inputs.proofs.Nearest.{one_near}
 use Rattle.fb_inputs.proofs.near_stimuli.all_nearest.Goals as goal

@@ -1,6 +1,6 @@
 use Rattle.std.proofs.Common.{◌≡◌, ◌≤◌, length, take, vec_len, vec_capacity}
 use Rattle.std.specs.List.{AllZip}
-use Rattle.fb_inputs.specs.NearPlaces.{IsNearInStimuli, IsSearch}
+use Rattle.fb_inputs.specs.NearSpans.{IsNearInStimuli, IsSearch}
 use Rattle.fb_inputs.proofs.near_stimuli.all_nearest.Given as goal
 
 abbrev pub invariant-loop-position : goal.invariant-loop-position

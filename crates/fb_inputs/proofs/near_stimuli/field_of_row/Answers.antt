@@ -1,6 +1,6 @@
 use Rattle.std.proofs.Common.{ℕ, subst}
 use Rattle.std.specs.Prelude.{IfOk, IfSome}
-use Rattle.fb_inputs.specs.NearPlaces.{IsField}
+use Rattle.fb_inputs.specs.NearSpans.{IsField}
 use Rattle.fb_inputs.proofs.near_stimuli.field_of_row.Goals as goal
 
 pub returns-in-Some-clause-found : goal.returns-in-Some-clause-found

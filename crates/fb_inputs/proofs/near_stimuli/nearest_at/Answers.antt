@@ -1,5 +1,5 @@
 use Rattle.std.proofs.Common.{inl, inr, subst}
-use Rattle.fb_inputs.specs.NearPlaces.{IsInStimuli}
+use Rattle.fb_inputs.specs.NearSpans.{IsInStimuli}
 use Rattle.fb_inputs.specs.Positions.{around_stimuli}
 use Rattle.fb_inputs.specs.declared.position.StimuliPosition.{StimuliPosition}
 use Rattle.fb_inputs.proofs.Around.{next_step, no_step}

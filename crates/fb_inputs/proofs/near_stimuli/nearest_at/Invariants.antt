@@ -1,5 +1,5 @@
 use Rattle.std.proofs.Common.{◌≡◌}
-use Rattle.fb_inputs.specs.NearPlaces.{IsSearch}
+use Rattle.fb_inputs.specs.NearSpans.{IsSearch}
 use Rattle.fb_inputs.specs.Positions.{around_stimuli, stepped}
 use Rattle.fb_inputs.proofs.near_stimuli.nearest_at.Given as goal
 

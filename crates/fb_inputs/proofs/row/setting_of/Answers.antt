@@ -1,5 +1,5 @@
 use Rattle.std.proofs.Common.{◌≡◌, ℕ, Err, None, refl}
-use Rattle.fb_inputs.specs.Places.{value_at}
+use Rattle.fb_inputs.specs.StimuliLocations.{value_at}
 use Rattle.fb_inputs.specs.Refusals.{or_refuse}
 use Rattle.fb_inputs.specs.Rows.{setting}
 use Rattle.fb_inputs.specs.declared.row.Word.{Word}

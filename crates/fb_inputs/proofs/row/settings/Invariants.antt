@@ -1,6 +1,6 @@
 use Rattle.std.proofs.Common.{◌≡◌, length}
 use Rattle.fb_inputs.specs.Lists.{all_after, each_at}
-use Rattle.fb_inputs.specs.Places.{value_at}
+use Rattle.fb_inputs.specs.StimuliLocations.{value_at}
 use Rattle.fb_inputs.specs.Rows.{setting}
 use Rattle.fb_inputs.proofs.row.settings.Given as goal
 

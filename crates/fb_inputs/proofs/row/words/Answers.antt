@@ -5,7 +5,7 @@ use Rattle.std.proofs.lemmas.Result.{err_from_is_err_and}
 use Rattle.std.proofs.lemmas.Iterator.Splits.{YieldsList-from_slice_split}
 use Rattle.std.proofs.lemmas.Iterator.Consumers.{YieldsList-turn, YieldsList-end}
 use Rattle.fb_inputs.specs.Lists.{all_after, each_at}
-use Rattle.fb_inputs.specs.Places.{fault_of, word_at}
+use Rattle.fb_inputs.specs.StimuliLocations.{fault_of, word_at}
 use Rattle.fb_inputs.specs.Rows.{word, words}
 use Rattle.fb_inputs.specs.Words.{Text}
 use Rattle.fb_inputs.specs.declared.location.RowFault.{RowFault}

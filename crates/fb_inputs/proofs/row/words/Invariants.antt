@@ -1,7 +1,7 @@
 use Rattle.std.proofs.Common.{◌≡◌, length, drop, nat_eq, not, ◌==◌}
 use Rattle.std.specs.List.{filter, slice_split}
 use Rattle.fb_inputs.specs.Lists.{all_after, each_at}
-use Rattle.fb_inputs.specs.Places.{word_at}
+use Rattle.fb_inputs.specs.StimuliLocations.{word_at}
 use Rattle.fb_inputs.specs.Rows.{word, words}
 use Rattle.fb_inputs.proofs.row.words.Given as goal
 

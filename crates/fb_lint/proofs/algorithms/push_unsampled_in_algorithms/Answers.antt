@@ -1,5 +1,5 @@
 use Rattle.fb_lint.specs.Reads as spec
-use Rattle.fb_lint.proofs.Growing.{all_found, next_found}
+use Rattle.fb_lint.proofs.lemmas.WarningLists.{all_found, next_found}
 use Rattle.fb_lint.proofs.algorithms.push_unsampled_in_algorithms.Goals as goal
 
 pub loop-index-preserved : goal.loop-index-preserved

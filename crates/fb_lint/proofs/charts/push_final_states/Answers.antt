@@ -2,7 +2,7 @@ use Rattle.std.proofs.Common.{◌++◌, Bool, not, ◌∙◌, ap}
 use Rattle.fb_lint.specs.Findings.{when}
 use Rattle.fb_lint.specs.declared.warning.Warning.TheVariants.{FinalState}
 use Rattle.fb_lint.specs.Charts as spec
-use Rattle.fb_lint.proofs.Growing.{all_found, next_found}
+use Rattle.fb_lint.proofs.lemmas.WarningLists.{all_found, next_found}
 use Rattle.fb_lint.proofs.charts.push_final_states.Goals as goal
 
 pub loop-state-preserved : goal.loop-state-preserved

@@ -2,7 +2,7 @@ use Rattle.std.proofs.Common.{◌++◌, Bool, ◌∙◌, ap}
 use Rattle.fb_lint.specs.Findings.{when}
 use Rattle.fb_lint.specs.declared.warning.Warning.TheVariants.{ShadowedTransition}
 use Rattle.fb_lint.specs.Charts as spec
-use Rattle.fb_lint.proofs.Growing.{all_found, next_found}
+use Rattle.fb_lint.proofs.lemmas.WarningLists.{all_found, next_found}
 use Rattle.fb_lint.proofs.charts.push_shadowed_transitions.Goals as goal
 
 pub loop-transition-preserved : goal.loop-transition-preserved

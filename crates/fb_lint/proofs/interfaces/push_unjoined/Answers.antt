@@ -4,7 +4,7 @@ use Rattle.fb_types.specs.Names.{Name}
 use Rattle.fb_lint.specs.Findings.{when}
 use Rattle.fb_lint.specs.declared.warning.Warning.TheVariants.{UnusedPort}
 use Rattle.fb_lint.specs.Interfaces as spec
-use Rattle.fb_lint.proofs.Growing.{all_found, next_found}
+use Rattle.fb_lint.proofs.lemmas.WarningLists.{all_found, next_found}
 use Rattle.fb_lint.proofs.interfaces.push_unjoined.Goals as goal
 
 pub loop-port-preserved : goal.loop-port-preserved

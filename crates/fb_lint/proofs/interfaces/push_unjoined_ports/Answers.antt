@@ -1,7 +1,7 @@
 use Rattle.std.proofs.Common.{◌++◌, ◌∙◌}
 use Rattle.fb_check_names.specs.declared.ports.PortKind.TheVariants as kind
 use Rattle.fb_lint.specs.Interfaces.{unjoined_events, unjoined_variables}
-use Rattle.fb_lint.proofs.Growing.{four_found}
+use Rattle.fb_lint.proofs.lemmas.WarningLists.{four_found}
 use Rattle.fb_lint.proofs.interfaces.push_unjoined_ports.Goals as goal
 
 pub returns : goal.returns

@@ -2,7 +2,7 @@ use Rattle.std.proofs.Common.{◌++◌, Bool, not, ◌∙◌, ap}
 use Rattle.fb_lint.specs.Findings.{when}
 use Rattle.fb_lint.specs.declared.warning.Warning.TheVariants.{UnsampledInput}
 use Rattle.fb_lint.specs.Interfaces as spec
-use Rattle.fb_lint.proofs.Growing.{all_found, next_found}
+use Rattle.fb_lint.proofs.lemmas.WarningLists.{all_found, next_found}
 use Rattle.fb_lint.proofs.interfaces.push_unsampled_inputs.Goals as goal
 
 pub loop-input-preserved : goal.loop-input-preserved

@@ -1,4 +1,4 @@
-use Rattle.fb_lint.proofs.Holding.{each_holds}
+use Rattle.fb_lint.proofs.lemmas.WarningsHold.{each_holds}
 use Rattle.fb_lint.proofs.laws.warnings_hold.Goals as goal
 
 pub returns : goal.returns

@@ -2,7 +2,7 @@ use Rattle.std.proofs.Common.{◌++◌, Bool, not, ◌∙◌, ap}
 use Rattle.fb_lint.specs.Findings.{when}
 use Rattle.fb_lint.specs.declared.warning.Warning.TheVariants.{UnusedLink}
 use Rattle.fb_lint.specs.Networks as spec
-use Rattle.fb_lint.proofs.Growing.{all_found, next_found}
+use Rattle.fb_lint.proofs.lemmas.WarningLists.{all_found, next_found}
 use Rattle.fb_lint.proofs.links.push_unused_links.Goals as goal
 
 pub loop-link-preserved : goal.loop-link-preserved

@@ -1,5 +1,5 @@
 use Rattle.fb_lint.specs.Warnings as spec
-use Rattle.fb_lint.proofs.Growing.{all_found, next_found}
+use Rattle.fb_lint.proofs.lemmas.WarningLists.{all_found, next_found}
 use Rattle.fb_lint.proofs.lint.push_of_blocks.Goals as goal
 
 pub loop-block-preserved : goal.loop-block-preserved

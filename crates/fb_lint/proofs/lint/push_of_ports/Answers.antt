@@ -4,7 +4,7 @@ use Rattle.fb_check.specs.types.Mentions.{meant_all}
 use Rattle.fb_lint.specs.Charts.{silent_outputs}
 use Rattle.fb_lint.specs.Findings.{names_are}
 use Rattle.fb_lint.specs.Reads.{assigned, mentions_of, unassigned_events, unmentioned_variables}
-use Rattle.fb_lint.proofs.Growing.{four_found}
+use Rattle.fb_lint.proofs.lemmas.WarningLists.{four_found}
 use Rattle.fb_lint.proofs.lint.push_of_ports.Goals as goal
 
 pub returns : goal.returns

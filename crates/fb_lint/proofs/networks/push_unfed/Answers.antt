@@ -1,5 +1,5 @@
 use Rattle.fb_lint.specs.Networks as spec
-use Rattle.fb_lint.proofs.Growing.{all_found, next_found}
+use Rattle.fb_lint.proofs.lemmas.WarningLists.{all_found, next_found}
 use Rattle.fb_lint.proofs.networks.push_unfed.Goals as goal
 
 pub loop-index-preserved : goal.loop-index-preserved

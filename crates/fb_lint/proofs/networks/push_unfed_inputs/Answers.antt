@@ -2,7 +2,7 @@ use Rattle.std.proofs.Common.{◌++◌, Bool, not, ◌∙◌, ap}
 use Rattle.fb_lint.specs.Findings.{when}
 use Rattle.fb_lint.specs.declared.warning.Warning.TheVariants.{UnfedInput}
 use Rattle.fb_lint.specs.Networks as spec
-use Rattle.fb_lint.proofs.Growing.{all_found, next_found}
+use Rattle.fb_lint.proofs.lemmas.WarningLists.{all_found, next_found}
 use Rattle.fb_lint.proofs.networks.push_unfed_inputs.Goals as goal
 
 pub loop-input-preserved : goal.loop-input-preserved

@@ -4,7 +4,7 @@ use Rattle.fb_types.specs.Names.{Name, same_name}
 use Rattle.fb_lint.specs.Findings.{names_are}
 use Rattle.fb_lint.specs.Reached.{Edge, edge_is, edges_are}
 use Rattle.fb_lint.specs.declared.reached.Edge as code
-use Rattle.fb_lint.proofs.Reaching.{ends, leaving, staying}
+use Rattle.fb_lint.proofs.lemmas.ReachedStates.{ends, leaving, staying}
 use Rattle.fb_lint.proofs.reached.follow.Goals as goal
 use Rattle.fb_lint.proofs.reached.follow.Goals.{then-is+in_ok-push, else-is+in_ok-push-2}
 

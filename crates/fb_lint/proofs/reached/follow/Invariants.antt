@@ -1,7 +1,7 @@
 use Rattle.std.proofs.Common.{◌≡◌, ◌++◌, drop}
 use Rattle.fb_lint.specs.Findings.{names_are}
 use Rattle.fb_lint.specs.Reached.{edges_are}
-use Rattle.fb_lint.proofs.Reaching.{ends, leaving, staying}
+use Rattle.fb_lint.proofs.lemmas.ReachedStates.{ends, leaving, staying}
 use Rattle.fb_lint.proofs.reached.follow.Given as goal
 
 -- with what the rest adds, all is there

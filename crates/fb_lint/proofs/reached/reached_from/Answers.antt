@@ -3,7 +3,7 @@ use Rattle.std.proofs.lemmas.List.{map-append}
 use Rattle.fb_lint.specs.Findings.{names_are}
 use Rattle.fb_lint.specs.Reached.{edge_of, edges_are}
 use Rattle.fb_lint.specs.declared.reached.Edge.{Edge}
-use Rattle.fb_lint.proofs.Reaching.{ends, fewer, leaving, nothing, reaching_all_at, reaching_first_at, reaching_next_at, staying}
+use Rattle.fb_lint.proofs.lemmas.ReachedStates.{ends, fewer, leaving, nothing, reaching_all_at, reaching_first_at, reaching_next_at, staying}
 use Rattle.fb_lint.proofs.reached.reached_from.Goals as goal
 
 pub loop-state-init : goal.loop-state-init

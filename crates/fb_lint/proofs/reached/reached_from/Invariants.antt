@@ -1,7 +1,7 @@
 use Rattle.std.proofs.Common.{◌+◌, ◌*◌, length, map}
 use Rattle.fb_lint.specs.Findings.{names_are}
 use Rattle.fb_lint.specs.Reached.{edge_of, edges_are}
-use Rattle.fb_lint.proofs.Reaching.{Reaching}
+use Rattle.fb_lint.proofs.lemmas.ReachedStates.{Reaching}
 use Rattle.fb_lint.proofs.reached.reached_from.Given as goal
 
 abbrev pub invariant-loop-state : goal.invariant-loop-state

@@ -3,7 +3,7 @@ use Rattle.fb_lint.specs.Findings.{when}
 use Rattle.fb_lint.specs.declared.warning.Warning.TheVariants.{UnsampledInGuard}
 use Rattle.fb_check.specs.types.Mentions.{meant_all}
 use Rattle.fb_lint.specs.Reads as spec
-use Rattle.fb_lint.proofs.Growing.{all_found, next_found}
+use Rattle.fb_lint.proofs.lemmas.WarningLists.{all_found, next_found}
 use Rattle.fb_lint.proofs.reads.push_unsampled_by_guard.Goals as goal
 
 pub loop-input-preserved : goal.loop-input-preserved

@@ -3,7 +3,7 @@ use Rattle.std.specs.Prelude.{flat_map}
 use Rattle.fb_types.specs.declared.library.Transition.{Transition}
 use Rattle.fb_check.specs.types.Checks.{guard_mentions}
 use Rattle.fb_check.specs.types.Mentions.{meant_all}
-use Rattle.fb_check.proofs.types.Added.{list_added, one_added}
+use Rattle.fb_check.proofs.lemmas.types.GrowingLists.{list_added, one_added}
 use Rattle.fb_lint.proofs.uses.push_guards.Goals as goal
 
 pub loop-transition-preserved : goal.loop-transition-preserved

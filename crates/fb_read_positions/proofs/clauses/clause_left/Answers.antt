@@ -1,8 +1,8 @@
 use Rattle.std.proofs.Common.{◌≡◌, ◌≤◌, ℕ, suc, ◌-◌, ◌+◌, [], ◌∷◌, drop, sym, ap, ◌∙◌, arith}
 use Rattle.fb_read.specs.Tokens.{tokens_of}
 use Rattle.fb_read_positions.specs.Walks.{depth_after, to_clause}
-use Rattle.fb_read_positions.proofs.ClauseSteps.{clause_here, clause_passed, depth_at_most, left_from, moved_clause, no_clause_passed, other_passed}
-use Rattle.fb_read_positions.proofs.Steps.{depth_more}
+use Rattle.fb_read_positions.proofs.lemmas.ClauseSteps.{clause_here, clause_passed, depth_at_most, left_from, moved_clause, no_clause_passed, other_passed}
+use Rattle.fb_read_positions.proofs.lemmas.ReadingLoops.{depth_more}
 use Rattle.fb_read_positions.proofs.clauses.clause_left.Goals.{then-is_of_clauses, then-begins_clause+else-before-eq0, else-begins_clause, else-is_of_clauses}
 use Rattle.fb_read_positions.proofs.clauses.clause_left.Goals as goal
 

@@ -4,8 +4,8 @@ use Rattle.std.proofs.lemmas.List.{length-drop, take_all}
 use Rattle.fb_types.specs.Names.{Name}
 use Rattle.fb_read.specs.Blank.{Text}
 use Rattle.fb_read.specs.declared.token.Token.{Token}
-use Rattle.fb_read_positions.specs.Places.{IsNameOf, IsNamed}
-use Rattle.fb_read_positions.proofs.Named.{as_long}
+use Rattle.fb_read_positions.specs.Spans.{IsNameOf, IsNamed}
+use Rattle.fb_read_positions.proofs.lemmas.NamesAtTokens.{as_long}
 use Rattle.fb_read_positions.proofs.find.is_named.Goals as goal
 
 pub returns-in-Ok : goal.returns-in-Ok

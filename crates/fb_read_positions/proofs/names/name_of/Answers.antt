@@ -1,6 +1,6 @@
 use Rattle.std.proofs.Common.{ap, ◌∙◌}
 use Rattle.std.specs.Option.{option_copied}
-use Rattle.fb_read_positions.proofs.Looking.{had, none_had}
+use Rattle.fb_read_positions.proofs.lemmas.IndexedItems.{had, none_had}
 use Rattle.fb_read_positions.proofs.names.name_of.Goals as goal
 
 pub returns-in_err-get : goal.returns-in_err-get

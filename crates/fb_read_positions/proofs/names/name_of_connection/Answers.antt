@@ -1,5 +1,5 @@
 use Rattle.std.proofs.Common.{sym, ap}
-use Rattle.fb_read_positions.specs.Places.{name_of_connection}
+use Rattle.fb_read_positions.specs.Spans.{name_of_connection}
 use Rattle.fb_read_positions.specs.declared.position.ConnectionPart.{ConnectionPart}
 use Rattle.fb_read_positions.proofs.names.name_of_connection.Goals as goal
 

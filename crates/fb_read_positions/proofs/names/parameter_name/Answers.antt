@@ -3,7 +3,7 @@ use Rattle.std.specs.Prelude.{option_map, slice_get}
 use Rattle.std.specs.Option.{option_copied}
 use Rattle.fb_types.specs.declared.library.Instance.{Instance}
 use Rattle.fb_types.specs.declared.library.Parameter.{Parameter}
-use Rattle.fb_read_positions.proofs.Looking.{found, none_found}
+use Rattle.fb_read_positions.proofs.lemmas.IndexedItems.{found, none_found}
 use Rattle.fb_read_positions.proofs.names.parameter_name.Goals as goal
 
 pub returns-in_err-get : goal.returns-in_err-get

@@ -1,7 +1,7 @@
 use Rattle.std.proofs.Common.{refl, ap, ◌∙◌}
 use Rattle.std.specs.Option.{option_copied}
 use Rattle.fb_types.specs.declared.library.Instance.{Instance}
-use Rattle.fb_read_positions.proofs.Looking.{had, none_had}
+use Rattle.fb_read_positions.proofs.lemmas.IndexedItems.{had, none_had}
 use Rattle.fb_read_positions.proofs.names.type_of.Goals as goal
 
 pub returns-in_err-get : goal.returns-in_err-get

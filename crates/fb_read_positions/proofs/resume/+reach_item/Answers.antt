@@ -1,8 +1,8 @@
 use Rattle.std.proofs.Common.{refl, sym, ◌∙◌, ap}
 use Rattle.fb_read_positions.specs.Resumed.{IsStop}
 use Rattle.fb_read_positions.specs.Walks.{to_item_if}
-use Rattle.fb_read_positions.proofs.Placed.{of_some}
-use Rattle.fb_read_positions.proofs.Resuming.{owner_is, stop_as, stop_at_start}
+use Rattle.fb_read_positions.proofs.lemmas.PlacesOfPositions.{of_some}
+use Rattle.fb_read_positions.proofs.lemmas.ResumedWalks.{owner_is, stop_as, stop_at_start}
 use Rattle.fb_read_positions.proofs.resume.+reach_item.Goals as goal
 
 pub returns-in_default : goal.returns-in_default

@@ -1,5 +1,5 @@
 use Rattle.fb_read_positions.specs.Walks.{to_first}
-use Rattle.fb_read_positions.proofs.Left.{leaves_if}
+use Rattle.fb_read_positions.proofs.lemmas.TokensLeft.{leaves_if}
 use Rattle.fb_read_positions.proofs.resume.left_at_first.Goals as goal
 
 pub returns : goal.returns

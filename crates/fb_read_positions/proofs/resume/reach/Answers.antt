@@ -4,8 +4,8 @@ use Rattle.fb_read_positions.specs.Lists.{item_of}
 use Rattle.fb_read_positions.specs.Resumed.{IsStop, Leaves}
 use Rattle.fb_read_positions.specs.Walks.{pass, to_item_if, to_part}
 use Rattle.fb_read_positions.specs.declared.step.Step.{Step}
-use Rattle.fb_read_positions.proofs.Placed.{of_some}
-use Rattle.fb_read_positions.proofs.Resuming.{at_position, stop_as, taken_once}
+use Rattle.fb_read_positions.proofs.lemmas.PlacesOfPositions.{of_some}
+use Rattle.fb_read_positions.proofs.lemmas.ResumedWalks.{at_position, stop_as, taken_once}
 use Rattle.fb_read_positions.proofs.resume.reach.Goals as goal
 
 pub returns-in-Some-2 : goal.returns-in-Some-2

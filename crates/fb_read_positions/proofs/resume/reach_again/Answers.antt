@@ -1,9 +1,9 @@
 use Rattle.std.proofs.Common.{◌-◌}
 use Rattle.fb_read_positions.specs.Resumed.{IsAhead, IsListed, Leaves}
 use Rattle.fb_read_positions.specs.Walks.{pass_items, to_item}
-use Rattle.fb_read_positions.proofs.Left.{some_as}
-use Rattle.fb_read_positions.proofs.Placed.{of_some}
-use Rattle.fb_read_positions.proofs.Resuming.{item_after}
+use Rattle.fb_read_positions.proofs.lemmas.TokensLeft.{some_as}
+use Rattle.fb_read_positions.proofs.lemmas.PlacesOfPositions.{of_some}
+use Rattle.fb_read_positions.proofs.lemmas.ResumedWalks.{item_after}
 use Rattle.fb_read_positions.proofs.resume.reach_again.Goals as goal
 
 pub returns : goal.returns

@@ -1,9 +1,9 @@
 use Rattle.std.proofs.Common.{◌-◌, length, drop, sym, ◌∙◌, ap}
 use Rattle.fb_read_positions.specs.Resumed.{Leaves}
 use Rattle.fb_read_positions.specs.Walks.{pass_items, to_first, to_item}
-use Rattle.fb_read_positions.proofs.Left.{some_as}
-use Rattle.fb_read_positions.proofs.Placed.{of_some}
-use Rattle.fb_read_positions.proofs.Resuming.{item_within}
+use Rattle.fb_read_positions.proofs.lemmas.TokensLeft.{some_as}
+use Rattle.fb_read_positions.proofs.lemmas.PlacesOfPositions.{of_some}
+use Rattle.fb_read_positions.proofs.lemmas.ResumedWalks.{item_within}
 use Rattle.fb_read_positions.proofs.resume.reach_within.Goals as goal
 
 pub returns : goal.returns

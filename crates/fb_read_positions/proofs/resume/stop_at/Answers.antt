@@ -1,6 +1,6 @@
 use Rattle.fb_read_positions.specs.Resumed.{Leaves}
 use Rattle.fb_read_positions.specs.Walks.{to_item}
-use Rattle.fb_read_positions.proofs.Placed.{of_some}
+use Rattle.fb_read_positions.proofs.lemmas.PlacesOfPositions.{of_some}
 use Rattle.fb_read_positions.proofs.resume.stop_at.Goals as goal
 
 pub returns : goal.returns

@@ -4,9 +4,9 @@ use Rattle.std.proofs.lemmas.List.{length-drop}
 use Rattle.fb_read.specs.Statements.{begins_statement}
 use Rattle.fb_read.specs.Tokens.{tokens_of}
 use Rattle.fb_read_positions.specs.Walks.{to_statement}
-use Rattle.fb_read_positions.proofs.ClauseSteps.{left_from}
-use Rattle.fb_read_positions.proofs.StatementSteps.{begins_there, statement_passed, token_passed}
-use Rattle.fb_read_positions.proofs.Steps.{at_statement, begins_none, not_ready}
+use Rattle.fb_read_positions.proofs.lemmas.ClauseSteps.{left_from}
+use Rattle.fb_read_positions.proofs.lemmas.StatementSteps.{begins_there, statement_passed, token_passed}
+use Rattle.fb_read_positions.proofs.lemmas.ReadingLoops.{at_statement, begins_none, not_ready}
 use Rattle.fb_read_positions.proofs.statements.statement_left.Goals.{then-ready+then-begins+else-before-eq0, else-ready, else-ready-via-then-ready+else-begins, else-ready-via-else-ready}
 use Rattle.fb_read_positions.proofs.statements.statement_left.Goals as goal
 

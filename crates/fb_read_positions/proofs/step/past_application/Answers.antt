@@ -1,4 +1,4 @@
-use Rattle.fb_read_positions.proofs.Passing.{application_passed, read_as}
+use Rattle.fb_read_positions.proofs.lemmas.PassedTokens.{application_passed, read_as}
 use Rattle.fb_read_positions.proofs.step.past_application.Goals as goal
 
 pub returns-then-sees : goal.returns-then-sees

@@ -1,4 +1,4 @@
-use Rattle.fb_read_positions.proofs.Passing.{name_passed, no_name_passed}
+use Rattle.fb_read_positions.proofs.lemmas.PassedTokens.{name_passed, no_name_passed}
 use Rattle.fb_read_positions.proofs.step.past_name.Goals as goal
 
 pub returns-then-eat_name : goal.returns-then-eat_name

@@ -2,7 +2,7 @@ use Rattle.std.proofs.Common.{◌≡◌, ℕ, suc, ◌+◌, ◌-◌, true, ap, s
 use Rattle.fb_read.specs.Parser.{rest_of, sees_name}
 use Rattle.fb_read.specs.Tokens.{Tokens}
 use Rattle.fb_read_positions.specs.Walks.{to_name}
-use Rattle.fb_read_positions.proofs.Steps.{at_name, fewer, moved_name, none_named, past_name, past_other}
+use Rattle.fb_read_positions.proofs.lemmas.ReadingLoops.{at_name, fewer, moved_name, none_named, past_name, past_other}
 use Rattle.fb_read_positions.proofs.step.to_name.Goals.{then-sees_name+else-before-eq0, else-sees_name}
 use Rattle.fb_read_positions.proofs.step.to_name.Goals as goal
 

@@ -1,5 +1,5 @@
 use Rattle.std.proofs.Common.{length}
-use Rattle.fb_why.proofs.TextReadings.{ends-last, some-tokens}
+use Rattle.fb_why.proofs.lemmas.TextReadings.{ends-last, some-tokens}
 use Rattle.fb_why.proofs.find.end_of_last.Goals as goal
 
 pub returns-in-Ok : goal.returns-in-Ok

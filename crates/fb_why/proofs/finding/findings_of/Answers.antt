@@ -1,8 +1,8 @@
 use Rattle.std.proofs.Common.{Bor, List, None, ℕ}
 use Rattle.std.specs.Prelude.{option_map}
 use Rattle.fb_why.specs.declared.cause.Cause.TheVariants as cause
-use Rattle.fb_why.proofs.Numbered.{by_cause, nothing_placed, numbered, once_found, once_placed}
-use Rattle.fb_why.proofs.Shown.{is_elsewhere}
+use Rattle.fb_why.proofs.lemmas.FindingsOfNumbers.{by_cause, nothing_placed, numbered, once_found, once_placed}
+use Rattle.fb_why.proofs.lemmas.PlacedFindings.{is_elsewhere}
 use Rattle.fb_why.proofs.finding.findings_of.Goals as goal
 
 pub returns-in_ok-text_finding-in-Text-clause-found : goal.returns-in_ok-text_finding-in-Text-clause-found

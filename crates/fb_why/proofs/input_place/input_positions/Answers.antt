@@ -3,7 +3,7 @@ use Rattle.std.specs.List.{AllZip}
 use Rattle.std.proofs.lemmas.List.{take_all}
 use Rattle.fb_why.specs.InputPlaces.{IsShownAt}
 use Rattle.fb_why.specs.declared.place.PlacedFinding.{PlacedFinding}
-use Rattle.fb_why.proofs.Paired.{none_paired, one_paired}
+use Rattle.fb_why.proofs.lemmas.PairedLists.{none_paired, one_paired}
 use Rattle.fb_why.proofs.input_place.input_positions.Goals as goal
 
 pub loop-one-init : goal.loop-one-init

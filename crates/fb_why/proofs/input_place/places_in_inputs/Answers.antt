@@ -3,7 +3,7 @@ use Rattle.std.specs.List.{AllZip}
 use Rattle.fb_inputs.specs.declared.position.StimuliPosition.{StimuliPosition}
 use Rattle.fb_why.specs.InputPlaces.{IsNearIn, row_of}
 use Rattle.fb_why.specs.declared.input_place.InputPosition.{InputPosition}
-use Rattle.fb_why.proofs.Inputs.{all_of_findings, near_given}
+use Rattle.fb_why.proofs.lemmas.InputPlaces.{all_of_findings, near_given}
 use Rattle.fb_why.proofs.input_place.places_in_inputs.Goals as goal
 
 abbrev bytes : Option (Bor (List ℕ)) → Option (List ℕ)

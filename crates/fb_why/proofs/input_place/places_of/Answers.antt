@@ -4,7 +4,7 @@ use Rattle.std.proofs.lemmas.List.{take_all}
 use Rattle.fb_check_names.proofs.Repeating.{same_within}
 use Rattle.fb_why.specs.InputPlaces.{IsNearIn, IsPlaceFor, row_of}
 use Rattle.fb_why.specs.declared.input_place.InputPosition.{InputPosition}
-use Rattle.fb_why.proofs.Paired.{as_many_paired, none_paired, one_paired, pair_at}
+use Rattle.fb_why.proofs.lemmas.PairedLists.{as_many_paired, none_paired, one_paired, pair_at}
 use Rattle.fb_why.proofs.input_place.places_of.Goals as goal
 
 abbrev bytes : Option (Bor (List ℕ)) → Option (List ℕ)

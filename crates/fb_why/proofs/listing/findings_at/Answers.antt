@@ -1,9 +1,15 @@
-use Rattle.std.proofs.Common.{◌<◌, length, map, refl, ◌∙◌, ap, arith}
+use Rattle.std.proofs.Common.{◌<◌, List, length, map, refl, ◌∙◌, ap, arith}
 use Rattle.std.proofs.lemmas.List.{take_all}
 use Rattle.fb_check_names.proofs.Repeating.{same_within}
+use Rattle.fb_check.specs.declared.location.Location.{Location}
+use Rattle.fb_why.specs.declared.location.FindingLocation.{FindingLocation}
+use Rattle.fb_why.specs.declared.location.FindingLocation.TheVariants.{Check}
 use Rattle.fb_why.specs.declared.place.PlacedFinding.{PlacedFinding}
-use Rattle.fb_why.proofs.Shown.{located, placed_more}
+use Rattle.fb_why.proofs.lemmas.PlacedFindings.{located, placed_more}
 use Rattle.fb_why.proofs.listing.findings_at.Goals as goal
+
+abbrev checked : List Location → List FindingLocation
+checked ls = map (λ p. Check p) ls
 
 pub loop-index-init : goal.loop-index-init
 loop-index-init c = (ap (map (λ (r : PlacedFinding). r.finding.location)) c.new-all.ensures.items, ap (map (λ (r : PlacedFinding). r.place)) c.new-all.ensures.items)
@@ -20,7 +26,7 @@ loop-index-preserved c =
     )
 
 pub returns-clause-found : goal.returns-clause-found
-returns-clause-found c = c.loop-index.invariant.0 ∙ take_all c.loop-index.index c.args.locations.now c.loop-index-test.false
+returns-clause-found c = c.loop-index.invariant.0 ∙ ap checked (take_all c.loop-index.index c.args.locations.now c.loop-index-test.false)
 
 pub returns-clause-placed : goal.returns-clause-placed
 returns-clause-placed c = c.loop-index.invariant.1 ∙ take_all c.loop-index.index c.args.places.now (omega (arith, c.requires, c.loop-index-test.false))

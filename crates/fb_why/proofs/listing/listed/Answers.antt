@@ -1,8 +1,10 @@
 use Rattle.std.proofs.Common.{◌≡◌, min, length, map, take, ap, ◌∙◌, arith}
 use Rattle.std.proofs.lemmas.List.{take_all, take_min}
 use Rattle.fb_types.proofs.LoopSteps.{mapped_next}
+use Rattle.fb_check.specs.declared.location.Location.{Location}
+use Rattle.fb_why.specs.declared.location.FindingLocation.TheVariants.{Check}
 use Rattle.fb_why.specs.Positions.{position_of}
-use Rattle.fb_why.proofs.Shown.{all_placed, as_many}
+use Rattle.fb_why.proofs.lemmas.PlacedFindings.{all_placed, as_many}
 use Rattle.fb_why.proofs.listing.listed.Goals as goal
 
 pub loop-location-init : goal.loop-location-init
@@ -32,4 +34,4 @@ pub returns-clause-shown : goal.returns-clause-shown
 returns-clause-shown c =
     let xs = c.args.locations.now in
     let many : c.min.result ≡ min 20 (length xs) = omega (arith, c.min.ensures) in
-    c.in_ok-shown.ensures.found ∙ ap (λ n. take n xs) many ∙ take_min 20 xs
+    c.in_ok-shown.ensures.found ∙ ap (λ n. map (λ (p : Location). Check p) (take n xs)) many ∙ ap (map (λ (p : Location). Check p)) (take_min 20 xs)

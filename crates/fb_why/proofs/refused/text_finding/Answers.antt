@@ -5,7 +5,7 @@ use Rattle.fb_types.specs.declared.library.Library.{Library}
 use Rattle.fb_read.specs.Errors.{fault_number}
 use Rattle.fb_read.specs.Whole.{IsLibraryText}
 use Rattle.fb_why.specs.Faults.{IsTextRefusal}
-use Rattle.fb_why.proofs.Reading.{text_found, text_placed, text_unfound}
+use Rattle.fb_why.proofs.lemmas.TextRefusals.{text_found, text_placed, text_unfound}
 use Rattle.fb_why.proofs.refused.text_finding.Goals as goal
 
 pub returns-clause-found : goal.returns-clause-found
@@ -16,7 +16,7 @@ returns-clause-found c =
     text_found c.args.number text c.in-Some.refused c.found.result is same c.found.ensures
 
 pub returns-clause-placed : goal.returns-clause-placed
-returns-clause-placed c = text_placed c.args.declaration.now c.in-Some.refused.location c.found.result c.found.ensures
+returns-clause-placed c = text_placed c.args.declaration.now c.in-Some.refused.place c.found.result c.found.ensures
 
 -- the text declares a library
 pub returns-in_default-clause-found : goal.returns-in_default-clause-found

@@ -1,6 +1,6 @@
 use Rattle.std.proofs.Common.{Bor, List, Option, ℕ, map, string_bytes, refl, subst, sym}
 use Rattle.std.specs.Prelude.{IfSome}
-use Rattle.fb_read_positions.specs.declared.text_locations.TextLocation.{TextLocation}
+use Rattle.fb_read_positions.specs.declared.places.Place.{Place}
 use Rattle.fbsim_command.specs.OwnLines.{IsPlaced}
 use Rattle.fbsim_command.specs.Stops.{IsNoteAtStop}
 use Rattle.fbsim_command.specs.Texts.{lines_of}
@@ -10,10 +10,10 @@ pub returns-in-Some : goal.returns-in-Some
 returns-in-Some c =
     let types = map (λ (t : Bor (List ℕ)). t.now) c.args.types.now in
     let at = c.in-Some.at in
-    subst (λ (o : Option TextLocation). IfSome c.note_at.result (λ note. IsNoteAtStop types c.args.own.now (lines_of c.args.texts.now) o (string_bytes c.args.matter) (string_bytes note))) (sym c.in-Some.is)
+    subst (λ (o : Option Place). IfSome c.note_at.result (λ note. IsNoteAtStop types c.args.own.now (lines_of c.args.texts.now) o (string_bytes c.args.matter) (string_bytes note))) (sym c.in-Some.is)
     (subst (λ (lines : List ℕ). IfSome c.note_at.result (λ note. IsPlaced types c.args.own.now lines at.line at.column (string_bytes note))) c.as_slice-lines.ensures.value c.note_at.ensures)
 
 pub returns-in-None : goal.returns-in-None
 returns-in-None c =
     let types = map (λ (t : Bor (List ℕ)). t.now) c.args.types.now in
-    subst (λ (o : Option TextLocation). IsNoteAtStop types c.args.own.now (lines_of c.args.texts.now) o (string_bytes c.args.matter) (string_bytes c.args.matter)) (sym c.in-None.is) refl
+    subst (λ (o : Option Place). IsNoteAtStop types c.args.own.now (lines_of c.args.texts.now) o (string_bytes c.args.matter) (string_bytes c.args.matter)) (sym c.in-None.is) refl

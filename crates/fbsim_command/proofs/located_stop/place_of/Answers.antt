@@ -6,9 +6,9 @@ use Rattle.fbsim_command.proofs.located_stop.place_of.Goals as goal
 
 pub returns-then-is_some : goal.returns-then-is_some
 returns-then-is_some c =
-    operated c.args.declaration.now c.args.system.now c.args.stop.now c.in-Some.shown c.location_at-at.result
+    operated c.args.declaration.now c.args.system.now c.args.stop.now c.in-Some.shown c.place_between-at.result
     (subst (λ (o : Option Shown). IfSome o (IsStopShown c.args.declaration.now c.args.system.now c.args.stop.now)) c.in-Some.is c.requires)
-    c.location_at-at.ensures.location c.location_at-at.ensures.there
+    c.place_between-at.ensures.place c.place_between-at.ensures.there
 
 pub returns-in-Some-position_of : goal.returns-in-Some-position_of
 returns-in-Some-position_of c =

@@ -1,7 +1,7 @@
 use Rattle.std.proofs.Common.{ℕ, ◌<◌, List, ap, map, subst, sym}
 use Rattle.std.specs.List.{AllZip}
 use Rattle.fb_lint.specs.Positions.{position_of}
-use Rattle.fb_read_positions.specs.Locations.{IsPlaceFor}
+use Rattle.fb_read_positions.specs.Places.{IsPlaceFor}
 use Rattle.fb_sim.specs.Given.{Given}
 use Rattle.fbsim_command.specs.WarningLines.{naming_of}
 use Rattle.fbsim_command.proofs.PlacedLines.{as_many_places, lines_all, lines_next, place_at_index}

@@ -5,8 +5,8 @@ use Rattle.std.specs.Vec.{vec_len}
 use Rattle.fb_board.specs.declared.rule.View.{View}
 use Rattle.fb_board.specs.Models.{SeatModel, IsNewSeatOf, AreNumbered}
 use Rattle.fb_board.specs.View.{new_seat_view}
-use Rattle.fb_board.proofs.Counts.{slice_get_push}
-use Rattle.fb_board.proofs.Reveals.{splits}
+use Rattle.fb_board.proofs.lemmas.Counts.{slice_get_push}
+use Rattle.fb_board.proofs.lemmas.StepsReveal.{splits}
 use Rattle.fb_board.proofs.board.Board.split_seats.Goals as goal
 
 -- a new seat's view, by its own number

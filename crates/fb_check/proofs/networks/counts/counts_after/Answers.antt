@@ -1,5 +1,5 @@
 use Rattle.std.proofs.Common.{arith}
-use Rattle.fb_check.proofs.networks.Counted.{counts_more, counts_done}
+use Rattle.fb_check.proofs.lemmas.networks.Counted.{counts_more, counts_done}
 use Rattle.fb_check.proofs.networks.counts.counts_after.Goals as goal
 
 pub loop-round-preserved : goal.loop-round-preserved

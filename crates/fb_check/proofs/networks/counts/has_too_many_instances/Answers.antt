@@ -1,4 +1,4 @@
-use Rattle.fb_check.proofs.networks.Counted.{counts_answer}
+use Rattle.fb_check.proofs.lemmas.networks.Counted.{counts_answer}
 use Rattle.fb_check.proofs.networks.counts.has_too_many_instances.Goals as goal
 
 pub returns : goal.returns

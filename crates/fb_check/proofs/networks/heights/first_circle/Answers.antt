@@ -1,5 +1,5 @@
 use Rattle.std.proofs.Common.{sym, ◌∙◌}
-use Rattle.fb_check.proofs.networks.Looking.{at_element}
+use Rattle.fb_check.proofs.lemmas.networks.SearchLoops.{at_element}
 use Rattle.fb_check.proofs.networks.heights.first_circle.Goals as goal
 
 pub returns-then-leads_back : goal.returns-then-leads_back

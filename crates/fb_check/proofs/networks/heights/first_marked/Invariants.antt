@@ -1,6 +1,6 @@
 use Rattle.std.proofs.Common.{◌≡◌, drop}
 use Rattle.std.specs.Prelude.{position}
-use Rattle.fb_check.proofs.networks.Looking.{following}
+use Rattle.fb_check.proofs.lemmas.networks.SearchLoops.{following}
 use Rattle.fb_check.specs.networks.Heights.{is_marked}
 use Rattle.fb_check.proofs.networks.heights.first_marked.Given as goal
 

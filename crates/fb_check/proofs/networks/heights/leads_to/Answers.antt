@@ -1,5 +1,5 @@
 use Rattle.std.proofs.Common.{sym, ◌∙◌}
-use Rattle.fb_check.proofs.networks.Circles.{leads_on}
+use Rattle.fb_check.proofs.lemmas.networks.Circles.{leads_on}
 use Rattle.fb_check.proofs.networks.heights.leads_to.Goals as goal
 
 pub loop-step-preserved : goal.loop-step-preserved

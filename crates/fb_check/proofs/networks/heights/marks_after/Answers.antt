@@ -1,5 +1,5 @@
 use Rattle.std.proofs.Common.{arith}
-use Rattle.fb_check.proofs.networks.Marked.{marks_more, marks_done}
+use Rattle.fb_check.proofs.lemmas.networks.Marked.{marks_more, marks_done}
 use Rattle.fb_check.proofs.networks.heights.marks_after.Goals as goal
 
 pub loop-round-preserved : goal.loop-round-preserved

@@ -1,4 +1,4 @@
-use Rattle.fb_check.proofs.networks.Circles.{high_answer}
+use Rattle.fb_check.proofs.lemmas.networks.Circles.{high_answer}
 use Rattle.fb_check.proofs.networks.heights.too_high_location.Goals as goal
 
 pub returns : goal.returns

@@ -1,9 +1,9 @@
-use Rattle.fb_check.proofs.networks.Circles.{height_applies}
-use Rattle.fb_check.proofs.networks.Joined.{misjoin_applies}
-use Rattle.fb_check.proofs.networks.Mapped.{unmapped_applies}
-use Rattle.fb_check.proofs.networks.Targets.{joined_applies}
-use Rattle.fb_check.proofs.networks.Unlinked.{unlinked_applies}
-use Rattle.fb_check.proofs.networks.Unserved.{unserved_applies}
+use Rattle.fb_check.proofs.lemmas.networks.Circles.{height_applies}
+use Rattle.fb_check.proofs.lemmas.networks.Joined.{misjoin_applies}
+use Rattle.fb_check.proofs.lemmas.networks.Mapped.{unmapped_applies}
+use Rattle.fb_check.proofs.lemmas.networks.Targets.{joined_applies}
+use Rattle.fb_check.proofs.lemmas.networks.Unlinked.{unlinked_applies}
+use Rattle.fb_check.proofs.lemmas.networks.Unserved.{unserved_applies}
 use Rattle.fb_check.proofs.networks.laws.locations_apply.Goals as goal
 
 pub returns : goal.returns

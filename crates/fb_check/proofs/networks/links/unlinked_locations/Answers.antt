@@ -9,11 +9,11 @@ use Rattle.fb_types.proofs.Elements.{Contains-nil}
 use Rattle.fb_check_names.specs.Listed.{each_at}
 use Rattle.fb_check_names.specs.declared.location.FlowKind.TheVariants.{Events, Data}
 use Rattle.fb_check_names.specs.declared.location.Unlinked.{Unlinked}
-use Rattle.fb_check.proofs.types.Added.{and_both, ok_joined}
+use Rattle.fb_check.proofs.lemmas.types.GrowingLists.{and_both, ok_joined}
 use Rattle.fb_check_names.proofs.Listing.{of_list}
 use Rattle.fb_check.specs.networks.Links.{AreWays, IsUnlinkedAt, unlinked_all, unlinked_at}
-use Rattle.fb_check.proofs.networks.Sets.{has_none, pair_cmp, pair_view}
-use Rattle.fb_check.proofs.networks.Unlinked.{each_unlinked, none_unlinked, ways_from}
+use Rattle.fb_check.proofs.lemmas.networks.SetsOfSeen.{has_none, pair_cmp, pair_view}
+use Rattle.fb_check.proofs.lemmas.networks.Unlinked.{each_unlinked, none_unlinked, ways_from}
 use Rattle.fb_check.proofs.networks.links.unlinked_locations.Goals as goal
 
 pub add_ways-requires : goal.add_ways-requires

@@ -7,9 +7,9 @@ use Rattle.fb_check_names.specs.Repeats.{repeats}
 use Rattle.fb_check_names.specs.declared.location.Unmapped.{Unmapped}
 use Rattle.fb_check_names.specs.declared.location.Unmapped.TheVariants.{Again}
 use Rattle.fb_check_names.specs.Indexes.{AreLastIndexes}
-use Rattle.fb_check.proofs.types.Added.{and_both, ok_joined}
+use Rattle.fb_check.proofs.lemmas.types.GrowingLists.{and_both, ok_joined}
 use Rattle.fb_check.specs.networks.Unmapped.{unlisted_at}
-use Rattle.fb_check.proofs.networks.Owners.{unlisted_are}
+use Rattle.fb_check.proofs.lemmas.networks.Owners.{unlisted_are}
 use Rattle.fb_check.proofs.networks.mapping.list_all.Goals as goal
 
 pub returns-clause-found : goal.returns-clause-found

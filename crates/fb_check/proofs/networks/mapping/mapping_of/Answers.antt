@@ -2,7 +2,7 @@ use Rattle.std.proofs.Common.{List, ◌++◌, ◌∙◌, ap}
 use Rattle.std.specs.Prelude.{flat_map}
 use Rattle.fb_types.specs.declared.deploy.ResourceEntry.{ResourceEntry}
 use Rattle.fb_check_names.specs.declared.location.Unmapped.{Unmapped}
-use Rattle.fb_check.proofs.networks.Mapped.{all_listed, all_mapped, found_among, none_of_all}
+use Rattle.fb_check.proofs.lemmas.networks.Mapped.{all_listed, all_mapped, found_among, none_of_all}
 use Rattle.fb_check.proofs.networks.mapping.mapping_of.Goals as goal
 
 pub returns-then-plan-clause-found : goal.returns-then-plan-clause-found

@@ -1,7 +1,7 @@
 use Rattle.std.proofs.Common.{Bool, false, not, Option, None, Some, sym, ◌∙◌, ap}
 use Rattle.fb_types.specs.Values.{fits}
 use Rattle.fb_types.specs.declared.value.Ty.{Ty}
-use Rattle.fb_check.proofs.networks.Valued.{not_not}
+use Rattle.fb_check.proofs.lemmas.networks.Valued.{not_not}
 use Rattle.fb_check.proofs.networks.parameters.is_right.Goals as goal
 
 pub returns-in-Some : goal.returns-in-Some

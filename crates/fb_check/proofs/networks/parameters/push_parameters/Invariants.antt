@@ -1,6 +1,6 @@
 use Rattle.std.proofs.Common.{◌≡◌, ◌++◌, drop}
 use Rattle.fb_check_names.specs.Listed.{each_at, each_from}
-use Rattle.fb_check.proofs.networks.Valued.{misfit_parameter}
+use Rattle.fb_check.proofs.lemmas.networks.Valued.{misfit_parameter}
 use Rattle.fb_check.proofs.networks.parameters.push_parameters.Given as goal
 
 abbrev pub invariant-loop-parameter : goal.invariant-loop-parameter

@@ -4,8 +4,8 @@ use Rattle.fb_types.specs.declared.library.Instance.{Instance}
 use Rattle.fb_types.specs.declared.library.Network.{Network}
 use Rattle.fb_check_names.proofs.Listing.{each_done_of, each_more}
 use Rattle.fb_check.specs.networks.Parameters.{misfit_parameters}
-use Rattle.fb_check.proofs.networks.Looking.{at_element}
-use Rattle.fb_check.proofs.networks.Valued.{inputs_at_index, type_at_index}
+use Rattle.fb_check.proofs.lemmas.networks.SearchLoops.{at_element}
+use Rattle.fb_check.proofs.lemmas.networks.Valued.{inputs_at_index, type_at_index}
 use Rattle.fb_check.proofs.networks.parameters.push_wrong_parameters.Goals as goal
 
 pub returns-in_default : goal.returns-in_default

@@ -1,5 +1,5 @@
 use Rattle.std.proofs.Common.{refl}
-use Rattle.fb_check.proofs.networks.Carried.{extended_none, extended_more}
+use Rattle.fb_check.proofs.lemmas.networks.CarriedData.{extended_none, extended_more}
 use Rattle.fb_check.proofs.networks.serving.extend.Goals as goal
 
 pub loop-name-init : goal.loop-name-init

@@ -1,6 +1,6 @@
 use Rattle.std.proofs.Common.{refl, ◌∙◌}
-use Rattle.fb_check.proofs.networks.Carried.{carried_none, carried_old, carried_new, all_served}
-use Rattle.fb_check.proofs.networks.Numbers.{withs_read}
+use Rattle.fb_check.proofs.lemmas.networks.CarriedData.{carried_none, carried_old, carried_new, all_served}
+use Rattle.fb_check.proofs.lemmas.networks.Numbers.{withs_read}
 use Rattle.fb_check.proofs.networks.serving.serve_all.Goals as goal
 use Rattle.fb_check.proofs.networks.serving.serve_all.Goals.{then-branch+in_ok-extend, else-branch}
 

@@ -1,5 +1,5 @@
 use Rattle.std.proofs.Common.{take}
-use Rattle.fb_check.proofs.networks.Carried.{AreCarried}
+use Rattle.fb_check.proofs.lemmas.networks.CarriedData.{AreCarried}
 use Rattle.fb_check.proofs.networks.serving.serve_all.Given as goal
 
 abbrev pub invariant-loop-index : goal.invariant-loop-index

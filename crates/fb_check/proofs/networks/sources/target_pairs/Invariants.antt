@@ -4,7 +4,7 @@ use Rattle.fb_check_names.specs.Ends.{end_port}
 use Rattle.fb_check_names.specs.Listed.{each_at, each_from}
 use Rattle.fb_check_names.proofs.Repeating.{AreLast, pair_in}
 use Rattle.fb_check.specs.networks.Sources.{target, targets}
-use Rattle.fb_check.proofs.networks.Targets.{end_cmp}
+use Rattle.fb_check.proofs.lemmas.networks.Targets.{end_cmp}
 use Rattle.fb_check.proofs.networks.sources.target_pairs.Given as goal
 
 abbrev pub invariant-loop-second : goal.invariant-loop-second

@@ -5,7 +5,7 @@ use Rattle.std.proofs.lemmas.Bool.Decides.{nat_tests}
 use Rattle.fb_check_names.specs.Listed.{each_at}
 use Rattle.fb_check_names.proofs.Listing.{added_unless, each_done, each_more}
 use Rattle.fb_check.specs.networks.Unserved.{is_served, unserved_at}
-use Rattle.fb_check.proofs.networks.Unserved.{served_is, served_same}
+use Rattle.fb_check.proofs.lemmas.networks.Unserved.{served_is, served_same}
 use Rattle.fb_check.proofs.networks.uncarried.unserved_connections.Goals as goal
 use Rattle.fb_check.proofs.networks.uncarried.unserved_connections.Goals.{then-from-to, else-from-to}
 

@@ -2,7 +2,7 @@ use Rattle.std.proofs.Common.{sym, ◌∙◌, ap}
 use Rattle.std.specs.Prelude.{option_map}
 use Rattle.std.proofs.lemmas.Option.{slice_get_past}
 use Rattle.fb_types.specs.declared.library.Variable.{Variable}
-use Rattle.fb_check.proofs.networks.Looking.{at_element}
+use Rattle.fb_check.proofs.lemmas.networks.SearchLoops.{at_element}
 use Rattle.fb_check.proofs.networks.variables.type_at.Goals as goal
 
 pub returns-in_err-get : goal.returns-in_err-get

@@ -5,8 +5,8 @@ use Rattle.fb_types.specs.declared.library.BlockType.TheVariants as block
 use Rattle.fb_check_names.specs.declared.location.Direction.TheVariants.{Input, Output}
 use Rattle.fb_check.specs.types.Roles.{Declared}
 use Rattle.fb_check.specs.types.Unknowns.{unknown_in_chart, unknown_withs}
-use Rattle.fb_check.proofs.types.Added.{and_added, all_added}
-use Rattle.fb_check.proofs.types.BlockNumbers.{has_indexes}
+use Rattle.fb_check.proofs.lemmas.types.GrowingLists.{and_added, all_added}
+use Rattle.fb_check.proofs.lemmas.types.BlockNumbers.{has_indexes}
 use Rattle.fb_check.proofs.types.basics.push_in_basic.Goals as goal
 
 pub index-indexes-requires : goal.index-indexes-requires

@@ -7,8 +7,8 @@ use Rattle.fb_check.specs.declared.types.basics.Naming.TheVariants as naming
 use Rattle.fb_check.specs.declared.types.mentions.Mention as gathered
 use Rattle.fb_check.specs.types.Mentions.{meant_all}
 use Rattle.fb_check.specs.types.Unknowns.{unknown_mentions}
-use Rattle.fb_check.proofs.types.Added.{and_both}
-use Rattle.fb_check.proofs.types.Mentioned.{mentions_are, mentions_of}
+use Rattle.fb_check.proofs.lemmas.types.GrowingLists.{and_both}
+use Rattle.fb_check.proofs.lemmas.types.Mentioned.{mentions_are, mentions_of}
 use Rattle.fb_check.proofs.types.basics.push_in_guard.Goals as goal
 
 pub returns : goal.returns

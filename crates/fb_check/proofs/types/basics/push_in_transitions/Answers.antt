@@ -1,6 +1,6 @@
 use Rattle.fb_check.specs.types.Unknowns.{unknown_in_transition}
 use Rattle.fb_check_names.proofs.Listing.{each_done, each_more}
-use Rattle.fb_check.proofs.types.Added.{both_added}
+use Rattle.fb_check.proofs.lemmas.types.GrowingLists.{both_added}
 use Rattle.fb_check.proofs.types.basics.push_in_transitions.Goals as goal
 
 pub loop-transition-preserved : goal.loop-transition-preserved

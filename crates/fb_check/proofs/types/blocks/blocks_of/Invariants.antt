@@ -1,7 +1,7 @@
 use Rattle.std.proofs.Common.{◌≡◌, ◌++◌, [], drop}
 use Rattle.fb_check_names.specs.Listed.{each_at, each_from}
 use Rattle.fb_check.specs.types.Unknowns.{unknown_in_block}
-use Rattle.fb_check.proofs.types.BlockNumbers.{AreFirst}
+use Rattle.fb_check.proofs.lemmas.types.BlockNumbers.{AreFirst}
 use Rattle.fb_check.proofs.types.blocks.blocks_of.Given as goal
 
 abbrev pub invariant-loop-block : goal.invariant-loop-block

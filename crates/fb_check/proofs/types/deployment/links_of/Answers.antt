@@ -5,16 +5,16 @@ use Rattle.fb_check_names.specs.declared.numbers.LinkEnds.{LinkEnds}
 use Rattle.fb_check_names.specs.Listed.{unless}
 use Rattle.fb_check_names.specs.declared.location.Side.TheVariants.{From, To}
 use Rattle.fb_check_names.specs.declared.location.UnknownName.TheVariants as location
-use Rattle.fb_check.specs.types.There.{each_there, ends_in, sides_unless, some_of}
+use Rattle.fb_check.specs.types.Present.{each_some, ends_in, sides_unless, some_of}
 use Rattle.fb_check_names.proofs.Listing.{each_done, each_more}
-use Rattle.fb_check.proofs.types.Added.{and_added, and_first, and_last, list_added, of_ok, one_added}
+use Rattle.fb_check.proofs.lemmas.types.GrowingLists.{and_added, and_first, and_last, list_added, of_ok, one_added}
 use Rattle.fb_check.proofs.types.deployment.links_of.Goals as goal
 
 abbrev joined : Option ℕ → Option ℕ → Option LinkEnds
 joined a b = option_and_then (λ x. option_map (λ y. record { from = x; to = y }) b) a
 
 pub loop-link-init : goal.loop-link-init
-loop-link-init c = (refl, ap (λ (es : List LinkEnds). es ++ each_there (ends_in c.args.resources.now) c.args.links.now) c.new-all.ensures)
+loop-link-init c = (refl, ap (λ (es : List LinkEnds). es ++ each_some (ends_in c.args.resources.now) c.args.links.now) c.new-all.ensures)
 
 pub loop-link-preserved : goal.loop-link-preserved
 loop-link-preserved c =
@@ -40,7 +40,7 @@ loop-link-preserved c =
     (ap (λ (o : Option LinkEnds). c.loop-link.all ++ some_of o) (c.link_between.ensures ∙ (λ i. joined ((c.index_of_name-from.ensures) i) ((c.index_of_name-to.ensures) i)))))) in (
       each_more (sides_unless m) c.args.links.now k x f0 f2 _ c.loop-link-test.true c.index-links-link.is listed
           c.loop-link.invariant.0,
-      one_added (each_there (ends_in m)) (λ x. some_of (ends_in m x)) c.args.links.now k x c.loop-link.all w1 _ (λ y ys. refl) c.loop-link-test.true c.index-links-link.is
+      one_added (each_some (ends_in m)) (λ x. some_of (ends_in m x)) c.args.links.now k x c.loop-link.all w1 _ (λ y ys. refl) c.loop-link-test.true c.index-links-link.is
           number c.loop-link.invariant.1,
     )
 
@@ -48,4 +48,4 @@ pub returns-clause-listed : goal.returns-clause-listed
 returns-clause-listed c = each_done (sides_unless c.args.resources.now) c.args.links.now c.loop-link.link c.loop-link.found.items _ c.loop-link-test.false c.loop-link.invariant.0
 
 pub returns-clause-numbers : goal.returns-clause-numbers
-returns-clause-numbers c = list_added (each_there (ends_in c.args.resources.now)) c.args.links.now c.loop-link.link c.loop-link.all _ refl c.loop-link-test.false c.loop-link.invariant.1
+returns-clause-numbers c = list_added (each_some (ends_in c.args.resources.now)) c.args.links.now c.loop-link.link c.loop-link.all _ refl c.loop-link-test.false c.loop-link.invariant.1

@@ -1,9 +1,9 @@
 use Rattle.std.proofs.Common.{◌≡◌, ◌++◌, drop}
-use Rattle.fb_check.specs.types.There.{each_there, ends_in, sides_unless}
+use Rattle.fb_check.specs.types.Present.{each_some, ends_in, sides_unless}
 use Rattle.fb_check_names.specs.Listed.{each_at, each_from}
 use Rattle.fb_check.proofs.types.deployment.links_of.Given as goal
 
 abbrev pub invariant-loop-link : goal.invariant-loop-link
 invariant-loop-link l =
     (l.found.items ++ each_from (sides_unless l.resources) l.link (drop l.link l.links) ≡ l.fn.found.items ++ each_at (sides_unless l.resources) l.links)
-    × (l.all ++ each_there (ends_in l.resources) (drop l.link l.links) ≡ each_there (ends_in l.resources) l.links)
+    × (l.all ++ each_some (ends_in l.resources) (drop l.link l.links) ≡ each_some (ends_in l.resources) l.links)

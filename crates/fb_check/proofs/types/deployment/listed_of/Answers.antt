@@ -1,15 +1,15 @@
 use Rattle.std.proofs.Common.{ℕ, List, Option, ◌++◌, refl, ◌∙◌, ap}
 use Rattle.std.specs.Prelude.{is_some}
 use Rattle.fb_check_names.specs.Indexes.{index_in}
-use Rattle.fb_check.specs.types.There.{each_there, mapped_unless, some_of}
+use Rattle.fb_check.specs.types.Present.{each_some, mapped_unless, some_of}
 use Rattle.fb_check_names.specs.declared.location.UnknownName.TheVariants as location
 use Rattle.fb_check_names.specs.Listed.{unless}
 use Rattle.fb_check_names.proofs.Listing.{each_done, each_more}
-use Rattle.fb_check.proofs.types.Added.{list_added, one_added}
+use Rattle.fb_check.proofs.lemmas.types.GrowingLists.{list_added, one_added}
 use Rattle.fb_check.proofs.types.deployment.listed_of.Goals as goal
 
 pub loop-instance-init : goal.loop-instance-init
-loop-instance-init c = (refl, ap (λ (ks : List ℕ). ks ++ each_there (index_in c.args.instances.now) c.args.names.now) c.new-numbers.ensures)
+loop-instance-init c = (refl, ap (λ (ks : List ℕ). ks ++ each_some (index_in c.args.instances.now) c.args.names.now) c.new-numbers.ensures)
 
 pub loop-instance-preserved : goal.loop-instance-preserved
 loop-instance-preserved c =
@@ -20,7 +20,7 @@ loop-instance-preserved c =
       each_more (mapped_unless m c.args.resource) c.args.names.now k x c.loop-instance.found.items c.push_found.new.found.items _ c.loop-instance-test.true c.index-names-instance.is
           (c.in_ok-push_found.ensures.listed ∙ ap (λ (o : Option ℕ). c.loop-instance.found.items ++ unless (is_some o) (location.Mapped c.args.resource k)) number)
           c.loop-instance.invariant.0,
-      one_added (each_there (index_in m)) (λ x. some_of (index_in m x)) c.args.names.now k x c.loop-instance.numbers c.push_found.new.items _ (λ y ys. refl)
+      one_added (each_some (index_in m)) (λ x. some_of (index_in m x)) c.args.names.now k x c.loop-instance.numbers c.push_found.new.items _ (λ y ys. refl)
           c.loop-instance-test.true c.index-names-instance.is (c.in_ok-push_found.ensures.item ∙ ap (λ (o : Option ℕ). c.loop-instance.numbers ++ some_of o) number) c.loop-instance.invariant.1,
     )
 
@@ -28,4 +28,4 @@ pub returns-clause-listed : goal.returns-clause-listed
 returns-clause-listed c = each_done (mapped_unless c.args.instances.now c.args.resource) c.args.names.now c.loop-instance.instance c.loop-instance.found.items _ c.loop-instance-test.false c.loop-instance.invariant.0
 
 pub returns-clause-numbers : goal.returns-clause-numbers
-returns-clause-numbers c = list_added (each_there (index_in c.args.instances.now)) c.args.names.now c.loop-instance.instance c.loop-instance.numbers _ refl c.loop-instance-test.false c.loop-instance.invariant.1
+returns-clause-numbers c = list_added (each_some (index_in c.args.instances.now)) c.args.names.now c.loop-instance.instance c.loop-instance.numbers _ refl c.loop-instance-test.false c.loop-instance.invariant.1

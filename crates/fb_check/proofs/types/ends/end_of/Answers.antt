@@ -11,7 +11,7 @@ use Rattle.fb_check_names.specs.Types.{port_number}
 use Rattle.fb_check_names.specs.declared.numbers.ConnectionEnd.{ConnectionEnd}
 use Rattle.fb_check_names.specs.declared.numbers.TypeNumber.{TypeNumber}
 use Rattle.fb_check.specs.types.Scopes.{component_number, placed}
-use Rattle.fb_check.proofs.types.Numbered.{component_is, end_there}
+use Rattle.fb_check.proofs.lemmas.types.NumbersOfNames.{component_is, end_there}
 use Rattle.fb_check.proofs.types.ends.end_of.Goals as goal
 
 -- an end at a component

@@ -8,17 +8,17 @@ use Rattle.fb_check_names.specs.declared.location.Side.TheVariants.{From, To}
 use Rattle.fb_check_names.specs.declared.location.UnknownName.{UnknownName}
 use Rattle.fb_check_names.specs.declared.location.UnknownName.TheVariants as location
 use Rattle.fb_check.specs.types.Scopes.{connection_number, placed}
-use Rattle.fb_check.specs.types.There.{each_there, some_of}
+use Rattle.fb_check.specs.types.Present.{each_some, some_of}
 use Rattle.fb_check.specs.types.Unknowns.{unknown_ends}
 use Rattle.fb_check_names.proofs.Listing.{each_done, each_more}
-use Rattle.fb_check.proofs.types.Added.{and_added, and_first, and_last, list_added, of_ok, one_added}
-use Rattle.fb_check.proofs.types.Numbered.{side_met}
+use Rattle.fb_check.proofs.lemmas.types.GrowingLists.{and_added, and_first, and_last, list_added, of_ok, one_added}
+use Rattle.fb_check.proofs.lemmas.types.NumbersOfNames.{side_met}
 use Rattle.fb_check.proofs.types.ends.wires_of.Goals as goal
 
 pub loop-connection-init : goal.loop-connection-init
 loop-connection-init c =
     let f = connection_number c.args.types.now.library.now (placed c.args.scope.now) c.args.flow in
-    (refl, ap (λ (ws : List NumberedConnection). ws ++ each_there f c.args.connections.now) c.new-wires.ensures)
+    (refl, ap (λ (ws : List NumberedConnection). ws ++ each_some f c.args.connections.now) c.new-wires.ensures)
 
 pub loop-connection-preserved : goal.loop-connection-preserved
 loop-connection-preserved c =
@@ -47,7 +47,7 @@ loop-connection-preserved c =
     (ap (λ (o : Option NumberedConnection). c.loop-connection.wires ++ some_of o) (c.connection_between.ensures ∙ (λ i. both_ends (c.side_of-from.ensures i) (c.side_of-to.ensures i)))))) in (
       each_more (unknown_ends lib c.args.site n c.args.flow) c.args.connections.now k x f0 f2 _
           c.loop-connection-test.true c.index-connections-connection.is listed c.loop-connection.invariant.0,
-      one_added (each_there f) (λ x. some_of (f x)) c.args.connections.now k x c.loop-connection.wires w1 _ (λ y ys. refl)
+      one_added (each_some f) (λ x. some_of (f x)) c.args.connections.now k x c.loop-connection.wires w1 _ (λ y ys. refl)
           c.loop-connection-test.true c.index-connections-connection.is number c.loop-connection.invariant.1,
     )
 
@@ -57,5 +57,5 @@ returns-clause-listed c =
 
 pub returns-clause-numbers : goal.returns-clause-numbers
 returns-clause-numbers c =
-    list_added (each_there (connection_number c.args.types.now.library.now (placed c.args.scope.now) c.args.flow)) c.args.connections.now c.loop-connection.connection c.loop-connection.wires _ refl
+    list_added (each_some (connection_number c.args.types.now.library.now (placed c.args.scope.now) c.args.flow)) c.args.connections.now c.loop-connection.connection c.loop-connection.wires _ refl
     c.loop-connection-test.false c.loop-connection.invariant.1

@@ -4,8 +4,8 @@ use Rattle.fb_types.specs.Unknown.{mentions, mentions_all}
 use Rattle.fb_types.specs.declared.text.Expr.{Expr}
 use Rattle.fb_check.specs.types.Trees.{arguments_of}
 use Rattle.fb_check.specs.types.Mentions.{meant_all}
-use Rattle.fb_check.proofs.types.Added.{all_added, and_added, list_added, one_added}
-use Rattle.fb_check.proofs.types.Mentioned.{binary_names, call_names, group_names, unary_names, variable_names}
+use Rattle.fb_check.proofs.lemmas.types.GrowingLists.{all_added, and_added, list_added, one_added}
+use Rattle.fb_check.proofs.lemmas.types.Mentioned.{binary_names, call_names, group_names, unary_names, variable_names}
 use Rattle.fb_check.proofs.types.mentions.+expression.Goals as goal
 
 pub push_arguments-loop-argument-preserved : goal.push_arguments-loop-argument-preserved

@@ -6,8 +6,8 @@ use Rattle.fb_types.specs.declared.text.Choice.{Choice}
 use Rattle.fb_types.specs.declared.text.Stmt.{Stmt}
 use Rattle.fb_check.specs.types.Trees.{all_of, branch_of, branches_of, choice_of, choices_of}
 use Rattle.fb_check.specs.types.Mentions.{meant_all}
-use Rattle.fb_check.proofs.types.Added.{all_added, and_added, both_added, list_added, one_added}
-use Rattle.fb_check.proofs.types.Mentioned.{assign_names, branch_names, case_names, choice_names, for_names, if_names, repeat_names, while_names}
+use Rattle.fb_check.proofs.lemmas.types.GrowingLists.{all_added, and_added, both_added, list_added, one_added}
+use Rattle.fb_check.proofs.lemmas.types.Mentioned.{assign_names, branch_names, case_names, choice_names, for_names, if_names, repeat_names, while_names}
 use Rattle.fb_check.proofs.types.mentions.+statement.Goals as goal
 
 pub push_branches-loop-branch-preserved : goal.push_branches-loop-branch-preserved

@@ -3,7 +3,7 @@ use Rattle.fb_types.specs.Names.{Name}
 use Rattle.fb_types.specs.Syntax.{expr_of}
 use Rattle.fb_types.specs.Unknown.{Mention, OfVariable, mentions}
 use Rattle.fb_check.specs.types.Mentions.{meant_all, mentions_of_step}
-use Rattle.fb_check.proofs.types.Added.{and_added}
+use Rattle.fb_check.proofs.lemmas.types.GrowingLists.{and_added}
 use Rattle.fb_check.proofs.types.mentions.push_control.Goals as goal
 
 pub returns : goal.returns

@@ -1,5 +1,5 @@
 use Rattle.fb_check.specs.types.Mentions.{meant}
-use Rattle.fb_check.proofs.types.Added.{meaning_added}
+use Rattle.fb_check.proofs.lemmas.types.GrowingLists.{meaning_added}
 use Rattle.fb_check.proofs.types.mentions.push_mention.Goals as goal
 
 pub returns : goal.returns

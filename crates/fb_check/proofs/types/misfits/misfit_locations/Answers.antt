@@ -7,13 +7,13 @@ use Rattle.fb_check.specs.types.Checks.{AreBlocks}
 use Rattle.fb_check_names.specs.Listed.{each_at}
 use Rattle.fb_check_names.specs.declared.location.Misfit.{Misfit}
 use Rattle.fb_check_names.specs.declared.location.Site.TheVariants.{Application}
-use Rattle.fb_check.proofs.types.Added.{and_both, ok_joined}
+use Rattle.fb_check.proofs.lemmas.types.GrowingLists.{and_both, ok_joined}
 use Rattle.fb_check_names.proofs.Listing.{of_list}
 use Rattle.fb_check.specs.networks.Parameters.{misfits_in_network}
 use Rattle.fb_check.specs.types.MisfitLists.{misfits_all, misfits_in_block}
 use Rattle.fb_check.specs.types.Misfits.{IsMisfitAt}
-use Rattle.fb_check.proofs.types.KindWitnesses.{each_misfit, none_misfit}
-use Rattle.fb_check.proofs.types.NumberedKinds.{all_inside}
+use Rattle.fb_check.proofs.lemmas.types.KindWitnesses.{each_misfit, none_misfit}
+use Rattle.fb_check.proofs.lemmas.types.NumberedKinds.{all_inside}
 use Rattle.fb_check.proofs.types.misfits.misfit_locations.Goals as goal
 
 pub push_in_blocks-requires : goal.push_in_blocks-requires

@@ -3,7 +3,7 @@ use Rattle.fb_types.specs.declared.library.BasicType.{BasicType}
 use Rattle.fb_check_names.specs.Listed.{each_at}
 use Rattle.fb_check_names.specs.declared.location.Misfit.{Misfit}
 use Rattle.fb_check.specs.types.MisfitLists.{misfit_guard, misfits_in_body}
-use Rattle.fb_check.proofs.types.Added.{and_added}
+use Rattle.fb_check.proofs.lemmas.types.GrowingLists.{and_added}
 use Rattle.fb_check.proofs.types.misfits.push_in_basic.Goals as goal
 
 pub returns : goal.returns

@@ -1,7 +1,7 @@
 use Rattle.std.proofs.Common.{subst}
 use Rattle.fb_types.specs.declared.library.BlockType.{BlockType}
 use Rattle.fb_check.specs.types.Insides.{AreInside}
-use Rattle.fb_check.proofs.types.NumberedKinds.{inside_numbers}
+use Rattle.fb_check.proofs.lemmas.types.NumberedKinds.{inside_numbers}
 use Rattle.fb_check.proofs.types.misfits.push_in_block.Goals as goal
 
 pub push_wrong_parameters-requires : goal.push_wrong_parameters-requires

@@ -4,7 +4,7 @@ use Rattle.std.proofs.lemmas.Option.{slice_get_read}
 use Rattle.fb_types.specs.declared.library.BlockType.{BlockType}
 use Rattle.fb_check_names.specs.declared.numbers.NetworkNumbers.{NetworkNumbers}
 use Rattle.fb_check_names.proofs.Listing.{each_done_of, each_more}
-use Rattle.fb_check.proofs.networks.Looking.{at_element}
+use Rattle.fb_check.proofs.lemmas.networks.SearchLoops.{at_element}
 use Rattle.fb_check.specs.types.Insides.{AreInside}
 use Rattle.fb_check.specs.types.MisfitLists.{misfits_in_block}
 use Rattle.fb_check.proofs.types.misfits.push_in_blocks.Goals as goal

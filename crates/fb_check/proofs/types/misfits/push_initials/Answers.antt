@@ -4,7 +4,7 @@ use Rattle.fb_check_names.specs.Listed.{each_at}
 use Rattle.fb_check_names.specs.declared.location.Misfit.{Misfit}
 use Rattle.fb_check_names.specs.declared.location.Variables.TheVariants.{Inputs, Outputs, Internals}
 use Rattle.fb_check.specs.types.MisfitLists.{misfit_initial}
-use Rattle.fb_check.proofs.types.Added.{and_added}
+use Rattle.fb_check.proofs.lemmas.types.GrowingLists.{and_added}
 use Rattle.fb_check.proofs.types.misfits.push_initials.Goals as goal
 
 pub returns : goal.returns

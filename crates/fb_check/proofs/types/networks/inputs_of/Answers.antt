@@ -3,18 +3,18 @@ use Rattle.std.specs.Prelude.{is_some}
 use Rattle.fb_types.specs.Unknown.{data_ins}
 use Rattle.fb_types.specs.declared.library.Parameter.{Parameter}
 use Rattle.fb_check_names.specs.Types.{port_number}
-use Rattle.fb_check.specs.types.There.{each_there, some_of}
+use Rattle.fb_check.specs.types.Present.{each_some, some_of}
 use Rattle.fb_check_names.specs.Listed.{unless}
 use Rattle.fb_check_names.specs.declared.location.UnknownName.{UnknownName}
 use Rattle.fb_check_names.specs.declared.location.UnknownName.TheVariants as location
 use Rattle.fb_check_names.proofs.Listing.{each_done, each_more}
-use Rattle.fb_check.proofs.types.Added.{list_added, one_added}
+use Rattle.fb_check.proofs.lemmas.types.GrowingLists.{list_added, one_added}
 use Rattle.fb_check.proofs.types.networks.inputs_of.Goals as goal
 
 pub loop-parameter-init : goal.loop-parameter-init
 loop-parameter-init c =
     let f : Parameter → Option ℕ = λ x. port_number c.args.types.now.library.now c.args.number data_ins x.name in
-    (refl, ap (λ (ks : List ℕ). ks ++ each_there f c.args.parameters.now) c.new-inputs.ensures)
+    (refl, ap (λ (ks : List ℕ). ks ++ each_some f c.args.parameters.now) c.new-inputs.ensures)
 
 pub loop-parameter-preserved : goal.loop-parameter-preserved
 loop-parameter-preserved c =
@@ -25,7 +25,7 @@ loop-parameter-preserved c =
           c.loop-parameter-test.true c.index-parameters-parameter.is
           (c.in_ok-push_found.ensures.listed ∙ ap (λ (o : Option ℕ). c.loop-parameter.found.items ++ unless (is_some o) (at c.loop-parameter.parameter)) c.port_of-input.ensures)
           c.loop-parameter.invariant.0,
-      one_added (each_there f) (λ x. some_of (f x)) c.args.parameters.now c.loop-parameter.parameter x c.loop-parameter.inputs c.push_found.new.items _ (λ y ys. refl)
+      one_added (each_some f) (λ x. some_of (f x)) c.args.parameters.now c.loop-parameter.parameter x c.loop-parameter.inputs c.push_found.new.items _ (λ y ys. refl)
           c.loop-parameter-test.true c.index-parameters-parameter.is (c.in_ok-push_found.ensures.item ∙ ap (λ (o : Option ℕ). c.loop-parameter.inputs ++ some_of o) c.port_of-input.ensures) c.loop-parameter.invariant.1,
     )
 
@@ -37,4 +37,4 @@ returns-clause-listed c =
 pub returns-clause-numbers : goal.returns-clause-numbers
 returns-clause-numbers c =
     let f : Parameter → Option ℕ = λ x. port_number c.args.types.now.library.now c.args.number data_ins x.name in
-    list_added (each_there f) c.args.parameters.now c.loop-parameter.parameter c.loop-parameter.inputs _ refl c.loop-parameter-test.false c.loop-parameter.invariant.1
+    list_added (each_some f) c.args.parameters.now c.loop-parameter.parameter c.loop-parameter.inputs _ refl c.loop-parameter-test.false c.loop-parameter.invariant.1

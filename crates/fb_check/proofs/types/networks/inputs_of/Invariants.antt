@@ -3,7 +3,7 @@ use Rattle.std.specs.Prelude.{is_some}
 use Rattle.fb_types.specs.Unknown.{data_ins}
 use Rattle.fb_types.specs.declared.library.Parameter.{Parameter}
 use Rattle.fb_check_names.specs.Types.{port_number}
-use Rattle.fb_check.specs.types.There.{each_there}
+use Rattle.fb_check.specs.types.Present.{each_some}
 use Rattle.fb_check_names.specs.Listed.{each_at, each_from, unless}
 use Rattle.fb_check_names.specs.declared.location.UnknownName.TheVariants as location
 use Rattle.fb_check.proofs.types.networks.inputs_of.Given as goal
@@ -11,4 +11,4 @@ use Rattle.fb_check.proofs.types.networks.inputs_of.Given as goal
 abbrev pub invariant-loop-parameter : goal.invariant-loop-parameter
 invariant-loop-parameter l =
     (l.found.items ++ each_from (λ p (x : Parameter). unless (is_some (port_number l.types.library.now l.number data_ins x.name)) (location.Parameter l.site l.instance p)) l.parameter (drop l.parameter l.parameters) ≡ l.fn.found.items ++ each_at (λ p (x : Parameter). unless (is_some (port_number l.types.library.now l.number data_ins x.name)) (location.Parameter l.site l.instance p)) l.parameters)
-    × (l.inputs ++ each_there (λ (x : Parameter). port_number l.types.library.now l.number data_ins x.name) (drop l.parameter l.parameters) ≡ each_there (λ (x : Parameter). port_number l.types.library.now l.number data_ins x.name) l.parameters)
+    × (l.inputs ++ each_some (λ (x : Parameter). port_number l.types.library.now l.number data_ins x.name) (drop l.parameter l.parameters) ≡ each_some (λ (x : Parameter). port_number l.types.library.now l.number data_ins x.name) l.parameters)

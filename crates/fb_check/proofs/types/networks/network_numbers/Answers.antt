@@ -5,21 +5,21 @@ use Rattle.fb_check_names.specs.declared.numbers.TypeNumber.{TypeNumber}
 use Rattle.fb_check_names.specs.Listed.{each_at}
 use Rattle.fb_check_names.specs.declared.location.FlowKind.TheVariants.{Events, Data}
 use Rattle.fb_check.specs.types.Scopes.{connection_number, inputs_in, number_in, placed}
-use Rattle.fb_check.specs.types.There.{each_there}
+use Rattle.fb_check.specs.types.Present.{each_some}
 use Rattle.fb_check.specs.types.Unknowns.{unknown_ends, unknown_in_instance}
-use Rattle.fb_check.proofs.types.Added.{three_added}
-use Rattle.fb_check.proofs.types.Numbered.{network_resolved}
+use Rattle.fb_check.proofs.lemmas.types.GrowingLists.{three_added}
+use Rattle.fb_check.proofs.lemmas.types.NumbersOfNames.{network_resolved}
 use Rattle.fb_check.proofs.types.networks.network_numbers.Goals as goal
 
 pub wires_of-requires-clause-typed : goal.wires_of-requires-clause-typed
 wires_of-requires-clause-typed c =
     let kind : Instance → Option TypeNumber = λ i. Some (number_in c.args.types.now.library.now i.block_type) in
-    c.in_ok-push_instances.ensures.kinds ∙ ap (λ (ks : List TypeNumber). ks ++ each_there kind c.as_slice-instances.result.now) c.new-kinds.ensures ∙ ap (each_there kind) c.as_slice-instances.ensures
+    c.in_ok-push_instances.ensures.kinds ∙ ap (λ (ks : List TypeNumber). ks ++ each_some kind c.as_slice-instances.result.now) c.new-kinds.ensures ∙ ap (each_some kind) c.as_slice-instances.ensures
 
 pub wires_of-requires-2-clause-typed : goal.wires_of-requires-2-clause-typed
 wires_of-requires-2-clause-typed c =
     let kind : Instance → Option TypeNumber = λ i. Some (number_in c.args.types.now.library.now i.block_type) in
-    c.in_ok-push_instances.ensures.kinds ∙ ap (λ (ks : List TypeNumber). ks ++ each_there kind c.as_slice-instances.result.now) c.new-kinds.ensures ∙ ap (each_there kind) c.as_slice-instances.ensures
+    c.in_ok-push_instances.ensures.kinds ∙ ap (λ (ks : List TypeNumber). ks ++ each_some kind c.as_slice-instances.result.now) c.new-kinds.ensures ∙ ap (each_some kind) c.as_slice-instances.ensures
 
 pub returns-clause-listed : goal.returns-clause-listed
 returns-clause-listed c =
@@ -41,7 +41,7 @@ returns-clause-numbers c =
     let kind : Instance → Option TypeNumber = λ i. Some (number_in lib i.block_type) in
     let set : Instance → Option (List ℕ) = λ i. Some (inputs_in lib i) in
     network_resolved lib c.args.site n _
-    (c.in_ok-push_instances.ensures.kinds ∙ ap (λ (ks : List TypeNumber). ks ++ each_there kind c.as_slice-instances.result.now) c.new-kinds.ensures ∙ ap (each_there kind) c.as_slice-instances.ensures)
-    (c.in_ok-push_instances.ensures.inputs ∙ ap (λ (ks : List (List ℕ)). ks ++ each_there set c.as_slice-instances.result.now) c.new-inputs.ensures ∙ ap (each_there set) c.as_slice-instances.ensures)
-    (c.in_ok-event_wires.ensures.numbers ∙ ap (each_there (connection_number lib n Events)) c.as_slice-events.ensures)
-    (c.in_ok-data_wires.ensures.numbers ∙ ap (each_there (connection_number lib n Data)) c.as_slice-data.ensures)
+    (c.in_ok-push_instances.ensures.kinds ∙ ap (λ (ks : List TypeNumber). ks ++ each_some kind c.as_slice-instances.result.now) c.new-kinds.ensures ∙ ap (each_some kind) c.as_slice-instances.ensures)
+    (c.in_ok-push_instances.ensures.inputs ∙ ap (λ (ks : List (List ℕ)). ks ++ each_some set c.as_slice-instances.result.now) c.new-inputs.ensures ∙ ap (each_some set) c.as_slice-instances.ensures)
+    (c.in_ok-event_wires.ensures.numbers ∙ ap (each_some (connection_number lib n Events)) c.as_slice-events.ensures)
+    (c.in_ok-data_wires.ensures.numbers ∙ ap (each_some (connection_number lib n Data)) c.as_slice-data.ensures)

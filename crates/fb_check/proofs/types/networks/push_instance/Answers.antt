@@ -9,10 +9,10 @@ use Rattle.fb_check_names.specs.declared.numbers.TypeNumber.TheVariants as numbe
 use Rattle.fb_check_names.specs.declared.location.UnknownName.{UnknownName}
 use Rattle.fb_check_names.specs.declared.location.UnknownName.TheVariants as location
 use Rattle.fb_check.specs.types.Scopes.{inputs_of_type, number_or, number_past}
-use Rattle.fb_check.specs.types.There.{each_there}
-use Rattle.fb_check.proofs.types.Added.{and_first, and_last, in_any_case}
-use Rattle.fb_check.proofs.types.NetworkLocations.{no_parameters}
-use Rattle.fb_check.proofs.types.Numbered.{known_instance, no_kind, type_unmet}
+use Rattle.fb_check.specs.types.Present.{each_some}
+use Rattle.fb_check.proofs.lemmas.types.GrowingLists.{and_first, and_last, in_any_case}
+use Rattle.fb_check.proofs.lemmas.types.NetworkLocations.{no_parameters}
+use Rattle.fb_check.proofs.lemmas.types.NumbersOfNames.{known_instance, no_kind, type_unmet}
 use Rattle.fb_check.proofs.types.networks.push_instance.Goals as goal
 
 pub returns-in_ok-set-in-Some-clause-listed : goal.returns-in_ok-set-in-Some-clause-listed
@@ -41,7 +41,7 @@ returns-in_ok-set-in-Some-clause-inputs c =
     and_last _ c.and.result c.push.result c.push-in-Some.result c.and.ensures
     (IfOk-equal c.push-in-Some.result c.push-in-Some.new.self _ _ c.push-in-Some.ensures.ok
     (ap (λ (ks : List ℕ). c.args.inputs.now ++ ks ∷ [])
-    (c.in_ok-set-in-Some.ensures.numbers ∙ ap (each_there f) c.as_slice-parameters.ensures ∙ ap (inputs_of_type lib i) (sym known))))
+    (c.in_ok-set-in-Some.ensures.numbers ∙ ap (each_some f) c.as_slice-parameters.ensures ∙ ap (inputs_of_type lib i) (sym known))))
 
 pub returns-in-None-clause-listed : goal.returns-in-None-clause-listed
 returns-in-None-clause-listed c =

@@ -6,8 +6,8 @@ use Rattle.fb_types.specs.declared.text.Choice.{Choice}
 use Rattle.fb_types.specs.declared.text.Stmt.{Stmt}
 use Rattle.fb_check.specs.types.Trees.{all_of, branch_of, branches_of, choice_of, choices_of}
 use Rattle.fb_check.specs.types.Statements.{all_standing, each_in_body, each_in_branches, each_in_choices, each_inside, standing_of}
-use Rattle.fb_check.proofs.types.Added.{all_added, and_added, both_added, list_added, one_added}
-use Rattle.fb_check.proofs.types.Inside.{inside_branch, inside_case, inside_choice, inside_if, inside_loop}
+use Rattle.fb_check.proofs.lemmas.types.GrowingLists.{all_added, and_added, both_added, list_added, one_added}
+use Rattle.fb_check.proofs.lemmas.types.InnerStatements.{inside_branch, inside_case, inside_choice, inside_if, inside_loop}
 use Rattle.fb_check.proofs.types.statements.+statement.Goals as goal
 
 pub push_branches-loop-branch-preserved : goal.push_branches-loop-branch-preserved

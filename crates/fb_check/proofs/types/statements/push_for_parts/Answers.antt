@@ -4,7 +4,7 @@ use Rattle.fb_check_names.specs.Listed.{unless}
 use Rattle.fb_check_names.specs.declared.location.Misfit.{Misfit}
 use Rattle.fb_check_names.specs.declared.location.StatementPart.TheVariants as part
 use Rattle.fb_check.specs.types.MisfitLists.{part_at, wrong_control}
-use Rattle.fb_check.proofs.types.Added.{and_added}
+use Rattle.fb_check.proofs.lemmas.types.GrowingLists.{and_added}
 use Rattle.fb_check.proofs.types.statements.push_for_parts.Goals as goal
 
 pub returns : goal.returns

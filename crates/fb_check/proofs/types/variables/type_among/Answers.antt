@@ -1,5 +1,5 @@
 use Rattle.std.proofs.Common.{◌++◌, sym, ◌∙◌}
-use Rattle.fb_check.proofs.types.Typed.{type_back, type_front}
+use Rattle.fb_check.proofs.lemmas.types.VariableTypes.{type_back, type_front}
 use Rattle.fb_check.proofs.types.variables.type_among.Goals as goal
 
 pub returns-in-Some : goal.returns-in-Some

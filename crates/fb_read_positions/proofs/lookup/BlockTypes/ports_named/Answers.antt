@@ -3,7 +3,7 @@ use Rattle.std.specs.Prelude.{slice_get}
 use Rattle.std.specs.Option.{option_copied}
 use Rattle.fb_types.specs.Blocks.{event_block_named}
 use Rattle.fb_types.specs.declared.library.Ports.{Ports}
-use Rattle.fb_read_positions.proofs.TypePorts.{event_ports_are, declared_ports_are}
+use Rattle.fb_read_positions.proofs.lemmas.TypePorts.{event_ports_are, declared_ports_are}
 use Rattle.fb_read_positions.proofs.lookup.BlockTypes.ports_named.Goals as goal
 
 pub returns-in-Some : goal.returns-in-Some

@@ -1,6 +1,6 @@
 use Rattle.std.proofs.Common.{sym, ◌∙◌, ap}
 use Rattle.fb_check.specs.types.Roles.{is_port}
-use Rattle.fb_check.proofs.types.Roles.{port_says, says}
+use Rattle.fb_check.proofs.lemmas.types.Roles.{port_says, says}
 use Rattle.fb_check.proofs.types.interface.Interface.has_port.Goals as goal
 
 pub returns-in-Some : goal.returns-in-Some

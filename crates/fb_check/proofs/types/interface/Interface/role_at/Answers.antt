@@ -4,7 +4,7 @@ use Rattle.std.proofs.lemmas.Option.{slice_get_read, slice_get_past}
 use Rattle.fb_types.specs.declared.library.Variable.{Variable}
 use Rattle.fb_check.specs.types.Roles.{Declared}
 use Rattle.fb_check.specs.declared.types.interface.Role.TheVariants.{Internal}
-use Rattle.fb_check.proofs.types.Roles.{role_at, IsPast, at_event_input, at_event_output, is_past, at_input, at_output, at_internal, not_there}
+use Rattle.fb_check.proofs.lemmas.types.Roles.{role_at, IsPast, at_event_input, at_event_output, is_past, at_input, at_output, at_internal, not_there}
 use Rattle.fb_check.proofs.types.interface.Interface.role_at.Goals as goal
 
 pub returns-in_default : goal.returns-in_default

@@ -1,5 +1,5 @@
 use Rattle.std.proofs.Common.{sym, ◌∙◌, ap}
-use Rattle.fb_check.proofs.types.Roles.{says_type, type_says}
+use Rattle.fb_check.proofs.lemmas.types.Roles.{says_type, type_says}
 use Rattle.fb_check.proofs.types.interface.Interface.type_of.Goals as goal
 
 pub returns-in-Some : goal.returns-in-Some

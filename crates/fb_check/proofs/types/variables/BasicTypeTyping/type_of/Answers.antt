@@ -4,7 +4,7 @@ use Rattle.fb_types.specs.declared.library.Variable.{Variable}
 use Rattle.fb_types.specs.declared.value.Ty.{Ty}
 use Rattle.fb_types.specs.declared.value.Ty.TheVariants.{Bool as Boolean}
 use Rattle.fb_types.specs.Blocks.{type_named}
-use Rattle.fb_check.proofs.types.Typed.{type_or_boolean}
+use Rattle.fb_check.proofs.lemmas.types.VariableTypes.{type_or_boolean}
 use Rattle.fb_check.proofs.types.variables.BasicTypeTyping.type_of.Goals as goal
 
 pub returns : goal.returns

@@ -1,0 +1,10 @@
+pub mod networks
+pub mod types
+pub mod AcceptedInputs
+pub mod Verdict
+pub mod FilledByName
+pub mod DirectoryEntries
+pub mod DataSources
+pub mod GoodStimuli
+pub mod RefusedStimuli
+pub mod StimulusRows

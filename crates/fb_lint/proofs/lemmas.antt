@@ -1,0 +1,4 @@
+pub mod WarningLists
+pub mod Edges
+pub mod ReachedStates
+pub mod WarningsHold

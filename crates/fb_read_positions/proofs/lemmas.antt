@@ -1,0 +1,12 @@
+pub mod ReadingLoops
+pub mod PassedTokens
+pub mod NamesAtTokens
+pub mod IndexedItems
+pub mod ClauseSteps
+pub mod StatementSteps
+pub mod EndsOfWalks
+pub mod TokensLeft
+pub mod ResumedWalks
+pub mod TypePorts
+pub mod PlacesOfPositions
+pub mod LinesAndColumns

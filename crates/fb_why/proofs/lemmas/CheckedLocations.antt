@@ -1,0 +1,177 @@
+-- The locations that the check lists, as those of a refusal.
+use Rattle.std.proofs.Common.{◌≡◌, ◌≢◌, ℕ, ◌<◌, ◌≤◌, List, [], ◌∷◌, ◌∙◌, ap, length, map, refl, sym, subst, ⊎_elim, arith}
+use Rattle.std.specs.Prelude.{All, eqb, if◌then◌else◌}
+use Rattle.std.proofs.lemmas.Bool.{cases_lt}
+use Rattle.std.proofs.lemmas.List.Elements.{All-cons, All-nil}
+use Rattle.fb_types.specs.Accepted.{IsAccepted, IsLeastFault}
+use Rattle.fb_types.specs.Headline.{inputs}
+use Rattle.fb_types.specs.Repeated.{NameTwice}
+use Rattle.fb_types.specs.declared.deploy.Plan.{Plan}
+use Rattle.fb_types.specs.declared.deploy.Stimulus.{Stimulus}
+use Rattle.fb_types.specs.declared.library.Library.{Library}
+use Rattle.fb_check_names.specs.declared.twice.GivenTwice.{GivenTwice}
+use Rattle.fb_check_names.proofs.Listing.{none_said}
+use Rattle.fb_check_names.specs.Twice.{IsTwiceAt}
+use Rattle.fb_check_names.specs.TwiceLists.{twice_all}
+use Rattle.fb_check_names.proofs.AllTwice.{each_twice, none_twice}
+use Rattle.fb_check_names.proofs.Applying.{twice_applies}
+use Rattle.fb_check_names.specs.declared.location.Joined.{Joined}
+use Rattle.fb_check_names.specs.declared.location.Misfit.{Misfit}
+use Rattle.fb_check_names.specs.declared.location.Misjoin.{Misjoin}
+use Rattle.fb_check_names.specs.declared.location.UnknownName.{UnknownName}
+use Rattle.fb_check_names.specs.declared.location.Unlinked.{Unlinked}
+use Rattle.fb_check_names.specs.declared.location.Unmapped.{Unmapped}
+use Rattle.fb_check.specs.types.Unknowns.{unknown_all}
+use Rattle.fb_check.proofs.lemmas.types.UnknownWitnesses.{each_unknown, none_unknown}
+use Rattle.fb_check.specs.types.MisfitLists.{misfits_all}
+use Rattle.fb_check.proofs.lemmas.types.KindWitnesses.{each_misfit, none_misfit}
+use Rattle.fb_check.specs.networks.Links.{unlinked_all}
+use Rattle.fb_check.specs.networks.Misjoins.{misjoins_all}
+use Rattle.fb_check.specs.networks.Sources.{joined_all}
+use Rattle.fb_check.specs.networks.Unmapped.{unmapped_all}
+use Rattle.fb_check.specs.networks.Unserved.{unserved_all}
+use Rattle.fb_check.proofs.lemmas.networks.Joined.{each_misjoin, none_misjoin}
+use Rattle.fb_check.proofs.lemmas.networks.Mapped.{each_unmapped, none_unmapped}
+use Rattle.fb_check.proofs.lemmas.networks.Targets.{each_joined, none_joined}
+use Rattle.fb_check.proofs.lemmas.networks.Unlinked.{each_unlinked, none_unlinked}
+use Rattle.fb_check.proofs.lemmas.networks.Unserved.{each_unserved, none_unserved}
+use Rattle.fb_check.specs.Faults.{number_of}
+use Rattle.fb_check.specs.Refusals as refusal
+use Rattle.fb_check.specs.Refusals.{IsRefusal}
+use Rattle.fb_check.specs.declared.location.StimulusLocation.{StimulusLocation}
+use Rattle.fb_check.specs.declared.refusal.Refusal.{Refusal}
+use Rattle.fb_check.proofs.lemmas.Verdict.{first, least_20, passes_21, passes_22, passes_23, passes_24, passes_26, passes_27, passes_28}
+use Rattle.fb_why.specs.Findings.{AppliesAt, AppliesNowhere}
+use Rattle.fb_why.specs.Listings.{AreAll, AreLocations}
+use Rattle.fb_check.specs.declared.fault.Fault.{Fault}
+use Rattle.fb_check.specs.declared.fault.Fault.TheVariants as check
+use Rattle.fb_check.specs.declared.location.Location.{Location}
+use Rattle.fb_check.specs.declared.location.Location.TheVariants as at
+use Rattle.fb_why.proofs.lemmas.FindingsOfNumbers.{list_locations}
+
+-- ---- Another number
+
+-- another number is the first that applies
+other_least : (m n : ℕ) (lib : Library) (plan : Plan) (stimuli : List Stimulus) → IsLeastFault m lib plan stimuli → m ≢ n → ¬ (IsLeastFault n lib plan stimuli)
+other_least m n lib plan stimuli a apart b =
+    ⊎_elim (λ (l : m < n). b.least m l a.applies)
+    (λ (h : n ≤ m). ⊎_elim (λ (l : n < m). a.least n l b.applies) (λ (g : m ≤ n). apart (omega arith)) (cases_lt n m))
+    (cases_lt m n)
+
+nothing :
+    (f : Fault) (lib : Library) (plan : Plan) (stimuli : List Stimulus) (ss : List Location) → ss ≡ [] → AppliesNowhere f lib plan stimuli → AreAll f lib plan stimuli [] → AreLocations f lib plan stimuli ss
+nothing f lib plan stimuli ss e nowhere all = record {
+  each = subst (λ (ss : List Location). All (AppliesAt f lib plan stimuli) ss) (sym e) (All-nil (AppliesAt f lib plan stimuli));
+  none = λ _. nowhere;
+  all = subst (λ (ss : List Location). AreAll f lib plan stimuli ss) (sym e) all;
+}
+
+-- if it is not the first that applies, nothing is listed
+absent :
+    (f : Fault) (lib : Library) (plan : Plan) (stimuli : List Stimulus) (ss : List Location) → ¬ (IsLeastFault (number_of f) lib plan stimuli) → ss ≡ [] → AreLocations f lib plan stimuli ss
+absent check.NameTwice lib plan stimuli ss other e =
+    let once : ¬ (NameTwice lib plan) = λ t. other (least_20 lib plan stimuli (first lib plan stimuli) t) in
+    nothing check.NameTwice lib plan stimuli ss e once
+    (ap (map (λ (p : GivenTwice). at.NameTwice p)) (sym (none_said (IsTwiceAt lib plan) (twice_all lib plan) (λ p h. once (twice_applies lib plan p h)) (each_twice lib plan))))
+absent check.NameUnknown lib plan stimuli ss other e = nothing check.NameUnknown lib plan stimuli ss e other (λ least. absurd (other least))
+absent check.KindWrong lib plan stimuli ss other e = nothing check.KindWrong lib plan stimuli ss e other (λ least. absurd (other least))
+absent check.OutOfRange lib plan stimuli ss other e = nothing check.OutOfRange lib plan stimuli ss e other (λ least. absurd (other least))
+absent check.TwoSources lib plan stimuli ss other e = nothing check.TwoSources lib plan stimuli ss e other (λ least. absurd (other least))
+absent check.TooHigh lib plan stimuli ss other e = nothing check.TooHigh lib plan stimuli ss e other (omega arith)
+absent check.NotMapped lib plan stimuli ss other e = nothing check.NotMapped lib plan stimuli ss e other (λ least. absurd (other least))
+absent check.NoLink lib plan stimuli ss other e = nothing check.NoLink lib plan stimuli ss e other (λ least. absurd (other least))
+absent check.NoEvent lib plan stimuli ss other e = nothing check.NoEvent lib plan stimuli ss e other (λ least. absurd (other least))
+absent check.BadStimulus lib plan stimuli ss other e = nothing check.BadStimulus lib plan stimuli ss e other (λ least. absurd (other least))
+absent check.OverLimit lib plan stimuli ss other e = nothing check.OverLimit lib plan stimuli ss e other (omega arith)
+
+-- ---- A refusal
+
+-- one location
+one :
+    (f : Fault) (lib : Library) (plan : Plan) (stimuli : List Stimulus) (s : Location) (ss : List Location) → ss ≡ s ∷ [] → AppliesAt f lib plan stimuli s → AreAll f lib plan stimuli ss → AreLocations f lib plan stimuli ss
+one f lib plan stimuli s ss e applies all =
+    let P : Location → Type 0 = AppliesAt f lib plan stimuli in
+    record {
+      each = subst (λ (ss : List Location). All P ss) (sym e) (All-cons P s [] applies (All-nil P));
+      none = λ h. absurd (let differ : s ∷ [] ≡ [] = sym e ∙ h in cc);
+      all = all;
+    }
+
+-- all locations of a refusal
+own :
+    (f : Fault) (lib : Library) (plan : Plan) (stimuli : List Stimulus) (ss : List Location) → refusal.AreAll lib plan stimuli f ss → AreLocations f lib plan stimuli ss
+own check.NameTwice lib plan stimuli ss all =
+    list_locations check.NameTwice lib plan stimuli (λ (p : GivenTwice). at.NameTwice p) (twice_all lib plan) ss all (each_twice lib plan) (none_twice lib plan) refl
+own check.NameUnknown lib plan stimuli ss all =
+    list_locations check.NameUnknown lib plan stimuli (λ (p : UnknownName). at.NameUnknown p) (unknown_all lib plan) ss all (each_unknown lib plan)
+    (λ h least. passes_21 lib plan stimuli least.least (none_unknown lib plan h) 21 (omega arith) least.applies) (λ _. refl)
+own check.KindWrong lib plan stimuli ss all =
+    list_locations check.KindWrong lib plan stimuli (λ (p : Misfit). at.KindWrong p) (misfits_all lib) ss all (each_misfit lib)
+    (λ h least. passes_22 lib plan stimuli least.least (none_misfit lib h) 22 (omega arith) least.applies) (λ _. refl)
+own check.OutOfRange lib plan stimuli ss all =
+    list_locations check.OutOfRange lib plan stimuli (λ (p : Misjoin). at.OutOfRange p) (misjoins_all lib) ss all (each_misjoin lib)
+    (λ h least. passes_23 lib plan stimuli least.least (none_misjoin lib h) 23 (omega arith) least.applies) (λ _. refl)
+own check.TwoSources lib plan stimuli ss all =
+    list_locations check.TwoSources lib plan stimuli (λ (p : Joined). at.TwoSources p) (joined_all lib) ss all (each_joined lib)
+    (λ h least. passes_24 lib plan stimuli least.least (none_joined lib h) 24 (omega arith) least.applies) (λ _. refl)
+own check.TooHigh lib plan stimuli ss all =
+    one check.TooHigh lib plan stimuli (at.TooHigh all.0) ss all.1 all.2 (let size : length ss ≡ 1 = ap (λ (ss : List Location). length ss) all.1 in omega (arith, size))
+own check.NotMapped lib plan stimuli ss all =
+    list_locations check.NotMapped lib plan stimuli (λ (p : Unmapped). at.NotMapped p) (unmapped_all lib plan) ss all (each_unmapped lib plan)
+    (λ h least. passes_26 lib plan stimuli least.least (none_unmapped lib plan h) 26 (omega arith) least.applies) (λ _. refl)
+own check.NoLink lib plan stimuli ss all =
+    list_locations check.NoLink lib plan stimuli (λ (p : Unlinked). at.NoLink p) (unlinked_all lib plan) ss all (each_unlinked lib plan)
+    (λ h least. passes_27 lib plan stimuli least.least (none_unlinked lib plan h) 27 (omega arith) least.applies) (λ _. refl)
+own check.NoEvent lib plan stimuli ss all =
+    list_locations check.NoEvent lib plan stimuli (λ (p : ℕ). at.NoEvent p) (unserved_all lib plan) ss all (each_unserved lib plan)
+    (λ h least. passes_28 lib plan stimuli least.least (none_unserved lib plan h) 28 (omega arith) least.applies) (λ _. refl)
+own check.BadStimulus lib plan stimuli ss all =
+    list_locations check.BadStimulus lib plan stimuli (λ (p : StimulusLocation). at.BadStimulus p) all.0 ss all.1 all.3
+    (λ h. absurd (all.2 h)) (λ _. (all.0, refl, all.2, all.3, all.4))
+own check.OverLimit lib plan stimuli ss all =
+    one check.OverLimit lib plan stimuli (at.OverLimit all.0) ss all.1 all.2 (let size : length ss ≡ 1 = ap (λ (ss : List Location). length ss) all.1 in omega (arith, size))
+
+-- the fault with a number
+by_number : ℕ → Fault
+by_number n =
+    if eqb n 20 then check.NameTwice else
+    if eqb n 21 then check.NameUnknown else
+    if eqb n 22 then check.KindWrong else
+    if eqb n 23 then check.OutOfRange else
+    if eqb n 24 then check.TwoSources else
+    if eqb n 25 then check.TooHigh else
+    if eqb n 26 then check.NotMapped else
+    if eqb n 27 then check.NoLink else
+    if eqb n 28 then check.NoEvent else
+    if eqb n 29 then check.BadStimulus else
+    check.OverLimit
+
+known : (f : Fault) → by_number (number_of f) ≡ f
+unfolding by_number
+known check.NameTwice = refl
+known check.NameUnknown = refl
+known check.KindWrong = refl
+known check.OutOfRange = refl
+known check.TwoSources = refl
+known check.TooHigh = refl
+known check.NotMapped = refl
+known check.NoLink = refl
+known check.NoEvent = refl
+known check.BadStimulus = refl
+known check.OverLimit = refl
+
+pub refused_answer :
+    (f : Fault) (lib : Library) (plan : Plan) (stimuli : List Stimulus) (r : Refusal) (ss : List Location) → IsRefusal (inputs lib plan stimuli) r → number_of r.fault ≡ number_of f
+    → ss ≡ r.locations.items → AreLocations f lib plan stimuli ss
+refused_answer f lib plan stimuli r ss is same all =
+    let said : refusal.AreAll lib plan stimuli r.fault ss = subst (λ (ss : List Location). refusal.AreAll lib plan stimuli r.fault ss) (sym all) is.all in
+    subst (λ (g : Fault). AreLocations g lib plan stimuli ss) (sym (known r.fault) ∙ ap by_number same ∙ known f) (own r.fault lib plan stimuli ss said)
+
+pub other_answer :
+    (f : Fault) (lib : Library) (plan : Plan) (stimuli : List Stimulus) (r : Refusal) (ss : List Location) → IsRefusal (inputs lib plan stimuli) r → number_of r.fault ≢ number_of f → ss ≡ []
+    → AreLocations f lib plan stimuli ss
+other_answer f lib plan stimuli r ss is differs e = absent f lib plan stimuli ss (other_least (number_of r.fault) (number_of f) lib plan stimuli is.least differs) e
+
+pub accepted_answer :
+    (f : Fault) (lib : Library) (plan : Plan) (stimuli : List Stimulus) (ss : List Location) → IsAccepted lib plan stimuli → ss ≡ [] → AreLocations f lib plan stimuli ss
+accepted_answer f lib plan stimuli ss accepted e = absent f lib plan stimuli ss (λ least. accepted (number_of f) least.applies) e
