@@ -17,6 +17,7 @@ use Rattle.fb_types.specs.declared.run.Target.{Target}
 use Rattle.fb_types.proofs.Lookups.{cmp_equal}
 use Rattle.fb_agenda.specs.Agendas.{AreApart, AreRising, Contents, IsAt, IsFirst, IsQueue, MayFollow, event_of, keyed, local_events, waiting}
 use Rattle.fb_agenda.specs.Lists.{IsIndexOf, IsPopped, Sets}
+use Rattle.fb_agenda.specs.Moments.{IsMomentOf}
 use Rattle.fb_agenda.proofs.Apart.{queue_apart, queue_class, queue_less, queue_more, queue_waits}
 use Rattle.fb_agenda.proofs.Moments.{number_less}
 use Rattle.fb_agenda.proofs.Lists.{front_popped, index_here, put_rises, put_sets, removed_rises, removed_sets, rest_rises}
@@ -188,6 +189,16 @@ module _ (t r : ℕ) (old new : List (ℕ × Target)) (p : ℕ × Target) (ts : 
 
   pub number_rises : AreRising rest
   number_rises = rest_rises (local_events ts) rest rising (Some (k, e)) first_of
+
+-- the moment of the first
+pub moment_of_first : (t r : ℕ) (es : List (ℕ × Target)) → AreRising (local_events (map (keyed t r) es)) → 0 < length es → IsMomentOf (local_events (map (keyed t r) es)) (record { tick = t; resource = r })
+moment_of_first t r [] rising some = absurd (omega (arith, some))
+moment_of_first t r (e ∷ es) rising some = record { key = local_key t r e.0; first = first_number t r (e ∷ es) e rising some refl; tick = refl; resource = refl }
+
+pub some_if : (b : Bool) (n : ℕ) (es : List (ℕ × Target)) → b ≡ eqb n 0 → b ≡ false → length es ≡ n → 0 < length es
+some_if true n es is other count = absurd cc
+some_if false n [] is other count = let zero_is : eqb n 0 ≡ true = ap (λ m. eqb m 0) (sym count) in absurd cc
+some_if false n (e ∷ es) is other count = omega arith
 
 -- whether there is none
 pub empty_if : (b : Bool) (n : ℕ) (t r : ℕ) (es : List (ℕ × Target)) (ts : List (Key × Target)) → map (keyed t r) es ≡ ts → b ≡ eqb n 0 → length es ≡ n → OnTrue b (ts ≡ [])

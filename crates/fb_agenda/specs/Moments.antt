@@ -4,6 +4,7 @@ use Rattle.std.specs.Map.{lookup}
 use Rattle.fb_types.specs.Keys.{same_key}
 use Rattle.fb_types.specs.declared.key.Key.{Key}
 use Rattle.fb_types.specs.declared.run.Event.{Event}
+use Rattle.fb_agenda.specs.Agendas.{IsFirst}
 use Rattle.fb_agenda.specs.declared.moment.Moment.{Moment}
 
 -- The first moment comes before the second.
@@ -29,3 +30,10 @@ pub record IsQuiet (m : Moment) (es : List (Key × Event)) : Type 0 where
 pub record IsPast (m : Moment) (es : List (Key × Event)) : Type 0 where
   pub below : (j : Key) → j.tick < m.tick → lookup (same_key j) es ≡ None
   pub up_to : (j : Key) → j.tick ≡ m.tick → j.resource ≤ m.resource → lookup (same_key j) es ≡ None
+
+-- It is the moment of the first event.
+pub record IsMomentOf (es : List (Key × Event)) (m : Moment) : Type 0 where
+  pub key : Key
+  pub first : IsFirst es key
+  pub tick : m.tick ≡ key.tick
+  pub resource : m.resource ≡ key.resource

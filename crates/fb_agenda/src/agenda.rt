@@ -55,14 +55,17 @@ fn is_now_first(now: &Queue, later: &mut Later) -> bool
     ensures later { OnFalse result (Leads later.old.events (local_events now.now)) }
     ensures kept { later.new ≡ later.old }
 {
-    let Some(first) = now.first() else {
+    let Some(moment) = now.moment() else {
         return false;
     };
     // Mostly no other event waits at the running tick in this resource or before.
-    if later.is_past(Moment::of(&first)) {
+    if later.is_past(moment) {
         return true;
     }
-    later.comes_after(&first)
+    match now.first() {
+        Some(first) => later.comes_after(&first),
+        None => false,
+    }
 }
 
 impl Agenda {

@@ -13,9 +13,11 @@ ghost use Rattle.fb_types.specs.declared.key.Key as keys;
 ghost use Rattle.fb_types.specs.declared.run.Target.{Target as Waiting};
 ghost use Rattle.fb_agenda.specs.Agendas.{AreRising, IsAt, IsFirst, IsQueue, MayFollow, local_events};
 ghost use Rattle.fb_agenda.specs.Lists.{BeginsAt, IsIndexOf, IsPopped, Sets};
+ghost use Rattle.fb_agenda.specs.Moments.{IsMomentOf};
 ghost use Rattle.fb_agenda.specs.Slots.{taken};
 
 use crate::least::Least;
+use crate::moment::Moment;
 use crate::store::make_room;
 use fb_types::{Key, Target};
 use std::alloc::{AllocError, Global};
@@ -73,6 +75,22 @@ impl Queue {
     {
         let (number, _) = self.waiting.front()?;
         Some(Key::local(self.tick, self.resource, *number))
+    }
+
+    /// The tick and the resource of the events, if there are any.
+    #[inline(always)]
+    pub(crate) fn moment(&self) -> Option<Moment>
+        requires { AreRising (local_events self.now) }
+        ensures some { IfSome result (IsMomentOf (local_events self.now)) }
+        ensures none { IfNone result (local_events self.now ≡ []) }
+    {
+        if self.waiting.is_empty() {
+            return None;
+        }
+        Some(Moment {
+            tick: self.tick,
+            resource: self.resource,
+        })
     }
 
     /// Whether an event of this tick and resource may be appended: the queue is empty, or its last event has the same

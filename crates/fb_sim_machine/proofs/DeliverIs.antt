@@ -1,8 +1,6 @@
 -- Messages that go to the one agenda.
-use Rattle.std.proofs.Common.{◌≡◌, ◌∷◌, ◌++◌, ℕ, ◌<◌, ◌≤◌, ◌^◌, Bool, true, false, cond, List, [], get_or, length, map, refl, sym, ap, subst, ◌∙◌, Option, Some, None, arith}
-use Rattle.std.specs.Prelude.{slice_get}
+use Rattle.std.proofs.Common.{◌≡◌, ◌∷◌, ◌++◌, ℕ, ◌<◌, ◌≤◌, ◌^◌, Bool, true, false, cond, List, [], length, map, refl, sym, ap, subst, ◌∙◌, Option, Some, None, arith}
 use Rattle.std.proofs.lemmas.List.{length-map}
-use Rattle.std.proofs.lemmas.Option.{slice_get_within, slice_get-get_or, get_or_from_slice_get}
 use Rattle.fb_types.specs.Headline.{Inputs, AreAccepted, system_of}
 use Rattle.fb_types.specs.Keys.{or_else, found, same_key}
 use Rattle.fb_types.specs.Limits.{IsWithinLimits}
@@ -59,18 +57,13 @@ narrow_receiver i accepted limits m =
 
 -- ---- One message at most
 
--- the first is the only one
-pub only_first : (ms seen : List Message) (m : Message) → seen ≡ ms → slice_get seen 0 ≡ Some m → length ms ≤ 1 → ms ≡ m ∷ []
-only_first [] seen m same first few =
-    let within = slice_get_within [] 0 m (subst (λ (xs : List Message). slice_get xs 0 ≡ Some m) same first) in
-    absurd (omega (arith, within))
-only_first (x ∷ []) seen m same first few =
-    ap (λ y. y ∷ []) (get_or_from_slice_get (x ∷ []) 0 m m (subst (λ (xs : List Message). slice_get xs 0 ≡ Some m) same first))
-only_first (x ∷ y ∷ ms) seen m same first few = absurd (omega (arith, few))
+-- the one that leaves is the only one
+pub only_popped : (old new : List Message) (m : Message) → old ≡ new ++ m ∷ [] → length old ≤ 1 → old ≡ m ∷ []
+only_popped old [] m is few = is
+only_popped old (x ∷ []) m is few = let count = ap length is in absurd (omega (arith, count, few))
+only_popped old (x ∷ y ∷ new) m is few = let count = ap length is in absurd (omega (arith, count, few))
 
--- where there is no first, there is none
-pub none_first : (ms seen : List Message) → seen ≡ ms → slice_get seen 0 ≡ None → ms ≡ []
-none_first [] seen same first = refl
-none_first (x ∷ ms) seen same first =
-    let is : Some (get_or (x ∷ ms) 0 x) ≡ None = sym (slice_get-get_or (x ∷ ms) 0 x (omega arith)) ∙ subst (λ (xs : List Message). slice_get xs 0 ≡ None) same first in
-    absurd cc
+pub none_left : (old new : List Message) (m : Message) → old ≡ new ++ m ∷ [] → length old ≤ 1 → new ≡ []
+none_left old [] m is few = refl
+none_left old (x ∷ []) m is few = let count = ap length is in absurd (omega (arith, count, few))
+none_left old (x ∷ y ∷ new) m is few = let count = ap length is in absurd (omega (arith, count, few))

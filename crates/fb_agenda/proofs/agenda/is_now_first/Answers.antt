@@ -7,10 +7,14 @@ returns-in_default-clause-later c = leads_none c.args.later.now.events (local_ev
 
 pub returns-then-is_past-clause-running : goal.returns-then-is_past-clause-running
 returns-then-is_past-clause-running c =
-    leads_past (local_events c.args.now.now) c.args.later.now.events c.in-Some.first c.of.result c.of.ensures.tick c.of.ensures.resource c.in-Some.ensures.some c.if-is_past.ensures
+    let at = c.in-Some.ensures.some in
+    leads_past (local_events c.args.now.now) c.args.later.now.events at.key c.in-Some.moment at.tick at.resource at.first c.if-is_past.ensures
 
-pub returns-clause-running : goal.returns-clause-running
-returns-clause-running c = true_weaker c.comes_after.result c.comes_after.ensures.after (λ leads. leads (local_events c.args.now.now) c.in-Some.ensures.some)
+pub returns-in-Some-first-clause-running : goal.returns-in-Some-first-clause-running
+returns-in-Some-first-clause-running c = true_weaker c.comes_after.result c.comes_after.ensures.after (λ leads. leads (local_events c.args.now.now) c.in-Some-first.ensures.some)
 
-pub returns-clause-later : goal.returns-clause-later
-returns-clause-later c = false_weaker c.comes_after.result c.comes_after.ensures.before (λ leads. leads (local_events c.args.now.now) c.in-Some.ensures.some)
+pub returns-in-Some-first-clause-later : goal.returns-in-Some-first-clause-later
+returns-in-Some-first-clause-later c = false_weaker c.comes_after.result c.comes_after.ensures.before (λ leads. leads (local_events c.args.now.now) c.in-Some-first.ensures.some)
+
+pub returns-in-None-clause-later : goal.returns-in-None-clause-later
+returns-in-None-clause-later c = leads_none c.args.later.now.events (local_events c.args.now.now) c.in-None.ensures.none

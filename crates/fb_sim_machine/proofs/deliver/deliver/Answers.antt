@@ -1,70 +1,75 @@
-use Rattle.std.proofs.Common.{◌≡◌, ◌++◌, ◌∷◌, ◌<◌, [], All, map, vec_len, sym, ap, subst, ◌∙◌, append_assoc, append-nil, arith}
-use Rattle.std.proofs.lemmas.Bool.{eqb-true}
+use Rattle.std.proofs.Common.{◌≡◌, ◌<◌, ◌∷◌, [], All, map, refl, sym, ap, subst, ◌∙◌, append-nil, arith}
 use Rattle.std.proofs.lemmas.List.{nil_from_length}
-use Rattle.std.specs.Vec.Iter.{drain_items}
+use Rattle.std.proofs.lemmas.Result.{on_ok_weaker}
 use Rattle.fb_types.specs.Headline.{system_of}
 use Rattle.fb_types.specs.Keys.{found, message_key, or_else}
 use Rattle.fb_types.specs.declared.run.Message.{Message}
 use Rattle.fb_types.specs.declared.run.Event.TheVariants.{Arrival}
 use Rattle.fb_resource.specs.Posts.{IsMessage, IsPut, arriving, key_of}
 use Rattle.fb_resource.specs.Waiting.{meaning}
-use Rattle.fb_resource.proofs.Lists.{slice_all}
 use Rattle.fb_resource.proofs.PostLaws.{next_of, order_put}
-use Rattle.fb_sim_machine.proofs.DeliverIs.{delivered_more, message_waits}
+use Rattle.fb_sim_machine.proofs.DeliverIs.{delivered_more, message_waits, none_left, only_popped}
 use Rattle.fb_sim_machine.proofs.deliver.deliver.Goals as goal
+
+-- ---- Several messages
+
+pub returns-then-len-gt1-clause-put : goal.returns-then-len-gt1-clause-put
+returns-then-len-gt1-clause-put c = c.deliver_all.ensures.put
+
+pub returns-then-len-gt1-clause-order : goal.returns-then-len-gt1-clause-order
+returns-then-len-gt1-clause-order c = c.deliver_all.ensures.order
+
+-- ---- One message
+
+pub receiver-requires : goal.receiver-requires
+receiver-requires c =
+    let m = c.in-Some.message in
+    let alone = only_popped c.args.mail.now.items c.pop.new.self.items m c.in-Some.ensures.items (let count = c.len.ensures in let ok = c.args.mail.now.ok.0 in omega (arith, c.if-len-gt1.false, count, ok)) in
+    next_of (IsMessage c.args.system.now) [] [] m (subst (All (IsMessage c.args.system.now)) alone c.requires)
+
+pub returns-clause-put : goal.returns-clause-put
+returns-clause-put c =
+    let i = c.args.system.now in
+    let m = c.in-Some.message in
+    let alone = only_popped c.args.mail.now.items c.pop.new.self.items m c.in-Some.ensures.items (let count = c.len.ensures in let ok = c.args.mail.now.ok.0 in omega (arith, c.if-len-gt1.false, count, ok)) in
+    let old = c.args.agenda.now in
+    let new = c.put_message.new.self in
+    on_ok_weaker c.put_message.result
+    (λ put j.
+    delivered_more i old old new [] m (subst (λ r. IsPut old new (message_key m.arrives r m.link m.number) (Arrival m)) c.receiver.ensures put) (λ k. refl) j
+    ∙ ap (λ ms. or_else (found j (map (arriving i) ms)) (meaning i old j)) (sym alone))
+    c.put_message.ensures.put
+
+pub returns-clause-order : goal.returns-clause-order
+returns-clause-order c =
+    let i = c.args.system.now in
+    let m = c.in-Some.message in
+    let alone = only_popped c.args.mail.now.items c.pop.new.self.items m c.in-Some.ensures.items (let count = c.len.ensures in let ok = c.args.mail.now.ok.0 in omega (arith, c.if-len-gt1.false, count, ok)) in
+    let old = c.args.agenda.now in
+    let new = c.put_message.new.self in
+    let is = next_of (IsMessage i) [] [] m (subst (All (IsMessage i)) alone c.requires) in
+    on_ok_weaker c.put_message.result
+    (λ put tick before later.
+    let arrives = next_of (λ (x : Message). tick < x.arrives) [] [] m (subst (All (λ (x : Message). tick < x.arrives)) alone later) in
+    order_put i tick old new (key_of (system_of i) m) (Arrival m) (subst (λ r. IsPut old new (message_key m.arrives r m.link m.number) (Arrival m)) c.receiver.ensures put) (λ one. omega (arith, one))
+    (message_waits i tick m c.facts.ensures.accepted c.facts.ensures.limits is arrives) c.put_message.ensures.due before)
+    c.put_message.ensures.put
+
+pub returns-clause-none : goal.returns-clause-none
+returns-clause-none c =
+    let m = c.in-Some.message in
+    let none = none_left c.args.mail.now.items c.pop.new.self.items m c.in-Some.ensures.items (let count = c.len.ensures in let ok = c.args.mail.now.ok.0 in omega (arith, c.if-len-gt1.false, count, ok)) in
+    on_ok_weaker c.put_message.result (λ put. none) c.put_message.ensures.put
 
 -- ---- No message
 
-pub returns-then-is_empty-clause-put : goal.returns-then-is_empty-clause-put
-returns-then-is_empty-clause-put c j =
+pub returns-in_default-clause-put : goal.returns-in_default-clause-put
+returns-in_default-clause-put c j =
     let i = c.args.system.now in
-    let mail = c.args.mail.now in
-    let none = nil_from_length mail.items (sym mail.ok.0 ∙ eqb-true (vec_len mail) 0 (sym c.is_empty.ensures ∙ c.if-is_empty.true)) in
+    let none = nil_from_length c.args.mail.now.items (sym c.args.mail.now.ok.0 ∙ c.in_default.ensures.cases.0) in
     ap (λ ms. or_else (found j (map (arriving i) ms)) (meaning i c.args.agenda.now j)) (sym none)
 
-pub returns-then-is_empty-clause-none : goal.returns-then-is_empty-clause-none
-returns-then-is_empty-clause-none c =
-    let mail = c.args.mail.now in
-    nil_from_length mail.items (sym mail.ok.0 ∙ eqb-true (vec_len mail) 0 (sym c.is_empty.ensures ∙ c.if-is_empty.true))
-
--- ---- Messages
-
-pub loop-message-preserved : goal.loop-message-preserved
-loop-message-preserved c =
-    let i = c.args.system.now in
-    let sys = system_of i in
-    let inv = c.loop-message.invariant in
-    let step = c.in-Some.ensures.steps in
-    let m = c.in-Some.message in
-    let mid = c.loop-message.agenda in
-    let new = c.put_message.new.self in
-    let whole : drain_items c.into_iter-message-iterator.result ≡ c.args.mail.now.items =
-    rw c.into_iter-message-iterator.ensures.into_iter_gives (c.drain-message-items.ensures.rest ∙ slice_all c.args.mail.now.items c.args.mail.now.len c.args.mail.now.ok.0) in
-    let rest = ap (λ z. c.loop-message.yielded ++ z) (sym step.0) ∙ inv.rest in
-    let is = next_of (IsMessage i) c.loop-message.yielded _ m (subst (All (IsMessage i)) (sym (rest ∙ whole)) c.requires) in
-    let put = subst (λ r. IsPut mid new (message_key m.arrives r m.link m.number) (Arrival m)) c.receiver.ensures c.in_ok-put_message.ensures.put in
-    record {
-      put = delivered_more i c.args.agenda.now mid new c.loop-message.yielded m put inv.put;
-      order = λ tick before later.
-          let arrives = next_of (λ (x : Message). tick < x.arrives) c.loop-message.yielded _ m (subst (All (λ (x : Message). tick < x.arrives)) (sym rest) later) in
-          order_put i tick mid new (key_of sys m) (Arrival m) put (λ one. omega (arith, one)) (message_waits i tick m c.facts.ensures.accepted c.facts.ensures.limits is arrives) c.put_message.ensures.due (inv.order tick before later);
-      due = c.put_message.ensures.due ∙ inv.due;
-      rest = append_assoc c.loop-message.yielded (m ∷ []) (drain_items c.next.new.self) ∙ rest;
-      keeps = (step.2.0 ∙ inv.keeps.0, step.2.1 ∙ inv.keeps.1, step.2.2 ∙ inv.keeps.2);
-    }
-
-pub returns-clause-put : goal.returns-clause-put
-returns-clause-put c j =
-    let i = c.args.system.now in
-    let inv = c.loop-message.invariant in
-    let none : drain_items c.loop-message.message-iterator ≡ [] = c.in-None.ensures.steps.0 in
-    let whole : drain_items c.into_iter-message-iterator.result ≡ c.args.mail.now.items =
-    rw c.into_iter-message-iterator.ensures.into_iter_gives (c.drain-message-items.ensures.rest ∙ slice_all c.args.mail.now.items c.args.mail.now.len c.args.mail.now.ok.0) in
-    let all = sym (append-nil c.loop-message.yielded) ∙ ap (λ z. c.loop-message.yielded ++ z) (sym none) ∙ inv.rest ∙ whole in
-    inv.put j ∙ ap (λ ms. or_else (found j (map (arriving i) ms)) (meaning i c.args.agenda.now j)) all
-
-pub returns-clause-order : goal.returns-clause-order
-returns-clause-order c tick before later =
-    let whole : drain_items c.into_iter-message-iterator.result ≡ c.args.mail.now.items =
-    rw c.into_iter-message-iterator.ensures.into_iter_gives (c.drain-message-items.ensures.rest ∙ slice_all c.args.mail.now.items c.args.mail.now.len c.args.mail.now.ok.0) in
-    c.loop-message.invariant.order tick before (subst (All (λ (x : Message). tick < x.arrives)) (sym whole) later)
+pub returns-in_default-clause-none : goal.returns-in_default-clause-none
+returns-in_default-clause-none c =
+    let none = nil_from_length c.args.mail.now.items (sym c.args.mail.now.ok.0 ∙ c.in_default.ensures.cases.0) in
+    sym (append-nil c.pop.new.self.items) ∙ sym c.in_default.ensures.items ∙ none

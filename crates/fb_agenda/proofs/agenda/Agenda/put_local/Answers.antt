@@ -1,4 +1,4 @@
-use Rattle.std.proofs.Common.{◌≡◌, None, ap, refl, subst, arith}
+use Rattle.std.proofs.Common.{◌≡◌, None, ap, refl, subst}
 use Rattle.std.specs.Prelude.{OnOk}
 use Rattle.std.specs.Map.{lookup}
 use Rattle.fb_types.specs.Keys.{local_key, same_key}

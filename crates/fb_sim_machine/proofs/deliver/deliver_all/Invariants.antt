@@ -5,7 +5,7 @@ use Rattle.fb_types.specs.declared.key.Key.{Key}
 use Rattle.fb_types.specs.declared.run.Message.{Message}
 use Rattle.fb_resource.specs.Posts.{arriving}
 use Rattle.fb_resource.specs.Waiting.{IsInOrder, meaning}
-use Rattle.fb_sim_machine.proofs.deliver.deliver.Given as goal
+use Rattle.fb_sim_machine.proofs.deliver.deliver_all.Given as goal
 
 abbrev pub invariant-loop-message : goal.invariant-loop-message
 invariant-loop-message l = record {
