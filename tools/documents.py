@@ -15,6 +15,7 @@
 - The synopsis of docs/FORMATS.md has the commands, options and arguments of docs/HELP.md, and names the commands with --why.
 - README.md has at most 2,000 words, each entry of docs/DECISIONS.md at most 80, each row of docs/maintain/PROOFS.md at most 100.
 - The version of CHANGELOG.md is that of the program, of the Python package and of the files for VS Code.
+- The figures of README.md and CONTRIBUTING.md are those of their sources, or have a date (tools/figures.py).
 
 It prints what is wrong and then ends with status 1. ./gate runs it."""
 
@@ -25,6 +26,7 @@ import re
 import sys
 import textwrap
 
+import figures
 import unbuilt
 from kit import TOP
 
@@ -254,7 +256,7 @@ def main():
     proved = [it for it in crates() if it != "fbsim" and not it.endswith("_tests")]
     faults = has_all("docs/maintain/ARCHITECTURE.md", crates()) + has_all("docs/maintain/PROOFS.md", proved, may_repeat=True)
     faults += module_faults() + proof_faults() + definition_faults()
-    faults += comment_faults() + block_faults() + example_faults() + length_faults() + version_faults() + synopsis_faults()
+    faults += comment_faults() + block_faults() + example_faults() + length_faults() + version_faults() + figures.faults() + synopsis_faults()
     places = [it for kind in ("src/**/*.rt", "specs/**/*.antt", "proofs/**/*.antt") for it in glob.glob(f"{TOP}/crates/*/{kind}", recursive=True)]
     known = {word for it in places for word in re.findall(r"[A-Z]\w+", text_of(os.path.relpath(it, TOP)))}
     known |= {os.path.basename(it).removesuffix(".antt") for it in places}

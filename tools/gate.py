@@ -7,7 +7,8 @@ First it installs the system packages of tools/system_packages.txt that are miss
 - pages: each example's page explains its trace, docs/FORMATS.md shows the explanations of the refusals, and what the documents name
   exists (tools/documents.py); NOTICE names each library of the program with its licence (tools/notice.py); the traces of the examples are those of a second simulator (tools/interpreter.py) and keep the rules of
   their page (tools/bottling.py); the syntax files of editors/ colour declarations right (tools/editors.py)
-- tools: those that try stored cases and wrong implementations distinguish right from wrong (tools/cases_test.py,
+- tools: those that compare figures of pages and try stored cases and wrong implementations distinguish right from wrong
+  (tools/figures_test.py, tools/cases_test.py,
   tools/must_fail_test.py)
 - proofs, from scratch: every crate and its tests are proved, and every wrong implementation in crates/*/must-fail is refused
 - tests and programs
@@ -50,6 +51,7 @@ import drawn_types
 import editors
 import expected
 import explained
+import figures_test
 import graphs
 import hostile
 import insides
@@ -343,7 +345,7 @@ def main(words):
         print("0 passed, 1 failed")
         return 1
     failed = explained.main([]) or documents.main() or notice.main() or bottling.main() or interpreter.main([]) or editors.main()
-    if subprocess.run(["examples/check"]).returncode or failed or cases_test.main():
+    if subprocess.run(["examples/check"]).returncode or failed or cases_test.main() or figures_test.main():
         print("0 passed, 1 failed")
         return 1
     with tempfile.TemporaryDirectory(prefix="gate-") as room:
