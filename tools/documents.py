@@ -6,8 +6,7 @@
 - docs/maintain/PROOFS.md has each crate, except those of tests, in a row for each promise, and names only functions, clauses and definitions
   that exist.
 - Each block of docs/maintain/READING.md is word for word in the file named before it.
-- docs/maintain/DEFINITIONS.md names every file of definitions of the model and of the text, and each file of any crate begins with a
-  comment.
+- docs/maintain/DEFINITIONS.md names every file of definitions of the model, and each file of definitions begins with a comment.
 - The example in the comment of a public item is the body of the test that it names.
 - Every function like `fb_sim::run::run` and every file like `docs/FORMATS.md` that a page names exists, and so does every type or
   definition like `HasTaken`. If a page says in which file a definition is, it is there.
@@ -118,8 +117,8 @@ def proof_faults():
 
 
 def definition_faults():
-    """Returns the files of definitions that docs/maintain/DEFINITIONS.md does not name, of the model and of the text, and those of all
-    crates that do not begin with a comment that says what they define."""
+    """Returns the files of the model that docs/maintain/DEFINITIONS.md does not name, and the files of definitions of all crates that do
+    not begin with a comment that says what they define."""
     page, faults = "docs/maintain/DEFINITIONS.md", []
     words = set(re.findall(r"\w+", text_of(page)))
     for place in sorted(glob.glob(f"{TOP}/crates/*/specs/**/*.antt", recursive=True)):
@@ -128,7 +127,7 @@ def definition_faults():
             continue
         if not text_of(here).startswith("-- "):
             faults.append(f"{here}: the first line does not say what it defines")
-        if os.path.dirname(here) in ("crates/fb_types/specs", "crates/fb_read/specs") and name not in words:
+        if os.path.dirname(here) == "crates/fb_types/specs" and name not in words:
             faults.append(f"{page}: {here} is not named")
     return faults
 
