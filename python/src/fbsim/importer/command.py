@@ -16,7 +16,6 @@ from fbsim.faults import ProgramMissing
 from fbsim.program import find_program
 
 from .blocks import Library
-from .document import Node
 from .faults import FileFault, Faults, Refused
 from .report import write_report
 from .system import System, read_system, read_types
@@ -41,8 +40,8 @@ def arguments(words: Sequence[str] | None) -> argparse.Namespace:
                     epilog="docs/IMPORT.md says what maps to what.")
     parser.add_argument("files", nargs="+", metavar="FILE", help="a system (.sys), or types (.fbt, .sub, .adp)")
     parser.add_argument("--out", required=True, metavar="DIR", help="the folder to write, new or empty")
-    parser.add_argument("--lib", action="append", default=[], metavar="DIR", help="a folder with types, with those below it")
-    parser.add_argument("--latency", type=int, default=1, metavar="N", help="the latency of each link, in ms (default 1)")
+    parser.add_argument("--lib", action="append", default=[], metavar="DIR", help="a folder with types, at any depth")
+    parser.add_argument("--latency", type=int, default=1, metavar="N", help="the latency of each link, in ms (1)")
     parser.add_argument("--stub", action="store_true", help="replace service interface types by stubs")
     given = parser.parse_args(words)
     if not 1 <= given.latency <= 1_000_000:
@@ -52,7 +51,7 @@ def arguments(words: Sequence[str] | None) -> argparse.Namespace:
 
 def read(files: Sequence[str], library: Library) -> System:
     """Read all files, and return the system that they have, or one of their types."""
-    roots: list[Node] = []
+    roots = []
     for path in files:
         try:
             roots.append(library.read(path))
@@ -60,10 +59,9 @@ def read(files: Sequence[str], library: Library) -> System:
             continue
     systems = [it for it in roots if it.tag == "System"]
     for it in roots:
-        if it.tag != "System":
-            if it.get("Name").upper() in library.given:
-                library.faults.add(it.at("Name"), f"type {it.get('Name')} is given in two files")
-            library.given[it.get("Name").upper()] = it
+        name = it.get("Name").upper()
+        if it.tag != "System" and library.given.setdefault(name, it) is not it:
+            library.faults.add(it.at("Name"), f"type {it.get('Name')} is given in two files")
     for it in systems[1:]:
         library.faults.add(it.place, "there is more than one system: import them one by one")
     if not roots:
@@ -75,37 +73,30 @@ def convert(given: argparse.Namespace, faults: Faults) -> dict[str, Text]:
     """Return the texts by their names."""
     library = Library(given.lib, given.stub, faults)
     system = read(given.files, library)
-    types = Types(library)
+    types, report = Types(library), Text()
     types.text.add("(* Imported by fbsim-import: see import.txt. *)\n\n")
     for it in system.network.instances.values():
         types.need(it.block, it.place)
-    texts = {"types.iec": types.text, "application.iec": write_application(system, faults),
-             "deploy.toml": write_deployment(system, given.latency)}
-    report = Text()
+    application, deployment = write_application(system, faults), write_deployment(system, given.latency)
     report.add(write_report(system, library, types, given.latency))
-    return {**texts, "import.txt": report}
+    return {"types.iec": types.text, "application.iec": application, "deploy.toml": deployment, "import.txt": report}
 
 
 def check(folder: str, texts: dict[str, Text], faults: Faults) -> None:
     """Have the simulator check the texts in a folder, and map the places of what it refuses back to the XML."""
     words = ["check", "application.iec", "--types", "types.iec", "--deploy", "deploy.toml", "--why"]
     done = subprocess.run([find_program(), *words], cwd=folder, capture_output=True, text=True, errors="replace")
-    if done.returncode == ACCEPTED:
-        return
-    known = False
     for name, line, column, text in FINDING.findall(done.stderr):
         place = texts[name].place(int(line), int(column))
         if place:
             faults.add(place, text)
-            known = True
-    if not known:
+    if done.returncode != ACCEPTED and not faults:
         raise FileFault(f"the simulator answers: {done.stderr.strip() or done.returncode}")
 
 
 def write(given: argparse.Namespace, texts: dict[str, Text], faults: Faults) -> None:
-    """Write the texts into a new folder beside the one that is asked for, check them, and put the folder in its place."""
-    out = os.path.realpath(given.out)
-    made = None
+    """Write the texts into a new folder beside the one that is asked for, check them, and put it in its place."""
+    out, made = os.path.realpath(given.out), ""
     try:
         if os.path.lexists(out) and (not os.path.isdir(out) or os.listdir(out)):
             raise FileFault(f"{given.out}: this is no new or empty folder")
@@ -121,14 +112,12 @@ def write(given: argparse.Namespace, texts: dict[str, Text], faults: Faults) -> 
     except OSError as fault:
         raise FileFault(f"{given.out}: {fault.strerror}") from None
     finally:
-        if made:
-            shutil.rmtree(made, ignore_errors=True)
+        shutil.rmtree(made, ignore_errors=True)
 
 
 def main(words: Sequence[str] | None = None) -> int:
     """Import files, and return the status: 0 accepted, 2 refused, 3 for files, 5 for the command line."""
-    given = arguments(words)
-    faults = Faults()
+    given, faults = arguments(words), Faults()
     try:
         texts = convert(given, faults)
         if not faults:
@@ -138,9 +127,8 @@ def main(words: Sequence[str] | None = None) -> int:
     except (FileFault, ProgramMissing) as fault:
         print(f"fbsim-import: {fault}", file=sys.stderr)
         return FILES
-    if faults:
-        for line in faults.lines():
-            print(line, file=sys.stderr)
-        return REFUSED
-    print("accepted")
-    return ACCEPTED
+    if not faults:
+        print("accepted")
+        return ACCEPTED
+    print(*faults.lines(), sep="\n", file=sys.stderr)
+    return REFUSED

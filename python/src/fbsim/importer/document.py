@@ -1,12 +1,11 @@
-"""Reads one XML file, from sources that may be hostile, and keeps the place of each element, attribute and text.
+"""Reads one XML file, which may be hostile, and keeps the place of each element, attribute and text.
 
-lxml parses and decides what is well-formed. It gives only lines, so a scan of the same text gives the places. The scan comes
-first and refuses what could make parsing slow or large: files over a limit, declarations of entities, and very many or very
-deep elements. So lxml sees no entity but the five of XML and references to characters."""
+lxml parses and decides what is well-formed. It gives only lines, so a scan of the same text gives the places. The scan
+comes first and refuses what could make parsing slow or large: declarations of entities, and very many or very deep
+elements. So lxml sees no entities but the five of XML, and references to characters."""
 
 from __future__ import annotations
 
-import bisect
 import os
 import re
 import stat
@@ -16,45 +15,26 @@ from dataclasses import dataclass, field
 
 from lxml import etree
 
-from .faults import FileFault, Faults, Place, Refused, shown
+from .faults import FileFault, Faults, Place, Source, shown
 
-MOST_BYTES = 4 * 2**20
-MOST_ELEMENTS = 100_000
-MOST_ATTRIBUTES = 64
-MOST_DEPTH = 64
-ENCODINGS = {"UTF-8": "utf-8", "UTF8": "utf-8", "US-ASCII": "ascii", "ASCII": "ascii", "ISO-8859-1": "latin-1",
-             "ISO-8859-15": "iso8859-15", "WINDOWS-1252": "cp1252"}
+MOST_BYTES, MOST_ELEMENTS, MOST_ATTRIBUTES, MOST_DEPTH = 4 * 2**20, 100_000, 64, 64
+ENCODINGS = {"UTF-8": "utf-8", "US-ASCII": "ascii", "ISO-8859-1": "latin-1", "ISO-8859-15": "iso8859-15",
+             "WINDOWS-1252": "cp1252"}
 BYTE_ORDER_MARKS = {b"\xef\xbb\xbf": "utf-8", b"\xff\xfe": "utf-16-le", b"\xfe\xff": "utf-16-be"}
 DECLARED = re.compile(rb"""<\?xml\s[^>]{0,200}?encoding\s*=\s*["']([\w.:-]{1,40})["']""")
 SCHEMA_INSTANCE = "{http://www.w3.org/2001/XMLSchema-instance}"
 # Elements whose text is kept with the place of each character.
 WITH_TEXT = ("ST", "Other")
-
 NAME = r"""[^\s<>/="'&!?]++"""
 VALUE = r"""(?:"[^"<]*+"|'[^'<]*+')"""
 ATTRIBUTE = re.compile(rf"\s++({NAME})\s*+=\s*+({VALUE})")
 PIECE = re.compile(
     rf"""<!--.*?-->|<\?.*?\?>|<!DOCTYPE\s[^>\[]*+>|<!\[CDATA\[(?P<cdata>.*?)\]\]>|(?P<text>[^<]++)
-    |</{NAME}\s*+(?P<end>>)|<(?P<start>{NAME})(?P<attributes>(?:\s++{NAME}\s*+=\s*+{VALUE})*+)\s*+(?P<empty>/?)>""",
+    |</{NAME}\s*+(?P<end>>)|<(?P<start>{NAME})(?P<attributes>(?:\s++{NAME}\s*+=\s*+{VALUE}){{0,{MOST_ATTRIBUTES}}}+)
+    \s*+(?P<empty>/?)>""",
     re.DOTALL | re.VERBOSE)
 WRITTEN = re.compile(r"&(?:#x([0-9A-Fa-f]{1,6})|#([0-9]{1,7})|([^;&\s]{1,60}));|\r\n?|[\t\n]|&")
 ENTITIES = {"lt": "<", "gt": ">", "amp": "&", "apos": "'", "quot": '"'}
-
-
-class Source:
-    """The text of one file."""
-
-    def __init__(self, path: str, text: str) -> None:
-        self.path = path
-        self.text = text
-        self.starts: list[int] | None = None
-
-    def position(self, offset: int) -> tuple[int, int]:
-        """Return the line and the column of an offset, both from 1; columns count characters."""
-        if self.starts is None:
-            self.starts = [0, *(it.end() for it in re.finditer(r"\r\n?|\n", self.text))]
-        line = bisect.bisect_right(self.starts, offset)
-        return line, offset - self.starts[line - 1] + 1
 
 
 @dataclass(slots=True)
@@ -70,35 +50,30 @@ class Code:
         """Return the place of a character, or that after the text."""
         return Place(self.source, self.offsets[index] if index < len(self.offsets) else self.end)
 
-    def add(self, start: int, end: int, *, is_attribute: bool = False, is_plain: bool = False) -> None:
-        """Add a stretch of the file as XML reads it: with references and line ends replaced, or (CDATA) line ends alone."""
+    def add(self, start: int, end: int, is_attribute: bool, is_plain: bool) -> None:
+        """Add a stretch of the file with references and line ends replaced, as XML has it; in CDATA line ends alone."""
         raw, at, texts = self.source.text[start:end], 0, [self.text]
         for found in WRITTEN.finditer(raw):
             if is_plain and found[0][0] in "&\t":
                 continue
-            texts.append(raw[at:found.start()])
-            self.offsets.extend(range(start + at, start + found.start()))
-            texts.append(self.meaning(found, " " if is_attribute else "\n", is_attribute))
-            self.offsets.append(start + found.start())
+            texts += [raw[at:found.start()], meaning(found, is_attribute)]
+            self.offsets.extend(range(start + at, start + found.start() + 1))
             at = found.end()
-        texts.append(raw[at:])
         self.offsets.extend(range(start + at, end))
-        self.text, self.end = "".join(texts), end
+        self.text, self.end = "".join([*texts, raw[at:]]), end
 
-    def meaning(self, found: re.Match[str], line_end: str, is_attribute: bool) -> str:
-        """Return the character that a reference or a line end means."""
-        base16, base10, name = found.groups()
-        if base16 or base10:
-            number = int(base16 or base10, 16 if base16 else 10)
-            return chr(number) if number < 0x110000 else "?"
-        if found[0] == "\t":
-            return " " if is_attribute else "\t"
-        return ENTITIES.get(name, "?") if name else line_end
+
+def meaning(found: re.Match[str], is_attribute: bool) -> str:
+    """Return the character that a reference, a line end or a tab means."""
+    base16, base10, name = found.groups()
+    if base16 or base10:
+        return chr(min(int(base16 or base10, 16 if base16 else 10), 0x10FFFF))
+    return ENTITIES.get(name, "?") if name else " " if is_attribute else "\t" if found[0] == "\t" else "\n"
 
 
 @dataclass(slots=True, eq=False)
 class Node:
-    """An element. `spans` has the start and the end of each value in the file, `texts` those of its text, if that is kept."""
+    """An element. `spans` and `names` have where values begin and end, and where their attributes begin."""
 
     tag: str
     source: Source
@@ -133,58 +108,57 @@ class Node:
     def code(self, name: str | None = None) -> Code:
         """Return an attribute, or the text of the element, with the place of each character."""
         code = Code(self.source, end=self.offset)
-        if name is None:
-            for start, end, is_plain in self.texts:
-                code.add(start, end, is_plain=is_plain)
-        elif name in self.spans:
-            code.add(*self.spans[name], is_attribute=True)
+        for start, end, is_plain in self.texts if name is None else ():
+            code.add(start, end, False, is_plain)
+        if name in self.spans:
+            code.add(*self.spans[name], True, False)
         return code
 
 
-def read_bytes(path: str) -> bytes | None:
-    """Return the bytes of a file, or None if there are more than the limit."""
+def read_source(path: str, faults: Faults) -> Source:
+    """Return the text of a file, by its byte order mark or the encoding that it declares."""
     try:
         about = os.stat(path)
         if not stat.S_ISREG(about.st_mode):
             raise FileFault(f"{path}: this is no file that can be read")
         if about.st_size > MOST_BYTES:
-            return None
+            raise faults.refuse(Place(Source(path, ""), 0), f"a file has at most {MOST_BYTES:,} bytes")
         with open(path, "rb") as file:
-            data = file.read(MOST_BYTES + 1)
+            data = file.read(MOST_BYTES)
     except (OSError, ValueError) as fault:
         raise FileFault(f"{shown(path)}: {getattr(fault, 'strerror', None) or fault}") from None
-    return data if len(data) <= MOST_BYTES else None
-
-
-def decode(path: str, data: bytes, faults: Faults) -> Source:
-    """Return the text of a file, by its byte order mark or the encoding that it declares."""
     mark = next((it for it in BYTE_ORDER_MARKS if data.startswith(it)), b"")
     declared = DECLARED.match(data)
     named = declared[1].decode().upper() if declared else "UTF-8"
     encoding = BYTE_ORDER_MARKS.get(mark) or ENCODINGS.get(named)
     if encoding is None:
-        raise faults.refuse(Place(Source(path, ""), 0), f"the encoding {named} is not supported: save the file as UTF-8")
+        text = f"the encoding {named} is not supported: save the file as UTF-8"
+        raise faults.refuse(Place(Source(path, ""), 0), text)
     try:
         return Source(path, data[len(mark):].decode(encoding))
     except UnicodeDecodeError as fault:
         before = data[len(mark):][:fault.start].decode(encoding)
-        raise faults.refuse(Place(Source(path, before), len(before)), f"this is no text in the encoding {encoding}") from None
+        text = f"this is no text in the encoding {encoding}"
+        raise faults.refuse(Place(Source(path, before), len(before)), text) from None
 
 
 def scan(source: Source, faults: Faults) -> Iterator[tuple[Node, re.Match[str]]]:
-    """Return each start tag, as an element without its attributes' values, and link the elements to each other."""
+    """Return each start tag, as an element without attributes, and link the elements to each other."""
     text, at, count = source.text, 0, 0
     stack: list[Node] = []
     while at < len(text):
-        found = PIECE.match(text, at)
+        found, place = PIECE.match(text, at), Place(source, at)
         if found is None:
-            raise faults.refuse(Place(source, at), fault_of(text, at))
+            reason = f"this is no well-formed XML, or an element has more than {MOST_ATTRIBUTES} attributes"
+            if text.startswith("<!DOCTYPE", at):
+                reason = "a DOCTYPE with declarations of its own is not accepted"
+            raise faults.refuse(place, reason)
         kind = found.lastgroup
         if kind == "empty":
             node, count = Node(found["start"], source, at), count + 1
             if count > MOST_ELEMENTS or len(stack) >= MOST_DEPTH:
-                limit = f"{MOST_ELEMENTS:,} elements" if count > MOST_ELEMENTS else f"{MOST_DEPTH} elements inside each other"
-                raise faults.refuse(node.place, f"a file has at most {limit}")
+                limits = f"{MOST_ELEMENTS:,} elements, {MOST_DEPTH} inside each other"
+                raise faults.refuse(place, f"a file has at most {limits}")
             if stack:
                 stack[-1].children.append(node)
             if not found["empty"]:
@@ -194,45 +168,8 @@ def scan(source: Source, faults: Faults) -> Iterator[tuple[Node, re.Match[str]]]
             stack.pop()
         elif kind in ("text", "cdata") and stack and (stack[-1].tag in WITH_TEXT or found[kind].strip()):
             stack[-1].texts.append((*found.span(kind), kind == "cdata"))
+            check_references(source, found.span("text"), faults)
         at = found.end()
-
-
-def fault_of(text: str, at: int) -> str:
-    """Return what is wrong where the scan can't go on."""
-    if text.startswith("<!DOCTYPE", at):
-        return "a DOCTYPE with declarations of its own is not accepted"
-    return "this is no well-formed XML"
-
-
-def parse(source: Source, faults: Faults) -> list[etree._Element]:
-    """Return the elements of a text as lxml reads them, in their order."""
-    parser = etree.XMLParser(resolve_entities=False, no_network=True, load_dtd=False, huge_tree=False, encoding="utf-8",
-                             remove_comments=True, remove_pis=True)
-    try:
-        root = etree.fromstring(source.text.encode("utf-8", "surrogatepass"), parser)
-    except (etree.XMLSyntaxError, ValueError) as fault:
-        line = getattr(fault, "lineno", None) or 1
-        source.position(0)
-        starts = source.starts or [0]
-        start = starts[min(line, len(starts)) - 1]
-        offset = min(start + max(getattr(fault, "offset", 1) or 1, 1) - 1, len(source.text))
-        message = re.sub(r", line \d+, column \d+.*", "", str(fault)).strip()
-        raise faults.refuse(Place(source, offset), f"this is no well-formed XML: {shown(message)}") from None
-    return [it for it in root.iter() if isinstance(it.tag, str)]
-
-
-def set_attributes(node: Node, found: re.Match[str], element: etree._Element, faults: Faults) -> None:
-    """Give an element the attributes that lxml read, with their places."""
-    for one in ATTRIBUTE.finditer(node.source.text, *found.span("attributes")):
-        name, span = one[1], (one.start(2) + 1, one.end(2) - 1)
-        if name.startswith("xmlns") or name.startswith("xsi:"):
-            continue
-        node.attributes[name], node.spans[name], node.names[name] = element.get(name, ""), span, one.start(1)
-        if "&" in one[2]:
-            check_references(node.source, span, faults)
-    for key in element.attrib:
-        if key.startswith("{") and not key.startswith(SCHEMA_INSTANCE):
-            faults.add(node.place, f"the attribute {shown(key)} of {node.tag} is not known")
 
 
 def check_references(source: Source, span: tuple[int, int], faults: Faults) -> None:
@@ -242,27 +179,37 @@ def check_references(source: Source, span: tuple[int, int], faults: Faults) -> N
             faults.add(Place(source, found.start()), f"the entity {shown(found[3])} is not declared")
 
 
+def parse(source: Source, faults: Faults) -> list[etree._Element]:
+    """Return the elements of a text as lxml reads them, in their order."""
+    parser = etree.XMLParser(resolve_entities=False, no_network=True, load_dtd=False, huge_tree=False, encoding="utf-8",
+                             remove_comments=True, remove_pis=True)
+    try:
+        root = etree.fromstring(source.text.encode("utf-8"), parser)
+    except (etree.XMLSyntaxError, ValueError) as fault:
+        source.position(0)
+        line, column = getattr(fault, "position", (1, 1))
+        offset = source.starts[min(max(line, 1), len(source.starts)) - 1] + max(column, 1) - 1
+        message = shown(re.sub(r", line \d+, column \d+.*", "", str(fault)).strip())
+        place = Place(source, min(offset, len(source.text)))
+        raise faults.refuse(place, f"this is no well-formed XML: {message}") from None
+    return [it for it in root.iter() if isinstance(it.tag, str)]
+
+
 def read_document(path: str, faults: Faults) -> Node:
     """Read an XML file. What is no such file is refused with its place."""
-    data = read_bytes(path)
-    if data is None:
-        raise faults.refuse(Place(Source(path, ""), 0), f"a file has at most {MOST_BYTES:,} bytes")
-    source = decode(path, data, faults)
-    tags = []
-    for node, found in scan(source, faults):
-        if found["attributes"].count("=") > MOST_ATTRIBUTES:
-            if sum(1 for _ in ATTRIBUTE.finditer(source.text, *found.span("attributes"))) > MOST_ATTRIBUTES:
-                raise faults.refuse(node.place, f"an element has at most {MOST_ATTRIBUTES} attributes")
-        tags.append((node, found))
+    source = read_source(path, faults)
+    tags = list(scan(source, faults))
     elements = parse(source, faults)
-    if [it.tag for it in elements] != [node.tag for node, _ in tags]:
+    if not tags or [it.tag for it in elements] != [node.tag for node, _ in tags]:
         place = next((node.place for it, (node, _) in zip(elements, tags) if it.tag != node.tag), Place(source, 0))
         raise faults.refuse(place, "elements with a namespace are not supported")
     for (node, found), element in zip(tags, elements):
-        set_attributes(node, found, element, faults)
-        for start, end, is_plain in node.texts:
-            if not is_plain:
-                check_references(source, (start, end), faults)
-    if not tags:
-        raise Refused()
+        for one in ATTRIBUTE.finditer(source.text, *found.span("attributes")):
+            name, span = one[1], (one.start(2) + 1, one.end(2) - 1)
+            if not name.startswith(("xmlns", "xsi:")):
+                node.attributes[name], node.spans[name], node.names[name] = element.get(name, ""), span, one.start(1)
+                check_references(source, span, faults)
+        for key in element.attrib:
+            if key.startswith("{") and not key.startswith(SCHEMA_INSTANCE):
+                faults.add(node.place, f"the attribute {shown(key)} of {node.tag} is not known")
     return tags[0][0]

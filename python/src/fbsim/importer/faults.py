@@ -2,27 +2,34 @@
 
 from __future__ import annotations
 
+import bisect
+import re
 from collections.abc import Iterator
 from dataclasses import dataclass, field
-from typing import Protocol
 
-MOST_SHOWN = 200
+MOST_SHOWN, MOST_KEPT = 200, 2000
 
 
-class Located(Protocol):
-    """A file in which offsets have a line and a column."""
+class Source:
+    """The text of one file."""
 
-    path: str
+    def __init__(self, path: str, text: str) -> None:
+        self.path, self.text = path, text
+        self.starts: list[int] = []
 
     def position(self, offset: int) -> tuple[int, int]:
         """Return the line and the column of an offset, both from 1; columns count characters."""
+        if not self.starts:
+            self.starts = [0, *(it.end() for it in re.finditer(r"\r\n?|\n", self.text))]
+        line = bisect.bisect_right(self.starts, offset)
+        return line, offset - self.starts[line - 1] + 1
 
 
 @dataclass(frozen=True, slots=True)
 class Place:
     """An offset in a file, shown as FILE:LINE:COLUMN."""
 
-    source: Located
+    source: Source
     offset: int
 
     def __str__(self) -> str:
@@ -40,7 +47,7 @@ class Refused(Exception):
 
 def shown(text: str) -> str:
     """Return a text for a message: on one line, printable, at most 60 characters."""
-    line = "".join(it if it.isprintable() else "?" for it in text)
+    line = "".join(it if it.isprintable() else "?" for it in text[:61])
     return line if len(line) <= 60 else line[:57] + ".."
 
 
@@ -53,6 +60,8 @@ class Faults:
     def add(self, place: Place, text: str) -> None:
         """Keep a refusal. The same one at the same place is kept once."""
         self.found.setdefault((place.source.path, place.offset, text), place)
+        if len(self.found) >= MOST_KEPT:
+            raise Refused
 
     def refuse(self, place: Place, text: str) -> Refused:
         """Keep a refusal after which the import can't go on, and return the exception to raise."""
@@ -68,4 +77,4 @@ class Faults:
         for (_, _, text), place in ordered[:MOST_SHOWN]:
             yield f"{place}: {text}"
         if len(ordered) > MOST_SHOWN:
-            yield f"and {len(ordered) - MOST_SHOWN} more"
+            yield f"and {len(ordered) - MOST_SHOWN:,} more"

@@ -1,4 +1,4 @@
-"""The instances and connections of a network, with subapplications and communication blocks replaced by direct connections."""
+"""The instances and connections of a network, with subapplications and communication blocks replaced by connections."""
 
 from __future__ import annotations
 
@@ -11,10 +11,11 @@ from .document import Code, Node
 from .faults import Place, shown
 from .names import Names
 
-MOST_INSTANCES = 4096
-MOST_CONNECTIONS = 100_000
+MOST_INSTANCES, MOST_CONNECTIONS = 4096, 100_000
 COMMUNICATION = re.compile(r"(PUBLISH|PUBL|SUBSCRIBE|SUBL|CLIENT|SERVER)(?:_(\d{1,2}))?(?:_(\d{1,2}))?", re.IGNORECASE)
-PARTNERS = {"PUBLISH": "SUBSCRIBE", "PUBL": "SUBL", "SUBSCRIBE": "PUBLISH", "SUBL": "PUBL", "CLIENT": "SERVER", "SERVER": "CLIENT"}
+# For each kind of communication block: its partner, and the events that it sends by, confirms with and receives with.
+SERVICES = {"PUBLISH": ("SUBSCRIBE", "REQ", "CNF"), "PUBL": ("SUBL", "REQ", "CNF"), "CLIENT": ("SERVER", "REQ", "CNF"),
+            "SUBSCRIBE": ("PUBLISH", "RSP", "IND"), "SUBL": ("PUBL", "RSP", "IND"), "SERVER": ("CLIENT", "RSP", "IND")}
 # The path of an instance (that of the network itself is empty), and the name of a port.
 Key = tuple[str, str]
 
@@ -43,19 +44,19 @@ class Wire:
 
 @dataclass(slots=True)
 class Scope:
-    """The part of an XML file in which names are looked up. Aliases are the instances of the application in a resource."""
+    """A network of an XML file, in which names are looked up. Aliases are what instances are called in a resource."""
 
     path: str
     names: Names
     aliases: dict[str, str] = field(default_factory=dict)
     types: tuple[str, ...] = ()
 
-    def find(self, name: str) -> str | None:
-        """Return the path of an instance."""
+    def find(self, name: str) -> str:
+        """Return the path of an instance, or nothing."""
         found = self.names.find(name)
         if found and found not in self.aliases:
             return f"{self.path}.{found}" if self.path else found
-        return self.aliases.get(found or name)
+        return self.aliases.get(found or name, "")
 
 
 class Network:
@@ -67,29 +68,25 @@ class Network:
         self.instances: dict[str, Instance] = {}
         self.hubs: dict[Key, list[Key]] = {}
         self.services: dict[str, tuple[str, Place]] = {}
-        self.wires: list[Wire] = []
         self.outgoing: dict[Key, list[Wire]] = {}
         self.parameters: list[tuple[Key, Code]] = []
         self.notes: list[str] = []
         self.visits = 0
 
-    # ---- Reading
-
-    def add(self, node: Node, path: str = "", aliases: dict[str, str] | None = None, types: tuple[str, ...] = ()) -> None:
+    def add(self, node: Node, path: str = "", aliases: dict[str, str] = {}, types: tuple[str, ...] = ()) -> None:
         """Add a network, with its subapplications."""
         instances = list(node.all("FB", "SubApp"))
         names = Names("instance", [(it.get("Name"), it.at("Name")) for it in instances], self.faults)
-        scope = Scope(path, names, aliases or {}, types)
+        scope = Scope(path, names, aliases, types)
         for it in instances:
-            if it.get("Name") in names.out:
-                self.add_instance(it, scope)
+            self.add_instance(it, scope)
         for part in node.all("EventConnections", "DataConnections", "AdapterConnections"):
             for it in part.children:
                 self.connect(it, part.tag, scope)
 
     def add_instance(self, node: Node, scope: Scope) -> None:
         """Add an instance, or the inside of a subapplication."""
-        path, place, kind = scope.find(node.get("Name")) or "", node.at("Name"), node.get("Type")
+        path, place, kind = scope.find(node.get("Name")), node.at("Name"), node.get("Type")
         if path in self.blocks:
             self.set_parameters(node, path)
             return
@@ -102,13 +99,7 @@ class Network:
         if block is None:
             return
         if block.kind == "subapplication":
-            if block.name in scope.types or len(scope.types) > 15:
-                self.faults.add(place, f"subapplication {block.name} contains itself, or they nest more than 16 deep")
-                return
-            self.hubs.update({(path, it): [(path, it)] for it in block.ports})
-            inside = block.node.first("FBNetwork", "SubAppNetwork") if block.node else None
-            if inside:
-                self.add(inside, path, types=(*scope.types, block.name))
+            self.add_inside(block, path, scope, place)
         elif block.kind == "adapter":
             self.faults.add(node.at("Type"), f"{block.name} is an adapter type: it has no instances")
         elif block.kind != "communication":
@@ -117,59 +108,63 @@ class Network:
                 raise self.faults.refuse(place, f"there are more than {MOST_INSTANCES:,} instances")
         self.set_parameters(node, path)
         if block.kind == "communication":
-            code = next((code for key, code in self.parameters if key == (path, "ID")), None)
-            self.services[path] = (code.text.strip(" \"'") if code else ""), place
+            found = (code.text for key, code in self.parameters if key == (path, "ID"))
+            self.services[path] = next(found, "").strip(" \"'"), place
+
+    def add_inside(self, block: Block, path: str, scope: Scope, place: Place) -> None:
+        """Add the inside of a subapplication. Its ports only hand on what comes to them."""
+        if block.name in scope.types or len(scope.types) > 15:
+            text = f"subapplication {block.name} contains itself, or they nest more than 16 deep"
+            self.faults.add(place, text)
+            return
+        self.hubs.update({(path, it): [(path, it)] for it in block.ports})
+        inside = block.node.first("FBNetwork", "SubAppNetwork") if block.node else None
+        if inside:
+            self.add(inside, path, types=(*scope.types, block.name))
 
     def set_parameters(self, node: Node, path: str) -> None:
-        """Keep the parameters of an instance. A list of times for a table of Annex A is given to its inputs, one by one."""
+        """Keep the parameters of an instance. A list of values goes to the inputs NAME0, NAME1 and so on."""
         block = self.blocks[path]
         for it in node.all("Parameter") if block else ():
             assert block is not None
             name, code = it.get("Name"), it.code("Value")
-            port = block.find(name)
-            if port is None and block.find(f"{name}0") and code.text.strip()[:1] == "[":
-                for number, found in enumerate(re.finditer(r"[^\[\],\s]+", code.text)):
-                    part = Code(code.source, found[0], code.offsets[found.start():found.end()], code.end)
-                    if block.find(f"{name}{number}"):
-                        self.parameters.append(((path, f"{name.upper()}{number}"), part))
-                    else:
-                        self.faults.add(part.place(0), f"{block.name} has no input for more than {number} values")
-            elif port is None or port.is_event or port.is_output:
-                self.faults.add(it.at("Name"), f"type {block.name} has no data input {shown(name)}")
-            elif code.text.strip():
-                self.parameters.append(((path, port.name), code))
+            rows = [(name, code, it.at("Name"))]
+            if block.find(f"{name}0") and not block.find(name):
+                parts = re.finditer(r"[^\[\],\s]+", code.text)
+                rows = [(f"{name}{number}", Code(code.source, found[0], code.offsets[slice(*found.span())], code.end),
+                         code.place(found.start())) for number, found in enumerate(parts)]
+            for name, code, place in rows:
+                port = block.find(name)
+                if port is None or port.is_event or port.is_output:
+                    self.faults.add(place, f"type {block.name} has no data input {shown(name)}")
+                elif code.text.strip():
+                    self.parameters.append(((path, port.name), code))
 
     def connect(self, node: Node, tag: str, scope: Scope) -> None:
         """Add a connection, or those that an adapter connection stands for."""
-        source, target = node.get("Source"), node.get("Destination")
+        place, other, repeats = node.at("Source"), node.at("Destination"), bool(scope.aliases)
         if tag != "AdapterConnections":
             is_event = tag == "EventConnections"
-            begin = self.find(source, scope, is_event, True, node.at("Source"))
-            end = self.find(target, scope, is_event, False, node.at("Destination"))
+            begin = self.find(node.get("Source"), scope, is_event, True, place)
+            end = self.find(node.get("Destination"), scope, is_event, False, other)
             if begin and end:
-                self.add_wire(Wire(begin, end, node.at("Source"), is_event, bool(scope.aliases)))
+                self.outgoing.setdefault(begin, []).append(Wire(begin, end, place, is_event, repeats))
             return
-        plug = self.find_adapter(source, scope, True, node.at("Source"))
-        socket = self.find_adapter(target, scope, False, node.at("Destination"))
-        if plug and socket:
-            for it in plug[2].ports.values():
-                ends = (plug[0], f"{plug[1]}.{it.name}"), (socket[0], f"{socket[1]}.{it.name}")
-                begin, end = ends if it.is_output else ends[::-1]
-                self.add_wire(Wire(begin, end, node.at("Source"), it.is_event, bool(scope.aliases)))
-
-    def add_wire(self, wire: Wire) -> None:
-        """Keep a connection."""
-        self.wires.append(wire)
-        self.outgoing.setdefault(wire.source, []).append(wire)
+        plug = self.find_adapter(node.get("Source"), scope, True, place)
+        socket = self.find_adapter(node.get("Destination"), scope, False, other)
+        for it in plug[2].ports.values() if plug and socket else ():
+            ends = [(path, f"{name}.{it.name}") for path, name, _ in filter(None, (plug, socket))]
+            begin, end = ends if it.is_output else ends[::-1]
+            self.outgoing.setdefault(begin, []).append(Wire(begin, end, place, it.is_event, repeats))
 
     def block_of(self, text: str, scope: Scope, place: Place) -> tuple[str, str, Block] | None:
         """Return the path, the port's name and the block that INSTANCE.PORT means, or refuse the name."""
         name, _, port = text.rpartition(".")
         path = scope.find(name)
-        if path is None or path not in self.blocks:
-            self.faults.add(place, f"there is no instance {shown(name)}" if name else f"there is no port {shown(text)}")
-            return None
-        block = self.blocks[path]
+        if not path or path not in self.blocks:
+            what = f"instance {shown(name)}" if name else f"port {shown(text)}"
+            self.faults.add(place, f"there is no {what}")
+        block = self.blocks.get(path) if path else None
         return (path, port, block) if block else None
 
     def find(self, text: str, scope: Scope, is_event: bool, is_source: bool, place: Place) -> Key | None:
@@ -186,98 +181,82 @@ class Network:
         if port is None or port.is_event != is_event or port.is_output != is_source:
             kind = f"{'event' if is_event else 'data'} {'output' if is_source else 'input'}"
             others = ", ".join(it.name for it in block.side(is_event, is_source)) or "none"
-            self.faults.add(place, f"{shown(text)}: type {block.name} has no {kind} {shown(name)} (it has {shown(others)})")
+            text = f"{shown(text)}: type {block.name} has no {kind} {shown(name)} (it has {shown(others)})"
+            self.faults.add(place, text)
             return None
         if block.kind == "communication" and port.name in ("QO", "STATUS"):
             self.faults.add(place, f"{port.name} of {block.name} is not simulated: links don't fail")
         return path, port.name
 
     def find_adapter(self, text: str, scope: Scope, is_source: bool, place: Place) -> tuple[str, str, Block] | None:
-        """Return the path, the name and the type of an adapter. A source is a plug, or a socket of the network's own type."""
-        owner = self.blocks.get(scope.path)
+        """Return the path, the name and the type of an adapter. A source is a plug, or a socket of the owner."""
+        owner, found, is_plug = self.blocks.get(scope.path), None, is_source
         if owner and text in owner.adapters:
-            path, name, block, is_plug = scope.path, text, owner, not is_source
-        else:
-            found = self.block_of(text, scope, place)
-            if found is None:
-                return None
-            (path, name, block), is_plug = found, is_source
-        adapter = block.adapters.get(name)
-        if adapter is None or adapter[0] != is_plug:
+            found, is_plug = (scope.path, text, owner), not is_source
+        found = found or self.block_of(text, scope, place)
+        adapter = found[2].adapters.get(found[1]) if found else None
+        if found and (adapter is None or adapter[0] != is_plug):
             kind = "plug" if is_plug else "socket"
-            self.faults.add(place, f"{shown(text)}: type {block.name} has no {kind} {shown(name)}")
-            return None
-        return path, name, adapter[1]
-
-    # ---- Direct connections
+            self.faults.add(place, f"{shown(text)}: type {found[2].name} has no {kind} {shown(found[1])}")
+        return (found[0], found[1], adapter[1]) if found and adapter and adapter[0] == is_plug else None
 
     def link_services(self) -> None:
         """Connect communication blocks: what one sends is what those with the same ID receive."""
         kinds = {path: kind_of(self.blocks[path]) for path in self.services}
         for path, (name, place) in self.services.items():
-            kind = kinds[path]
-            partners = [it for it, (other, _) in self.services.items() if other == name and kinds[it] == PARTNERS[kind]]
-            rivals = [it for it, (other, _) in self.services.items() if other == name and kinds[it] == kind]
+            kind, block, title = kinds[path], self.blocks[path], path.lstrip(".")
+            partner, sends, confirms = SERVICES[kind]
+            alike = [it for it, (other, _) in self.services.items() if other == name]
+            partners = [it for it in alike if kinds[it] == partner]
             if not name or not partners:
-                reason = f"there is no {PARTNERS[kind]} with its ID {shown(name)!r}" if name else "it has no ID as a parameter"
-                self.faults.add(place, f"{path}: {reason}: remove it, and give its events as stimuli")
-            elif len(rivals) > 1 and kind in ("CLIENT", "SERVER"):
-                self.faults.add(place, f"{path}: there is more than one {kind} with its ID {shown(name)!r}")
-            sends, receives = ("RSP", "IND") if kind == "SERVER" else ("REQ", "CNF")
-            into = "IND" if kind != "SERVER" else "CNF"
-            block = self.blocks[path]
-            for it in block.side(False, False) + block.side(True, False) if block else ():
-                self.hubs[path, it.name] = []
-                if it.name.startswith("SD_"):
-                    self.hubs[path, it.name] = [(other, it.name.replace("SD", "RD")) for other in partners]
+                reason = f"there is no {partner} with its ID {shown(name)}" if name else "it has no ID as a parameter"
+                self.faults.add(place, f"{title}: {reason}: remove it, and give its events as stimuli")
+            elif kind in ("CLIENT", "SERVER") and sum(kinds[it] == kind for it in alike) > 1:
+                self.faults.add(place, f"{title}: there is more than one {kind} with its ID {shown(name)}")
+            for it in block.ports if block else ():
+                others = [(other, it.replace("SD", "RD")) for other in partners if it.startswith("SD_")]
+                self.hubs[path, it] = others
             self.hubs[path, "INIT"] = [(path, "INITO")]
-            if not kind.startswith("SUB"):
-                confirm = [(path, receives)] if kind.startswith("PUB") else []
-                self.hubs[path, sends] = [(it, into) for it in partners] + confirm
-            shown_partners = ", ".join(partners)
-            self.notes.append(f"{path} ({kind}, ID {name}) is connected directly to {shown_partners}")
+            if partner not in ("PUBLISH", "PUBL"):
+                own = [] if kind in ("CLIENT", "SERVER") else [(path, confirms)]
+                self.hubs[path, sends] = [*((it, SERVICES[partner][2]) for it in partners), *own]
+            names = ", ".join(it.lstrip(".") for it in partners)
+            self.notes.append(f"{title} ({kind}, ID {name}) is connected directly to {names}")
 
     def targets(self, key: Key, depth: int = 0) -> Iterator[Key]:
         """Return the ports to which a connection leads in the end."""
         if key not in self.hubs:
             yield key
             return
-        for hub in self.hubs[key]:
-            for wire in self.outgoing.get(hub, ()):
-                self.visits += 1
-                if depth > 64 or self.visits > 10 * MOST_CONNECTIONS:
-                    raise self.faults.refuse(wire.place, "connections of subapplications or communication blocks lead in a circle")
-                yield from self.targets(wire.target, depth + 1)
+        for wire in (it for hub in self.hubs[key] for it in self.outgoing.get(hub, ())):
+            self.visits += 1
+            if depth > 64 or self.visits > 10 * MOST_CONNECTIONS:
+                text = "connections of subapplications or communication blocks lead in a circle"
+                raise self.faults.refuse(wire.place, text)
+            yield from self.targets(wire.target, depth + 1)
 
     def resolved(self) -> list[Wire]:
         """Return the connections between instances, and give the instances their parameters."""
         self.link_services()
-        found: dict[tuple[Key, Key], Wire] = {}
-        repeated: list[Wire] = []
-        passing = {path for path, block in self.blocks.items() if block and path and path not in self.instances}
-        for wire in self.wires:
-            if wire.source[0] in passing:
-                continue
+        found: dict[tuple[Key, Key], list[Wire]] = {}
+        wires = [it for key, row in self.outgoing.items() if not key[0] or key[0] in self.instances for it in row]
+        for wire in wires:
             for target in self.targets(wire.target):
-                ends = wire.source, target
-                if ends in found and wire.may_repeat:
+                row = found.setdefault((wire.source, target), [])
+                if row and wire.may_repeat:
                     self.notes.append(f"{wire.place}: this connection of the application is given again in a resource")
-                elif ends in found:
-                    repeated.append(replace(wire, target=target))
                 else:
-                    found[ends] = replace(wire, target=target)
-                if len(found) + len(repeated) > MOST_CONNECTIONS:
-                    raise self.faults.refuse(wire.place, f"there are more than {MOST_CONNECTIONS:,} connections")
+                    row.append(replace(wire, target=target))
         self.spread_parameters()
-        return [*found.values(), *repeated]
+        return [it for row in found.values() for it in row]
 
     def spread_parameters(self) -> None:
-        """Give parameters to instances. Those of a subapplication go to the inputs inside, and so do its initial values."""
-        connected = {it.target for it in self.wires} | {key for key, _ in self.parameters}
+        """Give parameters to instances. Those of a subapplication, and its initial values, go to the inputs inside."""
+        set_already = {it.target for row in self.outgoing.values() for it in row} | {key for key, _ in self.parameters}
         for path, block in self.blocks.items():
-            if block and block.kind == "subapplication":
-                inputs = [it for it in block.side(False, False) if it.initial and (path, it.name) not in connected]
-                self.parameters += [((path, it.name), it.initial) for it in inputs if it.initial]
+            for it in block.side(False, False) if block and block.kind == "subapplication" else ():
+                if it.initial and (path, it.name) not in set_already:
+                    self.parameters.append(((path, it.name), it.initial))
         for key, code in self.parameters:
             for path, name in self.targets(key):
                 if path in self.instances:
@@ -295,13 +274,12 @@ def communication(name: str, place: Place) -> Block | None:
     found = COMMUNICATION.fullmatch(name.rpartition("::")[2])
     if found is None:
         return None
-    kind, count = found[1].upper(), max(int(found[2] or 1), int(found[3] or 0))
-    sends, receives = not kind.startswith("SUB"), not kind.startswith("PUB")
-    events = {"SERVER": ("RSP", "IND"), "SUBSCRIBE": ("RSP", "IND"), "SUBL": ("RSP", "IND")}.get(kind, ("REQ", "CNF"))
     block = Block(found[0], "communication", place)
-    ports = [("INIT", True, False), (events[0], True, False), ("INITO", True, True), (events[1], True, True)]
-    ports += [("QI", False, False), ("ID", False, False), ("QO", False, True), ("STATUS", False, True)]
-    ports += [(f"SD_{it}", False, False) for it in range(1, count + 1) if sends]
-    ports += [(f"RD_{it}", False, True) for it in range(1, count + 1) if receives]
-    block.ports = {it: Port(it, is_event, is_output, place) for it, is_event, is_output in ports}
+    kind, numbers = kind_of(block), range(1, max(int(found[2] or 1), int(found[3] or 0)) + 1)
+    _, sends, confirms = SERVICES[kind]
+    data = ["QI", "ID", *(f"SD_{it}" for it in numbers if not kind.startswith("SUB"))]
+    outputs = ["QO", "STATUS", *(f"RD_{it}" for it in numbers if not kind.startswith("PUB"))]
+    events = (["INIT", sends], True, False), (["INITO", confirms], True, True)
+    sides = (*events, (data, False, False), (outputs, False, True))
+    block.ports = {it: Port(it, is_event, is_output, place) for names, is_event, is_output in sides for it in names}
     return block

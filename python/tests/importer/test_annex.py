@@ -1,0 +1,76 @@
+"""share/annex_a.iec: a service sequence for each type, worked out by hand from the comment of the type."""
+
+from __future__ import annotations
+
+import subprocess
+
+import pytest
+from fbsim import check_sequence
+from fbsim.program import find_program
+from importing import TOP
+
+FILE = TOP / "share" / "annex_a.iec"
+TIMES = "DT0=1 DT1=2 DT2=3 DT3=4"
+# A type, and its steps: an event with values or a time in ms, and the events that must come.
+SEQUENCES = {
+    "E_RS": [["R"], ["S", "EO Q=TRUE"], ["S"], ["R", "EO Q=FALSE"], ["R"], ["S", "EO Q=TRUE"]],
+    "E_T_FF": [["CLK", "EO Q=TRUE"], ["CLK", "EO Q=FALSE"], ["CLK", "EO Q=TRUE"]],
+    "E_DEMUX": [["EI K=0", "EO0"], ["EI K=3", "EO3"], ["EI K=1", "EO1"], ["EI K=2", "EO2"], ["EI K=4"], ["EI K=0", "EO0"]],
+    # A START during a train, and one with no events, change nothing.
+    "E_TRAIN": [["START DT=2 N=3"], ["wait 2", "EO CV=0"], ["wait 2", "EO CV=1"], ["START DT=5 N=9"], ["wait 1", "EO CV=2"],
+                ["wait 9"], ["START DT=1 N=0"], ["wait 5"], ["START DT=4 N=2"], ["wait 4", "EO CV=0"], ["STOP"], ["wait 9"],
+                ["START DT=1 N=1"], ["wait 1", "EO CV=0"], ["wait 5"]],
+    # N over 4 counts as 4.
+    "E_TABLE": [[f"START {TIMES} N=4"], ["wait 1", "EO CV=0"], ["wait 2", "EO CV=1"], ["wait 3", "EO CV=2"],
+                ["wait 4", "EO CV=3"], ["wait 20"], ["START DT0=2 DT1=2 DT2=2 DT3=2 N=9"], ["wait 1"],
+                ["wait 7", "EO CV=0", "EO CV=1", "EO CV=2", "EO CV=3"], ["wait 9"], ["START N=2"], ["wait 2", "EO CV=0"], ["STOP"],
+                ["wait 9"]],
+    "E_N_TABLE": [[f"START {TIMES} N=4"], ["wait 1", "EO0"], ["wait 2", "EO1"], ["wait 3", "EO2"], ["wait 4", "EO3"], ["wait 9"],
+                  ["START N=2"], ["wait 9", "EO0", "EO1"], ["START N=4"], ["wait 1", "EO0"], ["STOP"], ["wait 9"]],
+    "TON": [["REQ IN=FALSE PT=3", "CNF Q=FALSE"], ["REQ IN=TRUE", "CNF Q=FALSE"], ["wait 2"], ["wait 1", "CNF Q=TRUE"],
+            ["REQ IN=TRUE", "CNF Q=TRUE"], ["REQ IN=FALSE", "CNF Q=FALSE"], ["REQ IN=TRUE", "CNF Q=FALSE"],
+            ["REQ IN=TRUE", "CNF Q=FALSE"], ["REQ IN=FALSE", "CNF Q=FALSE"], ["wait 9"]],
+    "TOF": [["REQ IN=FALSE PT=3", "CNF Q=FALSE"], ["REQ IN=TRUE", "CNF Q=TRUE"], ["wait 9"], ["REQ IN=FALSE", "CNF Q=TRUE"],
+            ["wait 2"], ["wait 1", "CNF Q=FALSE"], ["REQ IN=TRUE", "CNF Q=TRUE"], ["REQ IN=FALSE", "CNF Q=TRUE"],
+            ["REQ IN=FALSE", "CNF Q=TRUE"], ["REQ IN=TRUE", "CNF Q=TRUE"], ["wait 9"]],
+    # The input falls and rises during the first pulse, and is FALSE at the end of the second.
+    "TP": [["REQ IN=FALSE PT=4", "CNF Q=FALSE"], ["REQ IN=TRUE", "CNF Q=TRUE"], ["REQ IN=FALSE", "CNF Q=TRUE"],
+           ["REQ IN=TRUE", "CNF Q=TRUE"], ["wait 1"], ["wait 1", "CNF Q=FALSE"], ["REQ IN=TRUE", "CNF Q=FALSE"],
+           ["REQ IN=FALSE", "CNF Q=FALSE"], ["REQ IN=TRUE", "CNF Q=TRUE"], ["REQ IN=FALSE", "CNF Q=TRUE"], ["wait 2"],
+           ["wait 1", "CNF Q=FALSE"], ["REQ IN=TRUE", "CNF Q=TRUE"]],
+    "CTU": [["REQ CU=FALSE PV=2", "CNF Q=FALSE CV=0"], ["REQ CU=TRUE", "CNF Q=FALSE CV=1"], ["REQ CU=TRUE", "CNF Q=FALSE CV=1"],
+            ["REQ CU=FALSE", "CNF Q=FALSE CV=1"], ["REQ CU=TRUE", "CNF Q=TRUE CV=2"], ["REQ CU=FALSE R=TRUE", "CNF Q=FALSE CV=0"]],
+    "CTD": [["REQ CD=FALSE LD=TRUE PV=2", "CNF Q=FALSE CV=2"], ["REQ CD=TRUE LD=FALSE", "CNF Q=FALSE CV=1"],
+            ["REQ CD=TRUE", "CNF Q=FALSE CV=1"], ["REQ CD=FALSE", "CNF CV=1"], ["REQ CD=TRUE", "CNF Q=TRUE CV=0"],
+            ["REQ CD=FALSE", "CNF Q=TRUE CV=0"], ["REQ CD=TRUE", "CNF Q=TRUE CV=-1"]],
+    # Both edges at once do nothing; R comes before LD.
+    "CTUD": [["REQ PV=2", "CNF QU=FALSE QD=TRUE CV=0"], ["REQ CU=TRUE", "CNF QU=FALSE QD=FALSE CV=1"], ["REQ CU=FALSE", "CNF CV=1"],
+             ["REQ CU=TRUE", "CNF QU=TRUE QD=FALSE CV=2"], ["REQ CD=TRUE", "CNF QU=FALSE CV=1"],
+             ["REQ CU=FALSE CD=FALSE", "CNF CV=1"], ["REQ CU=TRUE CD=TRUE", "CNF CV=1"],
+             ["REQ CU=FALSE CD=FALSE LD=TRUE", "CNF QU=TRUE CV=2"], ["REQ R=TRUE", "CNF QD=TRUE CV=0"]],
+    "SR": [["REQ S1=TRUE R=TRUE", "CNF Q1=TRUE"], ["REQ S1=FALSE", "CNF Q1=FALSE"], ["REQ S1=TRUE R=FALSE", "CNF Q1=TRUE"],
+           ["REQ S1=FALSE", "CNF Q1=TRUE"], ["REQ R=TRUE", "CNF Q1=FALSE"]],
+    "RS": [["REQ S=TRUE R1=TRUE", "CNF Q1=FALSE"], ["REQ R1=FALSE", "CNF Q1=TRUE"], ["REQ S=FALSE", "CNF Q1=TRUE"],
+           ["REQ R1=TRUE", "CNF Q1=FALSE"]],
+}
+
+
+@pytest.mark.parametrize("name", SEQUENCES)
+def test_a_type_answers_as_its_service_sequence_says(name):
+    check_sequence(name, SEQUENCES[name], types=[FILE])
+
+
+def test_all_types_are_accepted_without_a_warning_and_have_a_comment(tmp_path):
+    inputs = {"E_TRAIN": "DT := 1, N := 1", "E_DEMUX": "K := 1", "CTU": "CU := FALSE, R := FALSE, PV := 1",
+              "CTD": "CD := FALSE, LD := FALSE, PV := 1", "SR": "S1 := FALSE, R := FALSE", "RS": "S := FALSE, R1 := FALSE",
+              "CTUD": "CU := FALSE, CD := FALSE, R := FALSE, LD := FALSE, PV := 1"}
+    inputs |= {it: "DT0 := 1, DT1 := 1, DT2 := 1, DT3 := 1, N := 1" for it in ("E_TABLE", "E_N_TABLE")}
+    inputs |= {it: "IN := FALSE, PT := 1" for it in ("TON", "TOF", "TP")}
+    rows = "".join(f"I_{it} : {it}{f'({inputs[it]})' if it in inputs else ''};\n" for it in SEQUENCES)
+    (tmp_path / "all.iec").write_text(f"APPLICATION A FBS {rows} END_FBS END_APPLICATION\n")
+    words = [find_program(), "check", str(tmp_path / "all.iec"), "--types", str(FILE), "--lint", "--why"]
+    done = subprocess.run(words, capture_output=True, text=True)
+    assert (done.returncode, done.stdout, done.stderr) == (0, "accepted\n", "")
+    text = FILE.read_text()
+    for name in SEQUENCES:
+        assert "*)\nFUNCTION_BLOCK " + name + "\n" in text
