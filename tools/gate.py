@@ -5,20 +5,21 @@ First it installs the system packages of tools/system_packages.txt that are miss
 (tools/system_packages.py). Without a crate it is the whole gate. In order:
 
 - pages: each example's page explains its trace, docs/FORMATS.md shows the explanations of the refusals, and what the documents name
-  exists (tools/documents.py); NOTICE names each library of the program with its licence (tools/notice.py); the traces of the examples are those of a second simulator (tools/interpreter.py) and keep the rules of
-  their page (tools/bottling.py); the syntax files of editors/ colour declarations right (tools/editors.py)
+  exists (tools/documents.py); NOTICE names each library of the program with its licence (tools/notice.py); the traces of the examples
+  are those of a second simulator (tools/interpreter.py) and keep the rules of their page (tools/bottling.py); the syntax files of
+  editors/ colour declarations right (tools/editors.py)
 - tools: those that compare figures of pages and try stored cases and wrong implementations distinguish right from wrong
-  (tools/figures_test.py, tools/cases_test.py,
-  tools/must_fail_test.py)
+  (tools/figures_test.py, tools/cases_test.py, tools/must_fail_test.py)
 - proofs, from scratch: every crate and its tests are proved, and every wrong implementation in crates/*/must-fail is refused
 - tests and programs
 - calls of the program: each status (tools/calls.py), the commands that pages of docs/ show (tools/pages.py), the suite of
-  examples/bottling, whole and broken (tools/bottling_suite.py), ./simulate (tools/launcher.py), the packages (tools/packages.py), waveforms of the examples (tools/waves.py),
-  graphs of declarations (tools/graphs.py), what happens inside traces (tools/insides.py), waveforms with it (tools/state_waves.py), texts
-  that are no traces (tools/traces.py), the stored cases of cases/ (tools/cases.py), rings of resources (tools/rings.py), random systems
-  (tools/drawn.py), random types (tools/drawn_types.py), where they stop (tools/stops.py), each token at each place of a declaration
-  (tools/expected.py), types with more events than 16 bits can number (tools/wide.py), outputs that take little and readers that fail
-  (tools/narrow.py), texts that are cut or changed in one byte (tools/hostile.py), and each request for memory refused (tools/refuse.py)
+  examples/bottling, whole and broken (tools/bottling_suite.py), ./simulate (tools/launcher.py), the packages (tools/packages.py),
+  waveforms of the examples (tools/waves.py), graphs of declarations (tools/graphs.py), what happens inside traces (tools/insides.py),
+  waveforms with it (tools/state_waves.py), texts that are no traces (tools/traces.py), the stored cases of cases/ (tools/cases.py),
+  rings of resources (tools/rings.py), random systems (tools/drawn.py), random types (tools/drawn_types.py), where they stop
+  (tools/stops.py), each token at each place of a declaration (tools/expected.py), types with more events than 16 bits can number
+  (tools/wide.py), outputs that take little and readers that fail (tools/narrow.py), texts that are cut or changed in one byte
+  (tools/hostile.py), and each request for memory refused (tools/refuse.py)
 
 Then it prints the processor seconds and the memory of each crate. The last line is 'N passed, M failed', and the status is 0 if none
 failed. With crates it does the same only for these and those below them, on a copy of their files. --jobs N uses N processors.
