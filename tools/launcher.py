@@ -165,7 +165,7 @@ def installed(folder):
 def install(it):
     """Into a folder that is not there yet, and once more over it: the program that is not proved, and then the proved one."""
     os.utime(it.built)
-    to, pages = f"{it.folder}/to a folder", {f"share/{name}" for name in (MANUAL, *COMPLETIONS)}
+    to, pages = f"{it.folder}/to a folder", {f"share/{name}" for name in (MANUAL, *COMPLETIONS, "fbsim/annex_a.iec")}
     usage = "usage: ./simulate [--unproved] install DIR\n"
     it.call(["install"], 5, err=usage)
     it.call(["--unproved", "install", to, to], 5, err=usage)

@@ -203,7 +203,9 @@ def licences():
 def contents(program, line):
     """Returns the files of a package: those of the system's folders, and those of users."""
     packaged = stripped(program)
-    of_system = {it: File(bytes_of(f"{TOP}/{it}")) for it in listed("share")} | {"bin/fbsim": File(packaged, True)}
+    # (a library of block types is of no other program)
+    of_share = {re.sub(r"^share/(?=[^/]+$)", "share/fbsim/", it): File(bytes_of(f"{TOP}/{it}")) for it in listed("share")}
+    of_system = {**of_share, "bin/fbsim": File(packaged, True)}
     return of_system, {**pages(), **licences(), "PROVED": File(proved(program, packaged, line).encode())}
 
 
