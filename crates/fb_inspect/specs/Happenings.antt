@@ -11,8 +11,8 @@ use Rattle.fb_coverage.specs.Additions.{AddsFlags}
 use Rattle.fb_coverage.specs.declared.marks.ChartMarks.{ChartMarks}
 use Rattle.fb_coverage.specs.declared.marks.Marks.{Marks}
 use Rattle.fb_coverage.specs.declared.marks.PortMarks.{PortMarks}
-use Rattle.fb_inspect.specs.Chains.{Piece, Clears_by, Is_lost, Ran, Stops_by, Has, Emits}
-use Rattle.fb_inspect.specs.Looks.{Taking}
+use Rattle.fb_inspect.specs.walk.Chains.{Piece, Clears_by, Is_lost, Ran, Stops_by, Has, Emits}
+use Rattle.fb_inspect.specs.walk.Looks.{Taking}
 use Rattle.fb_inspect.specs.Markings.{IsFirstLike, algorithm_number, event_number, state_number}
 
 -- ---- What a piece of a reaction does

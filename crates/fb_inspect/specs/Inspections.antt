@@ -18,8 +18,8 @@ use Rattle.fb_wave.specs.Lines.{IsLineOf}
 use Rattle.fb_wave.specs.Waves.{IsTraceOf}
 use Rattle.fb_wave.specs.declared.truncation.Cut.{Cut}
 use Rattle.fb_wave.specs.declared.truncation.Cut.TheVariants as cut
-pub use Rattle.fb_inspect.specs.Looks.{most}
-use Rattle.fb_inspect.specs.Looks.{IsTaking, Look, Taking, left_at, opening_look, taking_lines, taking_text}
+pub use Rattle.fb_inspect.specs.walk.Looks.{most}
+use Rattle.fb_inspect.specs.walk.Looks.{IsTaking, Look, Taking, left_at, opening_look, taking_lines, taking_text}
 
 -- nothing is taken after a stop
 abbrev pub NothingAfter : Option Reason → List Taking → Type 0

@@ -19,14 +19,14 @@ use Rattle.fb_system.specs.Networks.{AreNarrow}
 use Rattle.fb_wave.specs.Lines.{IsTextOf}
 use Rattle.fb_wave.specs.Named.{HasNames}
 use Rattle.fb_coverage.specs.declared.marks.Marks.{Marks}
-use Rattle.fb_inspect.specs.Chains.{Piece, ShowsReaction}
+use Rattle.fb_inspect.specs.walk.Chains.{Piece, ShowsReaction}
 use Rattle.fb_inspect.specs.Happenings.{AreMarkedBy, History, together}
 use Rattle.fb_inspect.specs.Inspections.{AreTakings, EndsSo, all_lines, last_look}
-use Rattle.fb_inspect.specs.Looks.{IsTaking, IsTakingAt, Look, Taking, most, opening_look}
+use Rattle.fb_inspect.specs.walk.Looks.{IsTaking, IsTakingAt, Look, Taking, most, opening_look}
 use Rattle.fb_inspect.specs.Refusals.{IsAccepted, IsWrongAt}
-use Rattle.fb_inspect.specs.RunLines.{HaveRoom}
-use Rattle.fb_inspect.specs.RunTakings.{BeginsSo, CanReact, GoesOn, IsSeenIn, IsTakingOf, MayHaveMore, due_before}
-use Rattle.fb_inspect.specs.SameLines.{IsSameLine}
+use Rattle.fb_inspect.specs.walk.RunLines.{HaveRoom}
+use Rattle.fb_inspect.specs.walk.RunTakings.{BeginsSo, CanReact, GoesOn, IsSeenIn, IsTakingOf, MayHaveMore, due_before}
+use Rattle.fb_inspect.specs.walk.SameLines.{IsSameLine}
 
 -- ---- Lines
 

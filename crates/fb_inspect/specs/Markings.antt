@@ -13,8 +13,8 @@ use Rattle.fb_ecc.specs.Numbered.{number_in}
 use Rattle.fb_coverage.specs.Sets.{with_cleared, with_lost, with_port, with_ran, with_taken}
 use Rattle.fb_coverage.specs.declared.marks.ChartMarks.{ChartMarks}
 use Rattle.fb_coverage.specs.declared.marks.PortMarks.{PortMarks}
-use Rattle.fb_inspect.specs.Chains.{Piece, Clears_by, Is_lost, Ran, Stops_by, Has, Emits}
-use Rattle.fb_inspect.specs.Looks.{Taking}
+use Rattle.fb_inspect.specs.walk.Chains.{Piece, Clears_by, Is_lost, Ran, Stops_by, Has, Emits}
+use Rattle.fb_inspect.specs.walk.Looks.{Taking}
 
 -- ---- Ports
 

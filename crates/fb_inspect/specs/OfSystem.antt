@@ -10,29 +10,29 @@ use Rattle.fb_coverage.specs.declared.marks.Marks.{Marks}
 use Rattle.fb_wave.specs.declared.current_line.CurrentLine.{CurrentLine}
 use Rattle.fb_wave.specs.declared.ports.Port.{Port}
 use Rattle.fb_wave.specs.declared.truncation.Cut.{Cut}
-use Rattle.fb_inspect.specs.Dumping as dumping
-use Rattle.fb_inspect.specs.Heads as heads
+use Rattle.fb_inspect.specs.dump.Dumping as dumping
+use Rattle.fb_inspect.specs.dump.Heads as heads
 use Rattle.fb_inspect.specs.Inspections as inspections
-use Rattle.fb_inspect.specs.LineFaults as line_faults
-use Rattle.fb_inspect.specs.Lines as lines
-use Rattle.fb_inspect.specs.Looks as looks
-use Rattle.fb_inspect.specs.Moves as moves
+use Rattle.fb_inspect.specs.refused.LineFaults as line_faults
+use Rattle.fb_inspect.specs.walk.Lines as lines
+use Rattle.fb_inspect.specs.walk.Looks as looks
+use Rattle.fb_inspect.specs.walk.Moves as moves
 use Rattle.fb_inspect.specs.Refusals as refusals
-use Rattle.fb_inspect.specs.StateDumps.{Taken}
-use Rattle.fb_inspect.specs.StateDumps as state_dumps
+use Rattle.fb_inspect.specs.dump.StateDumps.{Taken}
+use Rattle.fb_inspect.specs.dump.StateDumps as state_dumps
 use Rattle.fb_inspect.specs.StateWaves as state_waves
-use Rattle.fb_inspect.specs.Walking as walking
-use Rattle.fb_inspect.specs.Waving as waving
-use Rattle.fb_inspect.specs.declared.before.Before.{Before}
-use Rattle.fb_inspect.specs.declared.blocks.Remembered.{Remembered}
-use Rattle.fb_inspect.specs.declared.line_fault.LineFault.{LineFault}
-use Rattle.fb_inspect.specs.declared.line_fault.PortFault.{PortFault}
-use Rattle.fb_inspect.specs.declared.line_fault.ValueFault.{ValueFault}
-use Rattle.fb_inspect.specs.declared.port_dump.PortDump.{PortDump}
-use Rattle.fb_inspect.specs.declared.reading.Next.{Next}
-use Rattle.fb_inspect.specs.declared.reading.Reading.{Reading}
-use Rattle.fb_inspect.specs.declared.state_wave.EventAt.{EventAt}
-use Rattle.fb_inspect.specs.declared.state_wave.StateWave.{StateWave}
+use Rattle.fb_inspect.specs.walk.Walking as walking
+use Rattle.fb_inspect.specs.dump.Waving as waving
+use Rattle.fb_inspect.specs.declared.dump.before.Before.{Before}
+use Rattle.fb_inspect.specs.declared.walk.blocks.Remembered.{Remembered}
+use Rattle.fb_inspect.specs.declared.refused.line_fault.LineFault.{LineFault}
+use Rattle.fb_inspect.specs.declared.refused.line_fault.PortFault.{PortFault}
+use Rattle.fb_inspect.specs.declared.refused.line_fault.ValueFault.{ValueFault}
+use Rattle.fb_inspect.specs.declared.dump.port_dump.PortDump.{PortDump}
+use Rattle.fb_inspect.specs.declared.walk.reading.Next.{Next}
+use Rattle.fb_inspect.specs.declared.walk.reading.Reading.{Reading}
+use Rattle.fb_inspect.specs.declared.dump.state_wave.EventAt.{EventAt}
+use Rattle.fb_inspect.specs.declared.dump.state_wave.StateWave.{StateWave}
 use Rattle.fb_inspect.specs.declared.walk.Walk.{Walk}
 
 -- ---- Blocks

@@ -19,18 +19,18 @@ use Rattle.fb_wave.specs.Dumps.{last_tick}
 use Rattle.fb_wave.specs.Lines.{IsEndOf, IsLineOf, IsTextOf}
 use Rattle.fb_wave.specs.Named.{HasNames}
 use Rattle.fb_wave.specs.Waves.{AreLinesOf, IsTraceOf}
-use Rattle.fb_inspect.specs.Chains.{Piece, Showing}
-use Rattle.fb_inspect.specs.Charting.{sys_of}
+use Rattle.fb_inspect.specs.walk.Chains.{Piece, Showing}
+use Rattle.fb_inspect.specs.walk.Charting.{sys_of}
 use Rattle.fb_inspect.specs.Inspections.{AreTakings, EndsSo, IsOwnLine, KeepSteps, KeepsLimit, NoneStops, RunsOut, all_lines, last_look, limited}
-use Rattle.fb_inspect.specs.Lines.{IsNoEndFrom, IsPlain}
-use Rattle.fb_inspect.specs.Looks.{IsTaking, Look, Seen, Taking, emission_line, emissions_by, most, opening_look, taking_lines}
-use Rattle.fb_inspect.specs.Moves.{IsLineAt, StaysAlone}
-use Rattle.fb_inspect.specs.Timing.{timer_reaction}
-use Rattle.fb_inspect.specs.Walking.{MayEnd}
-use Rattle.fb_inspect.specs.declared.charts.ChartTaking.{ChartTaking}
+use Rattle.fb_inspect.specs.walk.Lines.{IsNoEndFrom, IsPlain}
+use Rattle.fb_inspect.specs.walk.Looks.{IsTaking, Look, Seen, Taking, emission_line, emissions_by, most, opening_look, taking_lines}
+use Rattle.fb_inspect.specs.walk.Moves.{IsLineAt, StaysAlone}
+use Rattle.fb_inspect.specs.walk.Timing.{timer_reaction}
+use Rattle.fb_inspect.specs.walk.Walking.{MayEnd}
+use Rattle.fb_inspect.specs.declared.walk.charts.ChartTaking.{ChartTaking}
 use Rattle.fb_inspect.specs.declared.error.InspectError.{InspectError}
 use Rattle.fb_inspect.specs.declared.error.InspectError.TheVariants.{Refused, Names, Unknown, Memory, Read, Write}
-use Rattle.fb_inspect.specs.declared.reading.Reading.{Reading}
+use Rattle.fb_inspect.specs.declared.walk.reading.Reading.{Reading}
 
 -- ---- Errors
 

@@ -10,8 +10,8 @@ use Rattle.fb_wave.specs.Waves.{AreLinesOf, IsTraceOf}
 use Rattle.fb_wave.specs.declared.truncation.Cut.{Cut}
 use Rattle.fb_wave.specs.declared.truncation.Cut.TheVariants as cut
 use Rattle.fb_inspect.specs.Inspections.{AreOfOne, AreTaken, AreTakings, EndsSo, NoneStops, most}
-use Rattle.fb_inspect.specs.Looks.{opening_look}
-use Rattle.fb_inspect.specs.StateDumps.{HaveLines, Taken, cut_dump, lines_of, state_dump, takings_of}
+use Rattle.fb_inspect.specs.walk.Looks.{opening_look}
+use Rattle.fb_inspect.specs.dump.StateDumps.{HaveLines, Taken, cut_dump, lines_of, state_dump, takings_of}
 
 -- The text is a trace whose takings are gone through, each from what the blocks remember, and the writer got the dump of these. A trace
 -- that stops for its steps stops where these are used up in a tick, and another one may use up to the greatest limit.

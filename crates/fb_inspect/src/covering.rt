@@ -3,13 +3,13 @@
 ghost use Rattle.std.specs.Prelude.{◌≡◌, ◌≤◌, IfErr, IfOk, IfSome};
 ghost use Rattle.fb_wave.specs.OfSystem.{HasNames};
 ghost use Rattle.fb_inspect.specs.Covering.{Covers};
-ghost use Rattle.fb_inspect.specs.Looks.{most};
+ghost use Rattle.fb_inspect.specs.walk.Looks.{most};
 ghost use Rattle.fb_inspect.specs.Refusals.{OfRefusal};
 ghost use Rattle.fb_inspect.specs.OfSystem.{IsWrongAt};
 
 use crate::error::InspectError;
-use crate::finding::RefusedLine;
 use crate::insides::{Inspection, inspect_and_mark};
+use crate::refused::finding::RefusedLine;
 use crate::walk::{Extent, Terms};
 use fb_coverage::Marks;
 use fb_system::System;

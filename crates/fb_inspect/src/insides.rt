@@ -12,22 +12,22 @@ ghost use Rattle.fb_wave.specs.Words.{is_word};
 ghost use Rattle.fb_inspect.specs.Covering.{Covers};
 ghost use Rattle.fb_inspect.specs.Inspections as spec;
 ghost use Rattle.fb_wave.specs.OfSystem.{HasNames};
-ghost use Rattle.fb_inspect.specs.Looks.{most};
+ghost use Rattle.fb_inspect.specs.walk.Looks.{most};
 ghost use Rattle.fb_inspect.specs.Refusals.{IsNoRefusal, OfRefusal};
-ghost use Rattle.fb_inspect.specs.Walking.{AreUnused};
+ghost use Rattle.fb_inspect.specs.walk.Walking.{AreUnused};
 ghost use Rattle.fb_inspect.specs.OfSystem.{BeginsWalk, IsNext, IsShownBy, IsWrongAt, ShowsFront, ShowsOf};
-ghost use Rattle.fb_inspect.specs.OfWalk as of_walk;
-ghost use Rattle.fb_inspect.specs.OfWalk.{BeginsText, IsCoveredBy, Starts};
+ghost use Rattle.fb_inspect.specs.walk.OfWalk as of_walk;
+ghost use Rattle.fb_inspect.specs.walk.OfWalk.{BeginsText, IsCoveredBy, Starts};
 
-use crate::ahead::Ahead;
-use crate::blocks::opened_all;
 use crate::covering::Covered;
 use crate::error::InspectError;
-use crate::fault_names::instance_of;
-use crate::finding::{Finding, RefusedLine};
-use crate::reading::{Reading, judged};
-use crate::steps::TickSteps;
-use crate::trail::{Fixed, PassedLines, Trail};
+use crate::refused::fault_names::instance_of;
+use crate::refused::finding::{Finding, RefusedLine};
+use crate::walk::ahead::Ahead;
+use crate::walk::blocks::opened_all;
+use crate::walk::reading::{Reading, judged};
+use crate::walk::steps::TickSteps;
+use crate::walk::trail::{Fixed, PassedLines, Trail};
 use crate::walk::{Extent, Terms, Walk};
 use fb_coverage::Marks;
 use fb_system::System;
@@ -95,7 +95,7 @@ fn shown_of(alloc: Global, system: &System, only: &[Name]) -> Result<Vec<bool>, 
     ensures { IfOk result (λ shown. ShowsOf system.now only.now shown.items) }
 {
     let mut shown = Vec::new(alloc);
-    system.facts();
+    system.facts(); // for the prover: what holds of every accepted system
     for index in 0..system.count() {
         let path = system.path(index as u32);
         shown.push(is_shown(path, only))?;
@@ -247,7 +247,7 @@ fn inspect_with<R: BufRead, W: Write>(
     ensures refused { HasNames table.now.system.now → inspection.entry.terms.steps ≤ most
         → IfErr result (OfRefusal (λ n. IfSome (R.remaining input.old) (IsWrongAt table.now.system.now inspection.entry.terms.steps n))) }
 {
-    table.system.facts();
+    table.system.facts(); // for the prover: what holds of every accepted system
     let (form, reading) = first_reading(alloc, table, input)?;
     let mut walk = begun(alloc, table.system, inspection.only, marks, reading)?;
     let fixed = Fixed {

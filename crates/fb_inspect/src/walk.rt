@@ -1,4 +1,8 @@
-//! Through a trace, line by line.
+//! Through a trace, event by event: `Walk` is what the blocks remember and how far the walk has come.
+//!
+//! Read in this order: `reading`, the lines, and `ahead`, lines that are read ahead; `trail`, how far a walk has come;
+//! `blocks`, what blocks remember; `steps`, the steps of a tick. Then the reactions: `charts` and `event_blocks`, with
+//! `notes`, what is written of them. Last, what is here.
 
 ghost use Rattle.std.specs.Prelude.{◌≡◌, ◌<◌, ◌≤◌, ◌⊎◌, ◌↔◌, ℕ, ◌+◌, List, [], IfErr, IfOk, IfSome, IsTrue, OnErr, OnOk, All, Option, Some, None, length, slice_get, true, false};
 ghost use Rattle.std.specs.Bool.{OnFalse, OnTrue};
@@ -11,29 +15,37 @@ ghost use Rattle.fb_coverage.specs.declared.marks.Marks.{Marks};
 ghost use Rattle.fb_trace.specs.End.{ending_of};
 ghost use Rattle.fb_wave.specs.Dumps.{last_tick};
 ghost use Rattle.fb_wave.specs.Lines.{IsEndOf};
-ghost use Rattle.fb_inspect.specs.Counted.{left_of};
+ghost use Rattle.fb_inspect.specs.walk.Counted.{left_of};
 ghost use Rattle.fb_inspect.specs.Inspections.{KeepSteps};
-ghost use Rattle.fb_inspect.specs.Lines.{IsAlone, IsPlain};
-ghost use Rattle.fb_inspect.specs.Looks.{Look, Taking, left_at, most};
-ghost use Rattle.fb_inspect.specs.Walking as spec;
+ghost use Rattle.fb_inspect.specs.walk.Lines.{IsAlone, IsPlain};
+ghost use Rattle.fb_inspect.specs.walk.Looks.{Look, Taking, left_at, most};
+ghost use Rattle.fb_inspect.specs.walk.Walking as spec;
 ghost use Rattle.fb_inspect.specs.Refusals.{IsNoRefusal, OfRefusal};
 ghost use Rattle.fb_inspect.specs.declared.error.InspectError.TheVariants.{Refused};
-ghost use Rattle.fb_inspect.specs.Standing.{IsStepsStop};
-ghost use Rattle.fb_inspect.specs.Walking.{Finishes, FinishesCut, HasLimited, HasStepped, IsLookOf, MayEnd, SendsCutPart, SendsPart, unread};
-ghost use Rattle.fb_inspect.specs.declared.blocks.Remembered.TheVariants as kept;
-ghost use Rattle.fb_inspect.specs.OfWalk.{AreAhead, AreApart, AreKept, BeginsText, CanReact, FailsAt, GoesAfter, HasAdvanced, HasCovered, HasLook, HasNames, IsCoveredBy, IsKeptAt, IsLineOf, IsNear, IsNext, IsNextLine, IsNotNear, IsShownBy, IsTextOf, IsWrongAt, KeptGoes, LineGoes, LooksAs, ShowsFront, StandsAt, StandsWell, Starts, StepGoes, TakingFails, WalkTakes, Watches};
+ghost use Rattle.fb_inspect.specs.walk.Standing.{IsStepsStop};
+ghost use Rattle.fb_inspect.specs.walk.Walking.{Finishes, FinishesCut, HasLimited, HasStepped, IsLookOf, MayEnd, SendsCutPart, SendsPart, unread};
+ghost use Rattle.fb_inspect.specs.declared.walk.blocks.Remembered.TheVariants as kept;
+ghost use Rattle.fb_inspect.specs.walk.OfWalk.{AreAhead, AreApart, AreKept, BeginsText, CanReact, FailsAt, GoesAfter, HasAdvanced, HasCovered, HasLook, HasNames, IsCoveredBy, IsKeptAt, IsLineOf, IsNear, IsNext, IsNextLine, IsNotNear, IsShownBy, IsTextOf, IsWrongAt, KeptGoes, LineGoes, LooksAs, ShowsFront, StandsAt, StandsWell, Starts, StepGoes, TakingFails, WalkTakes, Watches};
 
-use crate::ahead::Ahead;
-use crate::before::chart_at;
-use crate::blocks::{Chart, Remembered, basic_type, type_number};
-use crate::charts::{ChartTaking, follow, note_stop};
+pub mod ahead;
+pub mod blocks;
+pub(crate) mod charts;
+mod event_blocks;
+pub mod notes;
+pub mod reading;
+pub mod steps;
+pub mod trail;
+
 use crate::error::InspectError;
-use crate::event_blocks::{expire_block, react_block};
-use crate::finding::Finding;
-use crate::notes::put_cut;
-use crate::reading::Next;
-use crate::steps::TickSteps;
-use crate::trail::{Fixed, Trail, is_stop, put_line};
+use crate::refused::finding::Finding;
+use crate::walk::ahead::Ahead;
+use crate::walk::blocks::{Chart, Remembered, basic_type, chart_at, type_number};
+use crate::walk::charts::{ChartTaking, follow, note_stop};
+use crate::walk::event_blocks::{expire_block, react_block};
+use crate::walk::notes::put_cut;
+use crate::walk::reading::Next;
+use crate::walk::steps::TickSteps;
+use crate::walk::trail::{Fixed, Trail, is_stop, put_line};
 use fb_ecc::begin;
 use fb_st::Meter;
 use fb_trace::Outcome;
@@ -224,7 +236,7 @@ impl Walk {
     ///
     /// # Errors
     /// `Refused` where no run gives the next line, or one of those that the event causes; `Read` and `Memory`.
-    pub(crate) fn take<R: BufRead>(
+    pub(crate) fn take_event<R: BufRead>(
         &mut self,
         fixed: &Fixed<'_, '_>,
         line: &Line,
@@ -240,7 +252,7 @@ impl Walk {
             → IfErr result (OfRefusal (TakingFails fixed.now look line.now self.old.trail.reading self.new.trail.reading (R.remaining input.old) (R.remaining input.new))) }
         ensures next { OnOk result (IsNext fixed.now line.now.key.tick self.new.trail.reading) }
     {
-        fixed.table.system.facts();
+        fixed.table.system.facts(); // for the prover: what holds of every accepted system
         self.trail.is_shown = flag_at(self.shown.as_slice(), line.instance);
         if line.key.tick > LATEST_TICK {
             return Err(self.trail.refusal(Finding::Late));
@@ -357,7 +369,7 @@ impl Walk {
 
     /// Takes the event of the next line, and goes on in what was read ahead. Answers the reason that stops the
     /// resource, if one does.
-    fn take_ahead(
+    fn take_from_ahead(
         &mut self,
         fixed: &Fixed<'_, '_>,
         line: &Line,
@@ -376,7 +388,7 @@ impl Walk {
         ensures next { OnOk result (IsNext fixed.now line.now.key.tick self.new.trail.reading) }
     {
         let mut rest = ahead.text.as_slice();
-        let stop = self.take(fixed, line, &mut rest)?;
+        let stop = self.take_event(fixed, line, &mut rest)?;
         let left = Vec::from_slice(fixed.alloc, rest)?;
         ahead.keep(left)?;
         Ok(stop)
@@ -384,7 +396,7 @@ impl Walk {
 
     /// Takes the event of the next line, whose resource has all steps of the greatest limit, and notes if it is the
     /// first after which its resource had used more than these in a tick.
-    fn take_watched(
+    fn take_counting_steps(
         &mut self,
         fixed: &Fixed<'_, '_>,
         steps: u64,
@@ -404,7 +416,7 @@ impl Walk {
         ensures whole { IfOk result (λ step. step ≡ Step.CutOff → ⊥) }
     {
         ahead.watch(&self.trail.reading)?;
-        let stop = self.take_ahead(fixed, line, ahead)?;
+        let stop = self.take_from_ahead(fixed, line, ahead)?;
         let own = &self.steps[line.key.resource as usize];
         ahead.note(!own.keeps(steps));
         let Some(reason) = stop else {
@@ -421,7 +433,7 @@ impl Walk {
     }
 
     /// Takes the event of the next line, after which a resource must have used up these steps.
-    fn take_last(
+    fn take_to_last_step(
         &mut self,
         fixed: &Fixed<'_, '_>,
         steps: u64,
@@ -439,7 +451,7 @@ impl Walk {
             → GoesAfter fixed.now steps self.new ahead.new (Some rest) text result }
         ensures whole { IfOk result (λ step. step ≡ Step.CutOff → ⊥) }
     {
-        fixed.table.system.facts();
+        fixed.table.system.facts(); // for the prover: what holds of every accepted system
         if !self.keep_steps(steps) {
             return Err(self.refusal_for_steps(ahead, Finding::NoStep));
         }
@@ -452,7 +464,7 @@ impl Walk {
             form: fixed.form,
             limit: steps,
         };
-        let stop = self.take_ahead(&near, line, ahead)?;
+        let stop = self.take_from_ahead(&near, line, ahead)?;
         if !is_stop(&self.trail.reading.next, &line.key, Reason::Steps) {
             return Err(self.trail.refusal(found_by(stop, Finding::Unmade)));
         }
@@ -479,7 +491,7 @@ impl Walk {
     }
 
     /// Goes on with the line of an event, which is the next one.
-    fn step_on<R: BufRead>(
+    fn advance_by_event<R: BufRead>(
         &mut self,
         fixed: &Fixed<'_, '_>,
         terms: Terms,
@@ -512,16 +524,16 @@ impl Walk {
             return Ok(Step::CutOff);
         }
         if self.is_near(fixed, ahead, line) {
-            return self.take_last(fixed, terms.steps, line, ahead);
+            return self.take_to_last_step(fixed, terms.steps, line, ahead);
         }
-        self.take_watched(fixed, terms.steps, line, ahead)
+        self.take_counting_steps(fixed, terms.steps, line, ahead)
     }
 
     /// Goes on by one event, or to the end of the trace. Lines are read ahead as far as that needs.
     ///
     /// # Errors
     /// `Refused` where no run gives the next line or one after it; `Read` and `Memory`.
-    pub(crate) fn step<R: BufRead>(
+    pub(crate) fn advance<R: BufRead>(
         &mut self,
         fixed: &Fixed<'_, '_>,
         terms: Terms,
@@ -541,9 +553,9 @@ impl Walk {
             → StandsWell fixed.now terms.steps self.old ahead.old rest text → GoesAfter fixed.now terms.steps self.new ahead.new (R.remaining input.new) text result }
         ensures cut { IfOk result (λ step. step ≡ Step.CutOff → terms.cut ≡ Cut.Allowed) }
     {
-        fixed.table.system.facts();
+        fixed.table.system.facts(); // for the prover: what holds of every accepted system
         match mem::replace(&mut self.trail.reading.next, Next::Bad) {
-            Next::Event(line) => match self.step_on(fixed, terms, &line, ahead, input)? {
+            Next::Event(line) => match self.advance_by_event(fixed, terms, &line, ahead, input)? {
                 // Nothing was taken, so it is the next line again.
                 Step::CutOff => {
                     self.trail.reading.put_back(line);
@@ -614,7 +626,7 @@ impl Walk {
             → IfErr result (OfRefusal (λ n. IsWrongAt fixed.now terms.steps n text)) }
     {
         for _ in 0..u64::MAX {
-            match self.step(fixed, terms, ahead, input)? {
+            match self.advance(fixed, terms, ahead, input)? {
                 Step::Taken => self.trail.page.flush_much(out)?,
                 Step::Ended(_) => {
                     return self.finish(ahead, input, out).and(Ok(Extent::Whole));

@@ -24,7 +24,7 @@ pub(crate) fn own_name(system: &System, instance: u32) -> &[u8]
     requires { IsInstance system.now instance }
     ensures { result.now ≡ spec.own_name (path_at system.now instance) }
 {
-    system.facts();
+    system.facts(); // for the prover: what holds of every accepted system
     let path = system.path(instance);
     match system.parent(instance) {
         Some(parent) => rest_from(path, system.path(parent).len() + 1),
@@ -47,7 +47,7 @@ pub fn put_instance(
     ensures text { OnOk result (let p = path_at system.now instance in
         text.new.items ≡ text.old.items ++ (spec.closed (depth + 1 - length p) ++ spec.opened (spec.own_name p) ++ spec.ports_declared (first_signal system.now instance) (ports_at system.now p))) }
 {
-    system.facts();
+    system.facts(); // for the prover: what holds of every accepted system
     let height = system.route(instance).len();
     let outside = height.saturating_sub(1);
     let ended = depth.saturating_sub(outside);
@@ -69,7 +69,7 @@ fn put_instances(
     ensures { OnOk result (text.new.items ≡ text.old.items
         ++ instances_declared system.now resource) }
 {
-    system.facts();
+    system.facts(); // for the prover: what holds of every accepted system
     let mut depth = 0;
     for index in 0..system.count() {
         if system.resource(index as u32) == resource {
@@ -91,7 +91,7 @@ pub fn put_begun(
     ensures { OnOk result (text.new.items ≡ text.old.items
         ++ instances_begun system.now) }
 {
-    system.facts();
+    system.facts(); // for the prover: what holds of every accepted system
     for index in 0..system.count() {
         begun::put_instance(alloc, text, system, firsts[index], index as u32)?;
     }

@@ -18,7 +18,7 @@ pub fn resource_of(system: &System, name: &[u8]) -> Option<u32>
     ensures none { IfNone result ((r : ℕ) → IsResource system.now r
         → name.now ≡ resource_name system.now r → ⊥) }
 {
-    system.facts();
+    system.facts(); // for the prover: what holds of every accepted system
     for resource in 0..system.resources() {
         if system.resource_name(resource) == name {
             return Some(resource as u32);

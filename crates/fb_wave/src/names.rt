@@ -82,7 +82,7 @@ pub(crate) fn has_names(system: &System) -> bool
     ensures named { IsTrue result → HasNames system.now }
     ensures unnamed { result ≡ false → HasNames system.now → ⊥ }
 {
-    system.facts();
+    system.facts(); // for the prover: what holds of every accepted system
     for resource in 0..system.resources() {
         if !is_name(system.resource_name(resource)) {
             return false;

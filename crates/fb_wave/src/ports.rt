@@ -56,7 +56,7 @@ pub(crate) fn ports_of(alloc: Global, system: &System) -> Result<Vec<Port>, Allo
     ensures all { IfOk result (λ v. (p : Port) → IsPortOf system.now p → Contains v.items p) }
     ensures once { IfOk result (λ v. ¬ (Twice v.items)) }
 {
-    system.facts();
+    system.facts(); // for the prover: what holds of every accepted system
     let mut all = Vec::new(alloc);
     for index in 0..system.count() {
         let instance = index as u32;
@@ -92,7 +92,7 @@ pub(crate) fn holder_of(system: &System, port: Port) -> u32
     ensures held { result ≡ resource_at system.now (path_at system.now port.instance) }
     ensures within { IsResource system.now result }
 {
-    system.facts();
+    system.facts(); // for the prover: what holds of every accepted system
     system.resource(port.instance) as u32
 }
 

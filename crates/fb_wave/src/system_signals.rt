@@ -74,7 +74,7 @@ fn firsts_of(alloc: Global, system: &System, levels: &mut Levels) -> Result<Vec<
     ensures firsts { IfOk result (λ v. AreFirsts system.now v.items) }
     ensures levels { OnOk result (AreLevels (signal_count system.now) [] [] [] levels.new) }
 {
-    system.facts();
+    system.facts(); // for the prover: what holds of every accepted system
     let mut firsts = Vec::new(alloc);
     for instance in 0..system.count() {
         firsts.push(levels.count())?;
@@ -141,7 +141,7 @@ impl Signals {
         ensures levels { (n : ℕ) (fires : List ℕ) (sets : List (ℕ × Value)) (touches : List ℕ) → AreLevels n fires sets touches self.old.levels
             → OnOk result (AreLevels n (fires ++ fired system.now line.now ∷ []) (sets ++ set_by system.now line.now) (touches ++ touched system.now line.now) self.new.levels) }
     {
-        system.facts();
+        system.facts(); // for the prover: what holds of every accepted system
         let marks = marks_of(self.firsts.as_slice(), system, line);
         let values = line.values.as_slice();
         show_all(

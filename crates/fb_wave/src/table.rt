@@ -115,7 +115,7 @@ impl<'a> PortTable<'a> {
         ensures system { IfOk result (λ o. IfSome o (λ t. t.system.now ≡ ports.now.system.now)) }
         ensures some { HasNames ports.now.system.now → IfOk result IsSome }
     {
-        ports.system.facts();
+        ports.system.facts(); // for the prover: what holds of every accepted system
         match indexes_in(alloc, ports.texts.as_slice())? {
             Some(indexes) => Ok(Some(PortTable {
                 system: ports.system,

@@ -73,7 +73,7 @@ pub fn write_wave_with<R: BufRead, W: Write>(
     ensures refused { IfErr result (BlamesShown cut system.now (R.remaining input.old)) }
     ensures current { IfErr result (IsRefusedLine system.now (R.remaining input.old) current.new) }
 {
-    system.facts();
+    system.facts(); // for the prover: what holds of every accepted system
     if !has_names(system) {
         return Err(WaveError::Names);
     }

@@ -10,8 +10,8 @@ use Rattle.fb_wave.specs.CurrentLines.{IsRefusedLine}
 use Rattle.fb_wave.specs.declared.current_line.CurrentLine.{CurrentLine}
 use Rattle.fb_wave.specs.declared.error.WaveError.{WaveError}
 use Rattle.fb_wave.specs.declared.error.WaveError.TheVariants as wave
-use Rattle.fb_inspect.specs.LineFaults.{Applies}
-use Rattle.fb_inspect.specs.declared.line_fault.LineFault.{LineFault}
+use Rattle.fb_inspect.specs.refused.LineFaults.{Applies}
+use Rattle.fb_inspect.specs.declared.refused.line_fault.LineFault.{LineFault}
 use Rattle.fbsim_command.specs.Failures.{failure_of_wave}
 use Rattle.fbsim_command.specs.LineNotes.{NotesLine, SaysFault}
 use Rattle.fbsim_command.specs.Notes.{NotesOf}

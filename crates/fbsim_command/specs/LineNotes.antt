@@ -8,8 +8,8 @@ use Rattle.fb_sim.specs.Serial.{Declares}
 use Rattle.fb_wave.specs.CurrentLines.{IsRefusedLine}
 use Rattle.fb_wave.specs.declared.current_line.CurrentLine.{CurrentLine}
 use Rattle.fb_wave.specs.declared.error.WaveError.TheVariants as wave
-use Rattle.fb_inspect.specs.LineFaults.{Applies}
-use Rattle.fb_inspect.specs.declared.line_fault.LineFault.{LineFault}
+use Rattle.fb_inspect.specs.refused.LineFaults.{Applies}
+use Rattle.fb_inspect.specs.declared.refused.line_fault.LineFault.{LineFault}
 use Rattle.fbsim_command.specs.Outcomes.{End, Held}
 use Rattle.fbsim_command.specs.declared.failure.Failure.TheVariants.{Refused}
 use Rattle.fbsim_command.specs.declared.failure.RefusalLine.TheVariants.{Trace}

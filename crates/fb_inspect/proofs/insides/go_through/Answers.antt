@@ -4,13 +4,13 @@ use Rattle.fb_types.specs.Headline.{system_of}
 use Rattle.fb_coverage.specs.declared.marks.Marks.{Marks}
 use Rattle.fb_wave.specs.CutOff.{is_unended}
 use Rattle.fb_inspect.specs.Covering.{IsCoveredBy, IsCutCovered}
-use Rattle.fb_inspect.specs.Standing.{BeginsText}
-use Rattle.fb_inspect.proofs.Ended.{front_none, severed_covered, severed_none, severed_part, severed_shown, shown_cut}
-use Rattle.fb_wave.proofs.Handing.{on_ok}
-use Rattle.fb_inspect.proofs.Joined.{err_joined, fails_joined, ok_joined, ok_passed, on_joined}
-use Rattle.fb_inspect.proofs.Placed.{err_any, err_then, ok_then}
-use Rattle.fb_inspect.proofs.Refused.{err_none, none_passed}
-use Rattle.fb_inspect.proofs.Severing.{on_some}
+use Rattle.fb_inspect.specs.walk.Standing.{BeginsText}
+use Rattle.fb_inspect.proofs.lemmas.walk.Ended.{front_none, severed_covered, severed_none, severed_part, severed_shown, shown_cut}
+use Rattle.fb_wave.proofs.lemmas.Handing.{on_ok}
+use Rattle.fb_inspect.proofs.lemmas.results.Joined.{err_joined, fails_joined, ok_joined, ok_passed, on_joined}
+use Rattle.fb_inspect.proofs.lemmas.reactions.Placed.{err_any, err_then, ok_then}
+use Rattle.fb_inspect.proofs.lemmas.results.Refused.{err_none, none_passed}
+use Rattle.fb_inspect.proofs.lemmas.lines.Severing.{on_some}
 use Rattle.fb_inspect.proofs.insides.go_through.Goals as goal
 
 pub returns-then-is_severed-clause-whole : goal.returns-then-is_severed-clause-whole

@@ -1,7 +1,7 @@
 use Rattle.std.proofs.lemmas.Result.{err_from_is_err_and}
 use Rattle.fb_types.specs.Headline.{system_of}
-use Rattle.fb_inspect.proofs.Ended.{front_none}
-use Rattle.fb_inspect.proofs.Placed.{err_any}
+use Rattle.fb_inspect.proofs.lemmas.walk.Ended.{front_none}
+use Rattle.fb_inspect.proofs.lemmas.reactions.Placed.{err_any}
 use Rattle.fb_inspect.proofs.insides.inspect.Goals as goal
 
 pub returns-then-is_none-clause-fault : goal.returns-then-is_none-clause-fault

@@ -7,14 +7,14 @@ use Rattle.fb_coverage.specs.declared.marks.Marks.{Marks}
 use Rattle.fb_wave.specs.Copying.{IsFirstLine}
 use Rattle.fb_inspect.specs.Covering.{Covers}
 use Rattle.fb_inspect.specs.Refusals.{IsWrongAt}
-use Rattle.fb_inspect.specs.Standing.{BeginsText}
-use Rattle.fb_inspect.specs.declared.reading.Reading.{Reading}
-use Rattle.fb_inspect.proofs.Ended.{covers_of, front_none, starts_of}
-use Rattle.fb_inspect.proofs.Errors.{of_known}
-use Rattle.fb_inspect.proofs.Going.{text_begins}
-use Rattle.fb_inspect.proofs.Placed.{err_any}
-use Rattle.fb_inspect.proofs.Refused.{none_passed}
-use Rattle.fb_inspect.proofs.Joined.{ok_passed}
+use Rattle.fb_inspect.specs.walk.Standing.{BeginsText}
+use Rattle.fb_inspect.specs.declared.walk.reading.Reading.{Reading}
+use Rattle.fb_inspect.proofs.lemmas.walk.Ended.{covers_of, front_none, starts_of}
+use Rattle.fb_inspect.proofs.lemmas.results.Errors.{of_known}
+use Rattle.fb_inspect.proofs.lemmas.walk.UpToRefusal.{text_begins}
+use Rattle.fb_inspect.proofs.lemmas.reactions.Placed.{err_any}
+use Rattle.fb_inspect.proofs.lemmas.results.Refused.{none_passed}
+use Rattle.fb_inspect.proofs.lemmas.results.Joined.{ok_passed}
 use Rattle.fb_inspect.proofs.insides.inspect_with.Goals as goal
 
 pub returns-in_err-form-clause-fault : goal.returns-in_err-form-clause-fault

@@ -1,5 +1,5 @@
 use Rattle.std.proofs.Common.{sym, ◌∙◌}
-use Rattle.fb_inspect.proofs.Within.{within_by, within_none}
+use Rattle.fb_inspect.proofs.lemmas.walk.WithinPaths.{within_by, within_none}
 use Rattle.fb_inspect.proofs.insides.is_within.Goals as goal
 
 pub returns-in-Some : goal.returns-in-Some

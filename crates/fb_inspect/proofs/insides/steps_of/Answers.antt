@@ -1,4 +1,4 @@
-use Rattle.fb_inspect.proofs.Opened.{unused_more}
+use Rattle.fb_inspect.proofs.lemmas.walk.Opened.{unused_more}
 use Rattle.fb_inspect.proofs.insides.steps_of.Goals as goal
 
 pub loop-preserved : goal.loop-preserved

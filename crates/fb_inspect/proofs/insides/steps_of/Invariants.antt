@@ -1,4 +1,4 @@
-use Rattle.fb_inspect.specs.Walking.{AreUnused}
+use Rattle.fb_inspect.specs.walk.Walking.{AreUnused}
 use Rattle.fb_inspect.proofs.insides.steps_of.Given as goal
 
 abbrev pub invariant-loop : goal.invariant-loop

@@ -1,4 +1,4 @@
-use Rattle.fb_inspect.proofs.Happened.{marked_more}
+use Rattle.fb_inspect.proofs.lemmas.marks.Happened.{marked_more}
 use Rattle.fb_inspect.proofs.laws.marks_add_up.Goals as goal
 
 pub returns : goal.returns

@@ -1,5 +1,5 @@
-use Rattle.fb_inspect.proofs.FewerSteps.{reaction_begins}
-use Rattle.fb_inspect.proofs.MoreReactions.{reaction_longer}
+use Rattle.fb_inspect.proofs.lemmas.reactions.FewerSteps.{reaction_begins}
+use Rattle.fb_inspect.proofs.lemmas.reactions.MoreReactions.{reaction_longer}
 use Rattle.fb_inspect.proofs.laws.more_steps_change_nothing.Goals as goal
 
 pub returns : goal.returns

@@ -1,4 +1,4 @@
-use Rattle.fb_inspect.proofs.Reacted.{reacts_taking}
+use Rattle.fb_inspect.proofs.lemmas.runs.Reacted.{reacts_taking}
 use Rattle.fb_inspect.proofs.laws.reactions_are_takings.Goals as goal
 
 pub returns : goal.returns

@@ -1,5 +1,5 @@
-use Rattle.fb_inspect.proofs.NoRun.{not_wrong}
-use Rattle.fb_inspect.proofs.RunAccepted.{trace_exact}
+use Rattle.fb_inspect.proofs.lemmas.runs.NoRun.{not_wrong}
+use Rattle.fb_inspect.proofs.lemmas.runs.RunAccepted.{trace_exact}
 use Rattle.fb_inspect.proofs.laws.refused_is_no_run.Goals as goal
 
 pub returns : goal.returns

@@ -1,10 +1,10 @@
 use Rattle.std.proofs.Common.{◌∙◌}
 use Rattle.fb_types.specs.Headline.{stimuli_of, system_of}
 use Rattle.fb_types.specs.Simulation.{ending_of}
-use Rattle.fb_inspect.proofs.BeginsSo.{run_begins}
-use Rattle.fb_inspect.proofs.Followed.{run_row}
-use Rattle.fb_inspect.proofs.GoesOn.{run_goes_on}
-use Rattle.fb_inspect.proofs.There.{stimuli_there, targets_there}
+use Rattle.fb_inspect.proofs.lemmas.runs.BeginsSo.{run_begins}
+use Rattle.fb_inspect.proofs.lemmas.runs.Followed.{run_row}
+use Rattle.fb_inspect.proofs.lemmas.runs.RunContinues.{run_goes_on}
+use Rattle.fb_inspect.proofs.lemmas.reactions.EventPorts.{stimuli_there, targets_there}
 use Rattle.fb_inspect.proofs.laws.runs_are_walks.Goals as goal
 
 pub returns : goal.returns

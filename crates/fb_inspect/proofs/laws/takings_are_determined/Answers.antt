@@ -1,5 +1,5 @@
-use Rattle.fb_inspect.proofs.OneTaking.{row_one, taking_one}
-use Rattle.fb_inspect.proofs.SomeTaking.{taking_there}
+use Rattle.fb_inspect.proofs.lemmas.reactions.OneTaking.{row_one, taking_one}
+use Rattle.fb_inspect.proofs.lemmas.reactions.SomeTaking.{taking_there}
 use Rattle.fb_inspect.proofs.laws.takings_are_determined.Goals as goal
 
 pub returns : goal.returns

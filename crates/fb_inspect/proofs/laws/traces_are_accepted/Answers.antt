@@ -1,4 +1,4 @@
-use Rattle.fb_inspect.proofs.RunAccepted.{trace_accepted}
+use Rattle.fb_inspect.proofs.lemmas.runs.RunAccepted.{trace_accepted}
 use Rattle.fb_inspect.proofs.laws.traces_are_accepted.Goals as goal
 
 pub returns : goal.returns

@@ -1,31 +1,29 @@
 use Rattle.fb_types.specs.Headline.{system_of}
-use Rattle.fb_types.specs.Numbers.{path_at}
-use Rattle.fb_inspect.specs.declared.charts.ChartTaking.{ChartTaking}
-use Rattle.fb_inspect.proofs.Walked.{chart_goes, chart_kept_at, chart_taking}
+use Rattle.fb_types.specs.Numbers.{path_at, event_at}
+use Rattle.fb_inspect.specs.declared.walk.charts.ChartTaking.{ChartTaking}
+use Rattle.fb_inspect.proofs.lemmas.walk.Walked.{chart_goes, chart_kept_at, chart_taking}
 use Rattle.std.proofs.lemmas.Result.{err_from_is_err_and}
-use Rattle.std.proofs.Common.{[], ◌∷◌, List, None, Some, inl, inr, refl, sym, ap, subst, ◌∙◌}
-use Rattle.fb_types.specs.Numbers.{event_at}
+use Rattle.std.proofs.Common.{[], ◌∷◌, List, Some, inl, inr, refl, sym, ap, subst, ◌∙◌}
 use Rattle.fb_types.specs.Charts.{Position}
 use Rattle.fb_types.specs.Names.{Name}
 use Rattle.fb_types.specs.declared.value.Value.{Value}
 use Rattle.fb_st.specs.Frames.{values_of}
 use Rattle.fb_ecc.specs.Indexes.{sampled}
-use Rattle.fb_inspect.specs.Chains.{ShowsChain, ShowsReaction}
-use Rattle.fb_inspect.specs.Charting.{ChartGoes, place}
-use Rattle.fb_inspect.specs.OfWalk.{IsNext}
-use Rattle.fb_inspect.specs.declared.blocks.Chart.{Chart}
-use Rattle.fb_inspect.specs.declared.reading.Reading.{Reading}
-use Rattle.fb_inspect.specs.declared.trail.Trail.{Trail}
-use Rattle.fb_inspect.proofs.ChartFailing.{reaction_fails}
-use Rattle.fb_inspect.proofs.Charted.{begun_at, reaction_goes}
-use Rattle.fb_inspect.specs.Looks.{IsTakingAt}
+use Rattle.fb_inspect.specs.walk.Chains.{ShowsChain}
+use Rattle.fb_inspect.specs.walk.Charting.{ChartGoes, place}
+use Rattle.fb_inspect.specs.walk.OfWalk.{IsNext}
+use Rattle.fb_inspect.specs.declared.walk.blocks.Chart.{Chart}
+use Rattle.fb_inspect.specs.declared.walk.reading.Reading.{Reading}
+use Rattle.fb_inspect.specs.declared.walk.trail.Trail.{Trail}
+use Rattle.fb_inspect.proofs.lemmas.reactions.ChartFailing.{reaction_fails}
+use Rattle.fb_inspect.proofs.lemmas.reactions.Charted.{begun_at, reaction_goes}
+use Rattle.fb_inspect.specs.walk.Looks.{IsTakingAt}
 use Rattle.fb_inspect.specs.Refusals.{ChartFails, FailsBy}
-use Rattle.fb_inspect.proofs.Failed.{chart_fails, untaken_chart}
-use Rattle.fb_inspect.proofs.Near.{basic_kept}
-use Rattle.fb_inspect.proofs.Errors.{of_number}
-use Rattle.fb_inspect.proofs.Refused.{err_passed, none_passed, none_refused, reads_of}
-use Rattle.fb_inspect.proofs.Walked.{begun}
-use Rattle.fb_inspect.proofs.Joined.{ok_passed}
+use Rattle.fb_inspect.proofs.lemmas.walk.FailedTakings.{chart_fails, untaken_chart}
+use Rattle.fb_inspect.proofs.lemmas.lines.NearStop.{basic_kept}
+use Rattle.fb_inspect.proofs.lemmas.results.Errors.{of_number}
+use Rattle.fb_inspect.proofs.lemmas.results.Refused.{err_passed, none_passed, none_refused, reads_of}
+use Rattle.fb_inspect.proofs.lemmas.results.Joined.{ok_passed}
 use Rattle.fb_inspect.proofs.walk.react_basic.Goals as goal
 
 pub returns-then-not-line-clause-refused : goal.returns-then-not-line-clause-refused

@@ -1,16 +1,16 @@
 use Rattle.std.proofs.Common.{[], ◌∷◌, None, inl, inr, subst, sym, ◌∙◌}
 use Rattle.fb_types.specs.Headline.{system_of}
 use Rattle.fb_types.specs.Numbers.{path_at}
-use Rattle.fb_inspect.specs.Looks.{IsTakingAt, emissions_by}
-use Rattle.fb_inspect.specs.OfWalk.{CanReact}
+use Rattle.fb_inspect.specs.walk.Looks.{IsTakingAt, emissions_by}
+use Rattle.fb_inspect.specs.walk.OfWalk.{CanReact}
 use Rattle.fb_inspect.specs.Refusals.{EmitsFail, FailsBy, IsNotDue}
-use Rattle.fb_inspect.specs.Timing.{taken_reaction}
-use Rattle.fb_inspect.specs.Walking.{IsKept, KeptGoes}
-use Rattle.fb_inspect.specs.declared.blocks.Remembered.{Remembered}
-use Rattle.fb_inspect.proofs.Failed.{block_fails, not_due}
-use Rattle.fb_inspect.proofs.Joined.{both_joined, err_joined, ok_joined, ok_passed, on_joined}
-use Rattle.fb_inspect.proofs.Refused.{err_none, err_refused, none_passed, reads_of}
-use Rattle.fb_inspect.proofs.Walked.{composite_goes, event_goes, event_kept_at, event_line, expired_goes}
+use Rattle.fb_inspect.specs.walk.Timing.{taken_reaction}
+use Rattle.fb_inspect.specs.walk.Walking.{IsKept, KeptGoes}
+use Rattle.fb_inspect.specs.declared.walk.blocks.Remembered.{Remembered}
+use Rattle.fb_inspect.proofs.lemmas.walk.FailedTakings.{block_fails, not_due}
+use Rattle.fb_inspect.proofs.lemmas.results.Joined.{both_joined, err_joined, ok_joined, ok_passed, on_joined}
+use Rattle.fb_inspect.proofs.lemmas.results.Refused.{err_none, err_refused, none_passed, reads_of}
+use Rattle.fb_inspect.proofs.lemmas.walk.Walked.{composite_goes, event_goes, event_kept_at, event_line, expired_goes}
 use Rattle.fb_inspect.proofs.walk.react_kept.Goals as goal
 
 pub expire_block-requires-clause-line : goal.expire_block-requires-clause-line

@@ -1,6 +1,6 @@
 use Rattle.std.proofs.Common.{◌<◌, ℕ, refl, sym, subst}
-use Rattle.fb_inspect.proofs.Near.{step_none, step_used}
-use Rattle.fb_inspect.proofs.Placed.{item_is}
+use Rattle.fb_inspect.proofs.lemmas.lines.NearStop.{step_none, step_used}
+use Rattle.fb_inspect.proofs.lemmas.reactions.Placed.{item_is}
 use Rattle.fb_inspect.proofs.walk.use_step.Goals as goal
 
 pub index_mut-requires : goal.index_mut-requires

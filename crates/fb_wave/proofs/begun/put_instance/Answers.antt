@@ -9,7 +9,7 @@ use Rattle.fb_types.specs.declared.library.Variable.{Variable}
 use Rattle.fb_types.specs.declared.value.Value.{Value}
 use Rattle.fb_wave.specs.Scopes.{initial_in, ports_begun}
 use Rattle.fb_wave.specs.Signals.{size_of}
-use Rattle.fb_wave.proofs.Handing.{on_ok}
+use Rattle.fb_wave.proofs.lemmas.Handing.{on_ok}
 use Rattle.fb_wave.proofs.begun.put_instance.Goals as goal
 
 -- as many values as variables

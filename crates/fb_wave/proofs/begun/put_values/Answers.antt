@@ -4,8 +4,8 @@ use Rattle.fb_types.specs.Names.{Name}
 use Rattle.fb_types.specs.declared.library.Variable.{Variable}
 use Rattle.fb_types.specs.declared.value.Value.{Value}
 use Rattle.fb_wave.specs.Scopes.{carried_declarations, variable_begun, variable_declarations}
-use Rattle.fb_wave.proofs.Declaring.{variables_go}
-use Rattle.fb_wave.proofs.Listing.{going_on, gone_all}
+use Rattle.fb_wave.proofs.lemmas.Declaring.{variables_go}
+use Rattle.fb_wave.proofs.lemmas.Listing.{going_on, gone_all}
 use Rattle.fb_wave.proofs.begun.put_values.Goals as goal
 
 -- the value at an index is that of the variable there

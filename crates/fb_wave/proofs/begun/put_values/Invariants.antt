@@ -3,7 +3,7 @@ use Rattle.fb_types.specs.Blocks.{variable_names}
 use Rattle.fb_types.specs.Names.{Name}
 use Rattle.fb_types.specs.declared.value.Value.{Value}
 use Rattle.fb_wave.specs.Scopes.{variable_begun, variable_declarations}
-use Rattle.fb_wave.proofs.Listing.{SoFar}
+use Rattle.fb_wave.proofs.lemmas.Listing.{SoFar}
 use Rattle.fb_wave.proofs.begun.put_values.Given as goal
 
 abbrev pub invariant-loop-index : goal.invariant-loop-index

@@ -1,4 +1,4 @@
-use Rattle.fb_wave.proofs.Turning.{IsTurned}
+use Rattle.fb_wave.proofs.lemmas.Turning.{IsTurned}
 use Rattle.fb_wave.proofs.change.put_changes.Given as goal
 
 abbrev pub invariant-loop-index : goal.invariant-loop-index

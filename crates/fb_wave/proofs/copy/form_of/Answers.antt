@@ -1,5 +1,5 @@
 use Rattle.std.proofs.Common.{refl}
-use Rattle.fb_wave.proofs.Cutting.{cut_once}
+use Rattle.fb_wave.proofs.lemmas.Cutting.{cut_once}
 use Rattle.fb_wave.proofs.copy.form_of.Goals as goal
 
 pub returns-in-Some : goal.returns-in-Some

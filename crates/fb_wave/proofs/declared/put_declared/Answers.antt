@@ -1,5 +1,5 @@
 use Rattle.std.proofs.Common.{◌≡◌, ℕ, List, [], ◌∷◌, ◌++◌, decimal, codes, ap, ◌∙◌, append_assoc}
-use Rattle.fb_wave.proofs.Handing.{on_put}
+use Rattle.fb_wave.proofs.lemmas.Handing.{on_put}
 use Rattle.fb_wave.proofs.declared.put_declared.Goals as goal
 
 regroup : (o f s b n m e l : List ℕ) → (((((o ++ f) ++ s) ++ b) ++ n) ++ m) ++ (e ++ l) ≡ o ++ (((((f ++ s) ++ b) ++ (n ++ m)) ++ e) ++ l)

@@ -1,7 +1,7 @@
 use Rattle.std.proofs.Common.{ℕ, List, ◌++◌, codes, ap, ◌∙◌, append_assoc, append-nil}
 use Rattle.fb_wave.specs.Changes.{event_code, count_code}
 use Rattle.fb_wave.specs.Scopes.{declares}
-use Rattle.fb_wave.proofs.Handing.{on_ok}
+use Rattle.fb_wave.proofs.lemmas.Handing.{on_ok}
 use Rattle.fb_wave.proofs.declared.put_event.Goals as goal
 
 pub returns : goal.returns

@@ -1,7 +1,7 @@
 use Rattle.std.proofs.Common.{◌≡◌, ℕ, List, [], ◌++◌, decimal, codes, ap, ◌∙◌, append_assoc, append-nil}
 use Rattle.fb_wave.specs.Changes.{line}
 use Rattle.fb_wave.specs.Scopes.{variable_kind}
-use Rattle.fb_wave.proofs.Handing.{on_ok}
+use Rattle.fb_wave.proofs.lemmas.Handing.{on_ok}
 use Rattle.fb_wave.proofs.declared.put_variable.Goals as goal
 
 -- a letter that is at the end of a front, or at the beginning of what the dump calls a signal

@@ -1,5 +1,5 @@
 use Rattle.std.proofs.Common.{arith}
-use Rattle.fb_wave.proofs.Spelled.{Spells-none, Spells-more, Spells-all}
+use Rattle.fb_wave.proofs.lemmas.Spelled.{Spells-none, Spells-more, Spells-all}
 use Rattle.fb_wave.proofs.digits.write_digits.Goals as goal
 
 pub loop-start-init : goal.loop-start-init

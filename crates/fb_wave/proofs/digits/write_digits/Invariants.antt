@@ -1,4 +1,4 @@
-use Rattle.fb_wave.proofs.Spelled.{Spells}
+use Rattle.fb_wave.proofs.lemmas.Spelled.{Spells}
 use Rattle.fb_wave.proofs.digits.write_digits.Given as goal
 
 abbrev pub invariant-loop-start : goal.invariant-loop-start

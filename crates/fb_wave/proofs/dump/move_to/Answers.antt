@@ -1,8 +1,8 @@
 use Rattle.std.proofs.Common.{◌++◌}
 use Rattle.fb_wave.specs.Signals.{sizes_of}
 use Rattle.fb_wave.specs.LineSignals.{fires_of, has_signal, touches_of}
-use Rattle.fb_wave.proofs.Showing.{turn_next, turn_same}
-use Rattle.fb_wave.proofs.Handing.{on_ok}
+use Rattle.fb_wave.proofs.lemmas.Showing.{turn_next, turn_same}
+use Rattle.fb_wave.proofs.lemmas.Handing.{on_ok}
 use Rattle.fb_wave.proofs.dump.move_to.Goals as goal
 
 pub returns-then-tick-shown-clause-turned : goal.returns-then-tick-shown-clause-turned

@@ -6,7 +6,7 @@ use Rattle.fb_trace.specs.End.{ending_of}
 use Rattle.fb_trace.specs.declared.last.Outcome.{Outcome}
 use Rattle.fb_wave.specs.Changes.{time_text}
 use Rattle.fb_wave.specs.Dumps.{end_text, stop_comment}
-use Rattle.fb_wave.proofs.Handing.{on_ok}
+use Rattle.fb_wave.proofs.lemmas.Handing.{on_ok}
 use Rattle.fb_wave.proofs.dump.put_end.Goals as goal
 
 pub returns-then-resource-resources : goal.returns-then-resource-resources

@@ -1,5 +1,5 @@
 use Rattle.std.proofs.Common.{ℕ, List, ◌++◌, codes, ap, ◌∙◌, append_assoc}
-use Rattle.fb_wave.proofs.Handing.{on_put}
+use Rattle.fb_wave.proofs.lemmas.Handing.{on_put}
 use Rattle.fb_wave.proofs.dump.put_stop.Goals as goal
 
 pub returns : goal.returns

@@ -2,8 +2,8 @@ use Rattle.std.proofs.Common.{◌≡◌, ◌<◌, ℕ, ◌+◌, List, length, dr
 use Rattle.fb_types.specs.Headline.{system_of}
 use Rattle.fb_types.specs.Numbers.{path_at}
 use Rattle.fb_types.specs.Text.{path_text}
-use Rattle.fb_wave.proofs.Heading.{own_fits, own_inner}
-use Rattle.fb_wave.proofs.Known.{path_some}
+use Rattle.fb_wave.proofs.lemmas.Heading.{own_fits, own_inner}
+use Rattle.fb_wave.proofs.lemmas.Known.{path_some}
 use Rattle.fb_wave.proofs.head.own_name.Goals as goal
 
 pub rest_from-requires : goal.rest_from-requires

@@ -2,8 +2,8 @@ use Rattle.std.proofs.Common.{◌<◌, ℕ, ◌++◌, length, ap, ◌∙◌, ari
 use Rattle.fb_types.specs.Headline.{system_of}
 use Rattle.fb_types.specs.Numbers.{path_at, ports_at}
 use Rattle.fb_wave.specs.Scopes.{initial_in, ports_begun}
-use Rattle.fb_wave.proofs.Heading.{begun_on}
-use Rattle.fb_wave.proofs.Numbering.{signals_fit}
+use Rattle.fb_wave.proofs.lemmas.Heading.{begun_on}
+use Rattle.fb_wave.proofs.lemmas.Numbering.{signals_fit}
 use Rattle.fb_wave.proofs.head.put_begun.Goals as goal
 
 pub put_instance-requires-clause-first : goal.put_instance-requires-clause-first

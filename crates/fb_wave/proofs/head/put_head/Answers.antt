@@ -2,7 +2,7 @@ use Rattle.std.proofs.Common.{◌≡◌, ℕ, List, ◌++◌, codes, ap, ◌∙�
 use Rattle.fb_types.specs.Headline.{system_of}
 use Rattle.fb_wave.specs.Changes.{line}
 use Rattle.fb_wave.specs.Scopes.{instances_begun, resources_declared}
-use Rattle.fb_wave.proofs.Handing.{on_put}
+use Rattle.fb_wave.proofs.lemmas.Handing.{on_put}
 use Rattle.fb_wave.proofs.head.put_head.Goals as goal
 
 regroup : (t s r d z v g e : List ℕ) → ((((t ++ s) ++ r) ++ (d ++ (z ++ v))) ++ g) ++ e ≡ t ++ ((((((s ++ r) ++ d) ++ z) ++ v) ++ g) ++ e)

@@ -5,9 +5,9 @@ use Rattle.fb_types.specs.Numbers.{path_at, ports_at}
 use Rattle.fb_types.specs.declared.library.Ports.{Ports}
 use Rattle.fb_wave.specs.Scopes.{closed, opened, own_name, ports_declared}
 use Rattle.fb_wave.specs.Signals.{first_signal, size_of}
-use Rattle.fb_wave.proofs.Heading.{route_length}
-use Rattle.fb_wave.proofs.Known.{path_some}
-use Rattle.fb_wave.proofs.Numbering.{signals_fit}
+use Rattle.fb_wave.proofs.lemmas.Heading.{route_length}
+use Rattle.fb_wave.proofs.lemmas.Known.{path_some}
+use Rattle.fb_wave.proofs.lemmas.Numbering.{signals_fit}
 use Rattle.fb_wave.proofs.head.put_instance.Goals as goal
 
 regroup : (t c o p : List ℕ) → ((t ++ c) ++ o) ++ p ≡ t ++ ((c ++ o) ++ p)

@@ -1,5 +1,5 @@
 use Rattle.std.proofs.Common.{rules}
-use Rattle.fb_wave.proofs.Ends.{other_end}
+use Rattle.fb_wave.proofs.lemmas.Ends.{other_end}
 use Rattle.fb_wave.proofs.last.horizon_of.Goals as goal
 
 pub returns-then-ne : goal.returns-then-ne

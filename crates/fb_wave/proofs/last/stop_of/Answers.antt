@@ -1,6 +1,6 @@
 use Rattle.fb_types.specs.Headline.{system_of}
-use Rattle.fb_wave.proofs.Ends.{no_reason, no_resource, no_word}
-use Rattle.fb_wave.proofs.Gluing.{stop_glued}
+use Rattle.fb_wave.proofs.lemmas.Ends.{no_reason, no_resource, no_word}
+use Rattle.fb_wave.proofs.lemmas.Gluing.{stop_glued}
 use Rattle.fb_wave.proofs.last.stop_of.Goals as goal
 
 pub returns-clause-stop : goal.returns-clause-stop

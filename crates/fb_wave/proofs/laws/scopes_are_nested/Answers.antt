@@ -1,4 +1,4 @@
-use Rattle.fb_wave.proofs.Nesting.{scopes_are}
+use Rattle.fb_wave.proofs.lemmas.Nesting.{scopes_are}
 use Rattle.fb_wave.proofs.laws.scopes_are_nested.Goals as goal
 
 pub returns : goal.returns

@@ -1,4 +1,4 @@
-use Rattle.fb_wave.proofs.ByTick.{ticks_are}
+use Rattle.fb_wave.proofs.lemmas.ByTick.{ticks_are}
 use Rattle.fb_wave.proofs.laws.ticks_follow.Goals as goal
 
 pub returns : goal.returns

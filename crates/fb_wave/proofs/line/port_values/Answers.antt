@@ -5,9 +5,9 @@ use Rattle.fb_types.specs.declared.library.Ports.{Ports}
 use Rattle.fb_types.specs.declared.library.Variable.{Variable}
 use Rattle.fb_wave.specs.Reading.{AreRead, AreUnread}
 use Rattle.fb_wave.specs.Lines.{AreNoValuesOf, AreValuesOf}
-use Rattle.fb_wave.proofs.Gluing.{input_values, none_read, output_values, some_read}
-use Rattle.fb_wave.proofs.Known.{inputs_once, outputs_once}
-use Rattle.fb_wave.proofs.Unlined.{no_input_values, no_output_values}
+use Rattle.fb_wave.proofs.lemmas.Gluing.{input_values, none_read, output_values, some_read}
+use Rattle.fb_wave.proofs.lemmas.Known.{inputs_once, outputs_once}
+use Rattle.fb_wave.proofs.lemmas.Unlined.{no_input_values, no_output_values}
 use Rattle.fb_wave.proofs.line.port_values.Goals as goal
 
 pub returns-then-port-clause-values : goal.returns-then-port-clause-values

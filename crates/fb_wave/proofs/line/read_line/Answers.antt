@@ -3,8 +3,8 @@ use Rattle.std.specs.Prelude.{IfNone, IfSome}
 use Rattle.fb_types.specs.Headline.{system_of}
 use Rattle.fb_types.specs.declared.value.Value.{Value}
 use Rattle.fb_wave.specs.Lines.{AreNoValuesOf, AreValuesOf}
-use Rattle.fb_wave.proofs.Gluing.{line_read}
-use Rattle.fb_wave.proofs.Unlined.{headless, portless, tickless, valueless}
+use Rattle.fb_wave.proofs.lemmas.Gluing.{line_read}
+use Rattle.fb_wave.proofs.lemmas.Unlined.{headless, portless, tickless, valueless}
 use Rattle.fb_wave.proofs.line.read_line.Goals as goal
 
 pub returns-clause-line : goal.returns-clause-line

@@ -1,4 +1,4 @@
-use Rattle.fb_wave.proofs.Numerals.{narrowed}
+use Rattle.fb_wave.proofs.lemmas.Numerals.{narrowed}
 use Rattle.fb_wave.proofs.number.magnitude.Goals as goal
 
 pub returns : goal.returns

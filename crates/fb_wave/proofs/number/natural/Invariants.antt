@@ -1,4 +1,4 @@
-use Rattle.fb_wave.proofs.Numerals.{Reads}
+use Rattle.fb_wave.proofs.lemmas.Numerals.{Reads}
 use Rattle.fb_wave.proofs.number.natural.Given as goal
 
 abbrev pub invariant-loop-index : goal.invariant-loop-index

@@ -1,4 +1,4 @@
-use Rattle.fb_wave.proofs.Numerals.{numbered, unnumbered, unblanked}
+use Rattle.fb_wave.proofs.lemmas.Numerals.{numbered, unnumbered, unblanked}
 use Rattle.fb_wave.proofs.number.number.Goals as goal
 
 pub returns-in_err-natural-clause-number : goal.returns-in_err-natural-clause-number

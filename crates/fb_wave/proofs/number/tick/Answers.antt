@@ -1,4 +1,4 @@
-use Rattle.fb_wave.proofs.Numerals.{too_wide}
+use Rattle.fb_wave.proofs.lemmas.Numerals.{too_wide}
 use Rattle.fb_wave.proofs.number.tick.Goals as goal
 
 pub returns-in_err-narrow-clause-tick : goal.returns-in_err-narrow-clause-tick

@@ -3,7 +3,7 @@ use Rattle.std.proofs.lemmas.List.{length-map}
 use Rattle.fb_types.specs.Headline.{system_of}
 use Rattle.fb_types.specs.Numbers.{path_at}
 use Rattle.fb_types.specs.declared.deploy.ResourceEntry.{ResourceEntry}
-use Rattle.fb_wave.proofs.Bounds.{resource_named}
+use Rattle.fb_wave.proofs.lemmas.Bounds.{resource_named}
 use Rattle.fb_wave.proofs.ports.holder_of.Goals as goal
 
 pub overflow_cast-result : goal.overflow_cast-result

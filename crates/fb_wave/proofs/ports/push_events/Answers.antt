@@ -4,7 +4,7 @@ use Rattle.std.proofs.lemmas.List.Elements.{All-push, Contains-append_left}
 use Rattle.fb_types.specs.Repeated.{Twice}
 use Rattle.fb_wave.specs.Ports.{IsPortOf}
 use Rattle.fb_wave.specs.declared.ports.Port.{Port}
-use Rattle.fb_wave.proofs.Porting.{AddsUpTo, HasUpTo, adds_more, once_more, up_to_more}
+use Rattle.fb_wave.proofs.lemmas.Porting.{AddsUpTo, HasUpTo, adds_more, once_more, up_to_more}
 use Rattle.fb_wave.proofs.ports.push_events.Goals as goal
 
 pub loop-event-preserved : goal.loop-event-preserved

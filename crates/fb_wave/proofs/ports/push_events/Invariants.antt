@@ -4,7 +4,7 @@ use Rattle.fb_types.specs.Repeated.{Twice}
 use Rattle.fb_types.specs.Systems.{System}
 use Rattle.fb_wave.specs.Ports.{HasNone, IsPortOf, side}
 use Rattle.fb_wave.specs.declared.ports.Port.{Port}
-use Rattle.fb_wave.proofs.Porting.{AddsUpTo, HasUpTo}
+use Rattle.fb_wave.proofs.lemmas.Porting.{AddsUpTo, HasUpTo}
 use Rattle.fb_wave.proofs.ports.push_events.Given as goal
 
 abbrev pub invariant-loop-event : goal.invariant-loop-event

@@ -2,8 +2,8 @@ use Rattle.std.proofs.Common.{ℕ, ◌++◌, ap, ◌∙◌, arith}
 use Rattle.fb_types.specs.Names.{Name}
 use Rattle.fb_types.specs.declared.library.EventPort.{EventPort}
 use Rattle.fb_wave.specs.Scopes.{event_in, event_declarations}
-use Rattle.fb_wave.proofs.Declaring.{events_go}
-use Rattle.fb_wave.proofs.Listing.{going_on, gone_all}
+use Rattle.fb_wave.proofs.lemmas.Declaring.{events_go}
+use Rattle.fb_wave.proofs.lemmas.Listing.{going_on, gone_all}
 use Rattle.fb_wave.proofs.signals.put_events.Goals as goal
 
 pub loop-event-preserved : goal.loop-event-preserved

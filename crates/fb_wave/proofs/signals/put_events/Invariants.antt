@@ -1,6 +1,6 @@
 use Rattle.std.proofs.Common.{◌≡◌, ◌+◌}
 use Rattle.fb_wave.specs.Scopes.{event_in, event_declarations}
-use Rattle.fb_wave.proofs.Listing.{SoFar}
+use Rattle.fb_wave.proofs.lemmas.Listing.{SoFar}
 use Rattle.fb_wave.proofs.signals.put_events.Given as goal
 
 abbrev pub invariant-loop-event : goal.invariant-loop-event

@@ -1,7 +1,7 @@
 use Rattle.std.proofs.Common.{arith}
 use Rattle.fb_wave.specs.Scopes.{carried_declarations, variable_declarations, variable_declared}
-use Rattle.fb_wave.proofs.Declaring.{variables_go}
-use Rattle.fb_wave.proofs.Listing.{going_on, gone_all}
+use Rattle.fb_wave.proofs.lemmas.Declaring.{variables_go}
+use Rattle.fb_wave.proofs.lemmas.Listing.{going_on, gone_all}
 use Rattle.fb_wave.proofs.signals.put_variables.Goals as goal
 
 pub loop-variable-preserved : goal.loop-variable-preserved

@@ -1,6 +1,6 @@
 use Rattle.std.proofs.Common.{◌≡◌, ◌+◌}
 use Rattle.fb_wave.specs.Scopes.{variable_declarations, variable_declared}
-use Rattle.fb_wave.proofs.Listing.{SoFar}
+use Rattle.fb_wave.proofs.lemmas.Listing.{SoFar}
 use Rattle.fb_wave.proofs.signals.put_variables.Given as goal
 
 abbrev pub invariant-loop-variable : goal.invariant-loop-variable

@@ -2,7 +2,7 @@ use Rattle.std.proofs.Common.{◌≡◌, ◌<◌, ℕ, ◌+◌, [], length, sym,
 use Rattle.fb_types.specs.Headline.{system_of}
 use Rattle.fb_wave.specs.Levels.{AreLevels}
 use Rattle.fb_wave.specs.Signals.{first_signal, size_of}
-use Rattle.fb_wave.proofs.Numbering.{first_signal-all, first_signal-next, firsts-all, firsts-more}
+use Rattle.fb_wave.proofs.lemmas.Numbering.{first_signal-all, first_signal-next, firsts-all, firsts-more}
 use Rattle.fb_wave.proofs.system_signals.firsts_of.Goals as goal
 
 pub loop-instance-preserved : goal.loop-instance-preserved

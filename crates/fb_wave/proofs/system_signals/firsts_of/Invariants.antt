@@ -2,7 +2,7 @@ use Rattle.std.proofs.Common.{[]}
 use Rattle.fb_types.specs.Headline.{system_of}
 use Rattle.fb_wave.specs.Levels.{AreLevels}
 use Rattle.fb_wave.specs.Signals.{first_signal}
-use Rattle.fb_wave.proofs.Numbering.{AreFirstsBefore}
+use Rattle.fb_wave.proofs.lemmas.Numbering.{AreFirstsBefore}
 use Rattle.fb_wave.proofs.system_signals.firsts_of.Given as goal
 
 abbrev pub invariant-loop-instance : goal.invariant-loop-instance

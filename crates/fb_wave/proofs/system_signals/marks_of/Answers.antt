@@ -3,8 +3,8 @@ use Rattle.fb_types.specs.Headline.{system_of}
 use Rattle.fb_types.specs.declared.library.Ports.{Ports}
 use Rattle.fb_wave.specs.Signals.{size_of}
 use Rattle.fb_wave.specs.declared.system_signals.Marks.{Marks}
-use Rattle.fb_wave.proofs.Marking.{emitted_within, marks_emitted, marks_taken, taken_within}
-use Rattle.fb_wave.proofs.Numbering.{signals_fit}
+use Rattle.fb_wave.proofs.lemmas.Marking.{emitted_within, marks_emitted, marks_taken, taken_within}
+use Rattle.fb_wave.proofs.lemmas.Numbering.{signals_fit}
 use Rattle.fb_wave.proofs.system_signals.marks_of.Goals as goal
 
 pub overflow_add-outputs : goal.overflow_add-outputs

@@ -1,6 +1,6 @@
 use Rattle.std.proofs.Common.{◌≡◌, ◌+◌, length, map, take}
 use Rattle.fb_wave.specs.LineSignals.{pairs}
-use Rattle.fb_wave.proofs.Pairing.{AreShown}
+use Rattle.fb_wave.proofs.lemmas.Pairing.{AreShown}
 use Rattle.fb_wave.proofs.system_signals.show_values.Given as goal
 
 abbrev pub invariant-loop-index : goal.invariant-loop-index

@@ -1,4 +1,4 @@
-use Rattle.fb_wave.proofs.Finding.{has_three, no_second, no_third, second_whole, third_whole}
+use Rattle.fb_wave.proofs.lemmas.Finding.{has_three, no_second, no_third, second_whole, third_whole}
 use Rattle.fb_wave.proofs.table.port_len.Goals as goal
 
 pub returns-in_err-after_front-clause-three : goal.returns-in_err-after_front-clause-three

@@ -1,4 +1,4 @@
-use Rattle.fb_wave.proofs.Valued.{zero_digits}
+use Rattle.fb_wave.proofs.lemmas.Valued.{zero_digits}
 use Rattle.fb_wave.proofs.values.below_zero.Goals as goal
 
 pub returns-in-0 : goal.returns-in-0

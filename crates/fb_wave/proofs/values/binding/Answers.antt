@@ -1,5 +1,5 @@
 use Rattle.std.proofs.Common.{ℕ, List, ◌++◌, ap, ◌∙◌}
-use Rattle.fb_wave.proofs.Valued.{unsigned, unended, unvalued}
+use Rattle.fb_wave.proofs.lemmas.Valued.{unsigned, unended, unvalued}
 use Rattle.fb_wave.proofs.values.binding.Goals as goal
 
 pub returns-in_err-text-3 : goal.returns-in_err-text-3

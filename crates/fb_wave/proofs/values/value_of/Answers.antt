@@ -1,5 +1,5 @@
 use Rattle.std.proofs.Common.{sym, ◌∙◌}
-use Rattle.fb_wave.proofs.Valued.{other_value}
+use Rattle.fb_wave.proofs.lemmas.Valued.{other_value}
 use Rattle.fb_wave.proofs.values.value_of.Goals as goal
 
 pub returns-else-holds : goal.returns-else-holds

@@ -5,7 +5,7 @@ use Rattle.std.proofs.lemmas.List.{get_or_default}
 use Rattle.std.proofs.lemmas.Slice.Eq.{slice_eq-Decides}
 use Rattle.fb_types.specs.declared.library.Variable.{Variable}
 use Rattle.fb_wave.specs.Reading.{IsBound, IsUnbound}
-use Rattle.fb_wave.proofs.Valued.{AreSoFar, all_read, more_left, one_more, unbound_so_far}
+use Rattle.fb_wave.proofs.lemmas.Valued.{AreSoFar, all_read, more_left, one_more, unbound_so_far}
 use Rattle.fb_wave.proofs.values.values_of.Goals as goal
 
 pub returns-in_default : goal.returns-in_default

@@ -1,4 +1,4 @@
-use Rattle.fb_wave.proofs.Valued.{AreSoFar}
+use Rattle.fb_wave.proofs.lemmas.Valued.{AreSoFar}
 use Rattle.fb_wave.proofs.values.values_of.Given as goal
 
 abbrev pub invariant-loop-index : goal.invariant-loop-index

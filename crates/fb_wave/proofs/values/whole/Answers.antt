@@ -1,4 +1,4 @@
-use Rattle.fb_wave.proofs.Valued.{signed_whole}
+use Rattle.fb_wave.proofs.lemmas.Valued.{signed_whole}
 use Rattle.fb_wave.proofs.values.whole.Goals as goal
 
 pub returns-in-Some : goal.returns-in-Some

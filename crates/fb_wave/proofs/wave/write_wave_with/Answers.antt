@@ -6,9 +6,9 @@ use Rattle.fb_wave.specs.declared.error.WaveError.TheVariants.{Names}
 use Rattle.fb_wave.specs.declared.table.PortTable.{PortTable}
 use Rattle.fb_wave.specs.Named.{HasNames}
 use Rattle.fb_wave.specs.CutOff.{BlamesShown, FailsShown, IsShown}
-use Rattle.fb_wave.proofs.Copied.{front_none}
-use Rattle.fb_wave.proofs.Severed.{blames_memory, blames_names, fails_in}
-use Rattle.fb_wave.proofs.Handing.{ok_passed, on_passed}
+use Rattle.fb_wave.proofs.lemmas.Copied.{front_none}
+use Rattle.fb_wave.proofs.lemmas.Severed.{blames_memory, blames_names, fails_in}
+use Rattle.fb_wave.proofs.lemmas.Handing.{ok_passed, on_passed}
 use Rattle.fb_wave.specs.CurrentLines.{IsRefusedLine}
 use Rattle.fb_wave.proofs.wave.write_wave_with.Goals as goal
 

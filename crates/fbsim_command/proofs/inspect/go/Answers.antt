@@ -3,7 +3,7 @@ use Rattle.std.specs.Prelude.{IfSome, OnErr, OnOk}
 use Rattle.clap.specs.Words.{Text}
 use Rattle.fb_types.specs.Headline.{system_of}
 use Rattle.fb_inspect.specs.Inspections.{IsShownBy, ShowsFront}
-use Rattle.fb_inspect.proofs.Ended.{front_none}
+use Rattle.fb_inspect.proofs.lemmas.walk.Ended.{front_none}
 use Rattle.fb_wave.specs.declared.truncation.Cut.{Cut}
 use Rattle.fbsim_command.specs.Inspecting.{cut_of, paths_of, upper}
 use Rattle.fbsim_command.proofs.Inspecting.{on_err_any}

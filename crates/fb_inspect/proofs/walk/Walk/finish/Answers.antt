@@ -2,8 +2,8 @@ use Rattle.std.proofs.Common.{◌+◌, ◌++◌, ◌∙◌, ℕ, List, ap, subst
 use Rattle.std.specs.Io.KnownBytes.{Appends}
 use Rattle.std.proofs.lemmas.Result.{err_from_is_err_and}
 use Rattle.fb_wave.specs.declared.page.Page.{Page}
-use Rattle.fb_inspect.proofs.Ended.{nothing_sent, short_sent}
-use Rattle.fb_inspect.proofs.Placed.{err_any}
+use Rattle.fb_inspect.proofs.lemmas.walk.Ended.{nothing_sent, short_sent}
+use Rattle.fb_inspect.proofs.lemmas.reactions.Placed.{err_any}
 use Rattle.fb_inspect.proofs.walk.Walk.finish.Goals as goal
 
 pub returns-in_err-put_line-clause-fault : goal.returns-in_err-put_line-clause-fault

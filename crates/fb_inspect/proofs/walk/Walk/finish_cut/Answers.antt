@@ -1,8 +1,8 @@
 use Rattle.std.proofs.Common.{◌∙◌, subst, sym}
 use Rattle.std.specs.Io.KnownBytes.{Appends}
 use Rattle.fb_wave.specs.declared.page.Page.{Page}
-use Rattle.fb_inspect.proofs.Ended.{no_cut_sent, short_sent}
-use Rattle.fb_inspect.proofs.Placed.{err_any}
+use Rattle.fb_inspect.proofs.lemmas.walk.Ended.{no_cut_sent, short_sent}
+use Rattle.fb_inspect.proofs.lemmas.reactions.Placed.{err_any}
 use Rattle.fb_inspect.proofs.walk.Walk.finish_cut.Goals as goal
 
 pub returns-in_err-put_cut-clause-fault : goal.returns-in_err-put_cut-clause-fault

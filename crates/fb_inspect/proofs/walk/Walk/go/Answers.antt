@@ -1,27 +1,26 @@
-use Rattle.std.proofs.Common.{List, ℕ, ◌<◌, ◌+◌, length, inl, Option, subst, sym}
+use Rattle.std.proofs.Common.{List, ℕ, ◌<◌, ◌+◌, length, inl, Option, subst, sym, ◌≡◌, Ok, Some}
 use Rattle.std.specs.Prelude.{IfSome}
 use Rattle.fb_types.specs.Headline.{system_of}
 use Rattle.fb_coverage.specs.declared.marks.Marks.{Marks}
 use Rattle.fb_inspect.specs.Covering.{IsCovered, IsCutCovered}
 use Rattle.fb_inspect.specs.Inspections.{last_look}
-use Rattle.fb_inspect.specs.Looks.{opening_look}
-use Rattle.fb_inspect.specs.Walking.{HasAdvanced, HasCovered, unread}
+use Rattle.fb_inspect.specs.walk.Looks.{opening_look}
+use Rattle.fb_inspect.specs.walk.Walking.{HasAdvanced, HasCovered, unread}
 use Rattle.fb_inspect.specs.declared.walk.Step.{Step}
 use Rattle.fb_wave.specs.Dumps.{last_tick}
-use Rattle.fb_inspect.proofs.Ended.{complete_covered, complete_part, complete_shown, front_flush, front_gone, severed_covered, severed_part, severed_shown, shown_cut, shown_whole, some_text}
-use Rattle.fb_inspect.proofs.Gone.{covered_none, flushed_on}
-use Rattle.fb_inspect.proofs.Joined.{err_joined, fails_joined, ok_joined, ok_passed, on_joined}
-use Rattle.fb_inspect.proofs.Placed.{err_any, err_then}
-use Rattle.fb_inspect.proofs.Severing.{on_some}
-use Rattle.fb_inspect.proofs.Stepped.{none_ahead}
-use Rattle.std.proofs.Common.{◌≡◌, Ok, Some}
+use Rattle.fb_inspect.proofs.lemmas.walk.Ended.{complete_covered, complete_part, complete_shown, front_flush, front_gone, severed_covered, severed_part, severed_shown, shown_cut, shown_whole, some_text}
+use Rattle.fb_inspect.proofs.lemmas.walk.WalkedTakings.{covered_none, flushed_on}
+use Rattle.fb_inspect.proofs.lemmas.results.Joined.{err_joined, fails_joined, ok_joined, ok_passed, on_joined}
+use Rattle.fb_inspect.proofs.lemmas.reactions.Placed.{err_any, err_then}
+use Rattle.fb_inspect.proofs.lemmas.lines.Severing.{on_some}
+use Rattle.fb_inspect.proofs.lemmas.walk.Stepped.{none_ahead}
 use Rattle.std.specs.Io.KnownBytes.{Consumes}
 use Rattle.std.proofs.lemmas.Result.{err_from_is_err_and}
 use Rattle.fb_inspect.specs.Refusals.{IsWrongAt, IsWrongLine}
-use Rattle.fb_inspect.specs.Standing.{GoesAfter}
-use Rattle.fb_inspect.proofs.Going.{after_last, well_first, well_flushed}
-use Rattle.fb_wave.proofs.Handing.{on_ok}
-use Rattle.fb_inspect.proofs.Refused.{err_none, err_refused, refused_then}
+use Rattle.fb_inspect.specs.walk.Standing.{GoesAfter}
+use Rattle.fb_inspect.proofs.lemmas.walk.UpToRefusal.{after_last, well_first, well_flushed}
+use Rattle.fb_wave.proofs.lemmas.Handing.{on_ok}
+use Rattle.fb_inspect.proofs.lemmas.results.Refused.{err_none, err_refused, refused_then}
 use Rattle.fb_inspect.proofs.walk.Walk.go.Goals as goal
 
 pub loop-init : goal.loop-init
@@ -39,20 +38,20 @@ loop-init g c = (
       (rest, known, well_first (system_of c.args.fixed.now.table.now.system.now) c.args.fixed.now.form only c.args.terms.steps c.args.self.now c.args.ahead.now rest text starts c.requires.empty begins),
 )
 
-pub step-requires-clause-look : goal.step-requires-clause-look
-step-requires-clause-look g c =
+pub advance-requires-clause-look : goal.advance-requires-clause-look
+advance-requires-clause-look g c =
     let known = some_text (g.R.Read.remaining c.args.input.now) c.args.self.now.trail.reading.line.items in
     let covered = c.loop.invariant.0 c.requires.starts.0 known.0 c.requires.starts.1 known.1 in
     (last_look (opening_look (system_of c.args.fixed.now.table.now.system.now)) covered.gone.takings, covered.gone.look)
 
-pub step-requires-clause-next : goal.step-requires-clause-next
-step-requires-clause-next g c =
+pub advance-requires-clause-next : goal.advance-requires-clause-next
+advance-requires-clause-next g c =
     let known = some_text (g.R.Read.remaining c.args.input.now) c.args.self.now.trail.reading.line.items in
     let covered = c.loop.invariant.0 c.requires.starts.0 known.0 c.requires.starts.1 known.1 in
     (last_tick 0 covered.gone.gone.lines, covered.gone.next)
 
-pub returns-in_err-step-clause-fault : goal.returns-in_err-step-clause-fault
-returns-in_err-step-clause-fault g c = λ only starts.
+pub returns-in_err-advance-clause-fault : goal.returns-in_err-advance-clause-fault
+returns-in_err-advance-clause-fault g c = λ only starts.
     let fixed = c.args.fixed.now in
     let known = some_text (g.R.Read.remaining c.args.input.now) c.args.self.now.trail.reading.line.items in
     let covered = c.loop.invariant.0 only known.0 starts known.1 in
@@ -70,12 +69,12 @@ returns-in_err-flush_much-in-Taken-clause-fault g c = λ only starts.
     let steps = c.args.terms.steps in
     let old = g.W.Write.contents c.args.out.now in
     let mid = g.W.Write.contents c.loop.out in
-    let r = unread c.step.new.ahead (g.R.Read.remaining c.step.new.input) in
+    let r = unread c.advance.new.ahead (g.R.Read.remaining c.advance.new.input) in
     let known = some_text (g.R.Read.remaining c.args.input.now) c.args.self.now.trail.reading.line.items in
-    let next = subst (λ (s : Step). HasAdvanced types first sys fixed.form only steps c.step.new.self known.0 r old mid s) c.in-Taken.is
-    (c.in_ok-step.ensures.goes first only known.0 old mid (c.loop.invariant.0 only known.0 starts known.1)) in
+    let next = subst (λ (s : Step). HasAdvanced types first sys fixed.form only steps c.advance.new.self known.0 r old mid s) c.in-Taken.is
+    (c.in_ok-advance.ensures.goes first only known.0 old mid (c.loop.invariant.0 only known.0 starts known.1)) in
     err_any c.from_residual-in_err-flush_much-in-Taken.result _
-    (front_flush sys fixed.form only steps c.step.new.self next.gone.takings known.0 r old mid (g.W.Write.contents c.flush_much.new.out) c.in_err-flush_much-in-Taken.field-0.0 next.gone.gone
+    (front_flush sys fixed.form only steps c.advance.new.self next.gone.takings known.0 r old mid (g.W.Write.contents c.flush_much.new.out) c.in_err-flush_much-in-Taken.field-0.0 next.gone.gone
     c.in_err-flush_much-in-Taken.ensures.part)
 
 pub loop-preserved : goal.loop-preserved
@@ -88,17 +87,17 @@ loop-preserved g c = (
       let steps = c.args.terms.steps in
       let old = g.W.Write.contents c.args.out.now in
       let mid = g.W.Write.contents c.loop.out in
-      let r = unread c.step.new.ahead (g.R.Read.remaining c.step.new.input) in
-      let next = subst (λ (s : Step). HasAdvanced types first sys fixed.form only steps c.step.new.self known r old mid s) c.in-Taken.is
-      (c.in_ok-step.ensures.goes first only known old mid (c.loop.invariant.0 only known starts read)) in
-      flushed_on sys fixed.form only steps types first c.step.new.self c.flush_much.new.self known r old mid (g.W.Write.contents c.flush_much.new.out) next c.in_ok-flush_much-in-Taken.ensures.whole,
+      let r = unread c.advance.new.ahead (g.R.Read.remaining c.advance.new.input) in
+      let next = subst (λ (s : Step). HasAdvanced types first sys fixed.form only steps c.advance.new.self known r old mid s) c.in-Taken.is
+      (c.in_ok-advance.ensures.goes first only known old mid (c.loop.invariant.0 only known starts read)) in
+      flushed_on sys fixed.form only steps types first c.advance.new.self c.flush_much.new.self known r old mid (g.W.Write.contents c.flush_much.new.out) next c.in_ok-flush_much-in-Taken.ensures.whole,
   λ only rest text few names starts known begins.
       let fixed = c.args.fixed.now in
       let sys = system_of fixed.table.now.system.now in
       let before = c.loop.invariant.1 only rest text few names starts known begins in
-      let after = subst (λ (s : Step). GoesAfter sys fixed.form c.args.terms.steps c.step.new.self c.step.new.ahead (g.R.Read.remaining c.step.new.input) text (Ok s)) c.in-Taken.is
-      (c.in_ok-step.ensures.stands before.0 text few names before.1 before.2) in
-      (after.0, after.1, well_flushed sys fixed.form c.args.terms.steps c.step.new.self c.flush_much.new.self c.step.new.ahead after.0 text after.2),
+      let after = subst (λ (s : Step). GoesAfter sys fixed.form c.args.terms.steps c.advance.new.self c.advance.new.ahead (g.R.Read.remaining c.advance.new.input) text (Ok s)) c.in-Taken.is
+      (c.in_ok-advance.ensures.stands before.0 text few names before.1 before.2) in
+      (after.0, after.1, well_flushed sys fixed.form c.args.terms.steps c.advance.new.self c.flush_much.new.self c.advance.new.ahead after.0 text after.2),
 )
 
 pub returns-in-Ended-clause-fault : goal.returns-in-Ended-clause-fault
@@ -109,13 +108,13 @@ returns-in-Ended-clause-fault g c = λ only starts.
     let steps = c.args.terms.steps in
     let old = g.W.Write.contents c.args.out.now in
     let mid = g.W.Write.contents c.loop.out in
-    let r = unread c.step.new.ahead (g.R.Read.remaining c.step.new.input) in
+    let r = unread c.advance.new.ahead (g.R.Read.remaining c.advance.new.input) in
     let known = some_text (g.R.Read.remaining c.args.input.now) c.args.self.now.trail.reading.line.items in
-    let next = subst (λ (s : Step). HasAdvanced i.library.blocks first (system_of i) fixed.form only steps c.step.new.self known.0 r old mid s) c.in-Ended.is
-    (c.in_ok-step.ensures.goes first only known.0 old mid (c.loop.invariant.0 only known.0 starts known.1)) in
+    let next = subst (λ (s : Step). HasAdvanced i.library.blocks first (system_of i) fixed.form only steps c.advance.new.self known.0 r old mid s) c.in-Ended.is
+    (c.in_ok-advance.ensures.goes first only known.0 old mid (c.loop.invariant.0 only known.0 starts known.1)) in
     fails_joined c.and.result c.finish.result _ _ c.and.ensures
     (err_then c.finish.result _ _ c.finish.ensures.fault
-    (λ part. complete_part i fixed.form only steps first c.step.new.self c.in-Ended.field-0 known.0 r old mid next (g.W.Write.contents c.finish.new.out) part))
+    (λ part. complete_part i fixed.form only steps first c.advance.new.self c.in-Ended.field-0 known.0 r old mid next (g.W.Write.contents c.finish.new.out) part))
 
 pub returns-in-Ended-clause-whole : goal.returns-in-Ended-clause-whole
 returns-in-Ended-clause-whole g c = λ only known starts read.
@@ -126,14 +125,14 @@ returns-in-Ended-clause-whole g c = λ only known starts read.
     let old = g.W.Write.contents c.args.out.now in
     let mid = g.W.Write.contents c.loop.out in
     let new = g.W.Write.contents c.finish.new.out in
-    let r = unread c.step.new.ahead (g.R.Read.remaining c.step.new.input) in
-    let next = subst (λ (s : Step). HasAdvanced i.library.blocks first (system_of i) fixed.form only steps c.step.new.self known r old mid s) c.in-Ended.is
-    (c.in_ok-step.ensures.goes first only known old mid (c.loop.invariant.0 only known starts read)) in
+    let r = unread c.advance.new.ahead (g.R.Read.remaining c.advance.new.input) in
+    let next = subst (λ (s : Step). HasAdvanced i.library.blocks first (system_of i) fixed.form only steps c.advance.new.self known r old mid s) c.in-Ended.is
+    (c.in_ok-advance.ensures.goes first only known old mid (c.loop.invariant.0 only known starts read)) in
     on_joined c.and.result c.finish.result _ _ c.and.ensures
     (on_ok c.finish.result _ _ c.finish.ensures.finishes
     (λ over.
     shown_whole c.args.terms.cut (system_of i) only steps known old new
-    (complete_shown i fixed.form only steps first c.step.new.self c.in-Ended.field-0 known r old mid next new over)))
+    (complete_shown i fixed.form only steps first c.advance.new.self c.in-Ended.field-0 known r old mid next new over)))
 
 pub returns-in-Ended-clause-covered : goal.returns-in-Ended-clause-covered
 returns-in-Ended-clause-covered g c = λ only known starts read.
@@ -143,13 +142,13 @@ returns-in-Ended-clause-covered g c = λ only known starts read.
     let steps = c.args.terms.steps in
     let old = g.W.Write.contents c.args.out.now in
     let mid = g.W.Write.contents c.loop.out in
-    let r = unread c.step.new.ahead (g.R.Read.remaining c.step.new.input) in
-    let next = subst (λ (s : Step). HasAdvanced i.library.blocks first (system_of i) fixed.form only steps c.step.new.self known r old mid s) c.in-Ended.is
-    (c.in_ok-step.ensures.goes first only known old mid (c.loop.invariant.0 only known starts read)) in
+    let r = unread c.advance.new.ahead (g.R.Read.remaining c.advance.new.input) in
+    let next = subst (λ (s : Step). HasAdvanced i.library.blocks first (system_of i) fixed.form only steps c.advance.new.self known r old mid s) c.in-Ended.is
+    (c.in_ok-advance.ensures.goes first only known old mid (c.loop.invariant.0 only known starts read)) in
     ok_joined c.and.result c.finish.result _ _ _ c.and.ensures c.finish.ensures.finishes
     (λ finishes.
     subst (λ (m : Marks). IfSome known (λ text. IsCovered i only steps text first m)) (sym c.finish.ensures.marks)
-    (complete_covered i fixed.form only steps first c.step.new.self c.in-Ended.field-0 known r old mid next finishes.over))
+    (complete_covered i fixed.form only steps first c.advance.new.self c.in-Ended.field-0 known r old mid next finishes.over))
 
 pub returns-in-CutOff-clause-fault : goal.returns-in-CutOff-clause-fault
 returns-in-CutOff-clause-fault g c = λ only starts.
@@ -159,13 +158,13 @@ returns-in-CutOff-clause-fault g c = λ only starts.
     let steps = c.args.terms.steps in
     let old = g.W.Write.contents c.args.out.now in
     let mid = g.W.Write.contents c.loop.out in
-    let r = unread c.step.new.ahead (g.R.Read.remaining c.step.new.input) in
+    let r = unread c.advance.new.ahead (g.R.Read.remaining c.advance.new.input) in
     let known = some_text (g.R.Read.remaining c.args.input.now) c.args.self.now.trail.reading.line.items in
-    let next = subst (λ (s : Step). HasAdvanced i.library.blocks first (system_of i) fixed.form only steps c.step.new.self known.0 r old mid s) c.in-CutOff.is
-    (c.in_ok-step.ensures.goes first only known.0 old mid (c.loop.invariant.0 only known.0 starts known.1)) in
+    let next = subst (λ (s : Step). HasAdvanced i.library.blocks first (system_of i) fixed.form only steps c.advance.new.self known.0 r old mid s) c.in-CutOff.is
+    (c.in_ok-advance.ensures.goes first only known.0 old mid (c.loop.invariant.0 only known.0 starts known.1)) in
     fails_joined c.and-in-CutOff.result c.finish_cut.result _ _ c.and-in-CutOff.ensures
     (err_then c.finish_cut.result _ _ c.finish_cut.ensures.fault
-    (λ part. severed_part i fixed.form only steps first c.step.new.self known.0 old mid next (g.W.Write.contents c.finish_cut.new.out) part))
+    (λ part. severed_part i fixed.form only steps first c.advance.new.self known.0 old mid next (g.W.Write.contents c.finish_cut.new.out) part))
 
 pub returns-in-CutOff-clause-whole : goal.returns-in-CutOff-clause-whole
 returns-in-CutOff-clause-whole g c = λ only known starts read.
@@ -176,14 +175,14 @@ returns-in-CutOff-clause-whole g c = λ only known starts read.
     let old = g.W.Write.contents c.args.out.now in
     let mid = g.W.Write.contents c.loop.out in
     let new = g.W.Write.contents c.finish_cut.new.out in
-    let r = unread c.step.new.ahead (g.R.Read.remaining c.step.new.input) in
-    let next = subst (λ (s : Step). HasAdvanced i.library.blocks first (system_of i) fixed.form only steps c.step.new.self known r old mid s) c.in-CutOff.is
-    (c.in_ok-step.ensures.goes first only known old mid (c.loop.invariant.0 only known starts read)) in
+    let r = unread c.advance.new.ahead (g.R.Read.remaining c.advance.new.input) in
+    let next = subst (λ (s : Step). HasAdvanced i.library.blocks first (system_of i) fixed.form only steps c.advance.new.self known r old mid s) c.in-CutOff.is
+    (c.in_ok-advance.ensures.goes first only known old mid (c.loop.invariant.0 only known starts read)) in
     on_joined c.and-in-CutOff.result c.finish_cut.result _ _ c.and-in-CutOff.ensures
     (on_ok c.finish_cut.result _ _ c.finish_cut.ensures.finishes
     (λ finishes.
-    shown_cut c.args.terms.cut (system_of i) only steps known old new (c.in_ok-step.ensures.cut c.in-CutOff.is)
-    (severed_shown i fixed.form only steps first c.step.new.self known old mid next new finishes)))
+    shown_cut c.args.terms.cut (system_of i) only steps known old new (c.in_ok-advance.ensures.cut c.in-CutOff.is)
+    (severed_shown i fixed.form only steps first c.advance.new.self known old mid next new finishes)))
 
 pub returns-in-CutOff-clause-covered : goal.returns-in-CutOff-clause-covered
 returns-in-CutOff-clause-covered g c = λ only known starts read.
@@ -193,12 +192,12 @@ returns-in-CutOff-clause-covered g c = λ only known starts read.
     let steps = c.args.terms.steps in
     let old = g.W.Write.contents c.args.out.now in
     let mid = g.W.Write.contents c.loop.out in
-    let r = unread c.step.new.ahead (g.R.Read.remaining c.step.new.input) in
-    let next = subst (λ (s : Step). HasAdvanced i.library.blocks first (system_of i) fixed.form only steps c.step.new.self known r old mid s) c.in-CutOff.is
-    (c.in_ok-step.ensures.goes first only known old mid (c.loop.invariant.0 only known starts read)) in
-    let allowed = c.in_ok-step.ensures.cut c.in-CutOff.is in
+    let r = unread c.advance.new.ahead (g.R.Read.remaining c.advance.new.input) in
+    let next = subst (λ (s : Step). HasAdvanced i.library.blocks first (system_of i) fixed.form only steps c.advance.new.self known r old mid s) c.in-CutOff.is
+    (c.in_ok-advance.ensures.goes first only known old mid (c.loop.invariant.0 only known starts read)) in
+    let allowed = c.in_ok-advance.ensures.cut c.in-CutOff.is in
     let covered = subst (λ (m : Marks). IfSome known (λ text. IsCutCovered i only text first m)) (sym c.finish_cut.ensures.marks)
-    (severed_covered i fixed.form only steps first c.step.new.self known old mid next) in
+    (severed_covered i fixed.form only steps first c.advance.new.self known old mid next) in
     ok_joined c.and-in-CutOff.result c.finish_cut.result _ _ _ c.and-in-CutOff.ensures c.finish_cut.ensures.finishes (λ finishes. on_some known _ _ covered (λ text is. (allowed, is)))
 
 pub returns-clause-fault : goal.returns-clause-fault
@@ -209,14 +208,14 @@ returns-clause-fault g c = λ only starts.
     front_gone (system_of fixed.table.now.system.now) fixed.form only c.args.terms.steps c.loop.self covered.gone.takings known.0 (unread c.loop.ahead (g.R.Read.remaining c.loop.input))
     (g.W.Write.contents c.args.out.now) (g.W.Write.contents c.loop.out) covered.gone.gone
 
-pub returns-in_err-step-clause-refused : goal.returns-in_err-step-clause-refused
-returns-in_err-step-clause-refused g c = λ only rest text few names starts known begins.
+pub returns-in_err-advance-clause-refused : goal.returns-in_err-advance-clause-refused
+returns-in_err-advance-clause-refused g c = λ only rest text few names starts known begins.
     let fixed = c.args.fixed.now in
     let sys = system_of fixed.table.now.system.now in
     let before = c.loop.invariant.1 only rest text few names starts known begins in
     let q = err_from_is_err_and c.from_residual.result c.from_residual.ensures.1 in
     rw (q.1, q.2)
-    (refused_then c.in_err-step.field-0.0 (λ n. IsWrongLine sys c.args.terms.steps n text) (λ n. IsWrongAt sys c.args.terms.steps n text) (c.in_err-step.ensures.stands before.0 text few names before.1 before.2) (λ n wrong. inl wrong))
+    (refused_then c.in_err-advance.field-0.0 (λ n. IsWrongLine sys c.args.terms.steps n text) (λ n. IsWrongAt sys c.args.terms.steps n text) (c.in_err-advance.ensures.stands before.0 text few names before.1 before.2) (λ n wrong. inl wrong))
 
 pub returns-in_err-flush_much-in-Taken-clause-refused :
     goal.returns-in_err-flush_much-in-Taken-clause-refused
@@ -233,23 +232,23 @@ returns-in-Ended-clause-refused g c = λ only rest text few names starts known b
     let steps = c.args.terms.steps in
     let old = g.W.Write.contents c.args.out.now in
     let mid = g.W.Write.contents c.loop.out in
-    let r = unread c.step.new.ahead (g.R.Read.remaining c.step.new.input) in
+    let r = unread c.advance.new.ahead (g.R.Read.remaining c.advance.new.input) in
     let read = subst (λ (o : Option (List ℕ)). Consumes (Some text) o c.args.self.now.trail.reading.line.items) (sym known) begins.is in
-    let next = subst (λ (s : Step). HasAdvanced i.library.blocks first sys fixed.form only steps c.step.new.self (Some text) r old mid s) c.in-Ended.is
-    (c.in_ok-step.ensures.goes first only (Some text) old mid (c.loop.invariant.0 only (Some text) starts read)) in
+    let next = subst (λ (s : Step). HasAdvanced i.library.blocks first sys fixed.form only steps c.advance.new.self (Some text) r old mid s) c.in-Ended.is
+    (c.in_ok-advance.ensures.goes first only (Some text) old mid (c.loop.invariant.0 only (Some text) starts read)) in
     err_joined c.and.result c.finish.result _ _ c.and.ensures
-    (err_refused c.finish.result (λ n. (n ≡ c.step.new.self.trail.reading.number + 1) × IfSome r (λ rest. 0 < length rest)) (λ n. IsWrongAt sys steps n text) c.finish.ensures.refused
-    (λ n over. after_last i.library.blocks first sys fixed.form only steps c.step.new.self c.in-Ended.field-0 text r old mid n next over.0 over.1))
+    (err_refused c.finish.result (λ n. (n ≡ c.advance.new.self.trail.reading.number + 1) × IfSome r (λ rest. 0 < length rest)) (λ n. IsWrongAt sys steps n text) c.finish.ensures.refused
+    (λ n over. after_last i.library.blocks first sys fixed.form only steps c.advance.new.self c.in-Ended.field-0 text r old mid n next over.0 over.1))
 
 pub returns-in-CutOff-clause-refused : goal.returns-in-CutOff-clause-refused
 returns-in-CutOff-clause-refused g c = λ only rest text few names starts known begins.
     err_joined c.and-in-CutOff.result c.finish_cut.result _ _ c.and-in-CutOff.ensures (err_none c.finish_cut.result _ c.finish_cut.ensures.none)
 
-pub returns-in_err-step-clause-whole : goal.returns-in_err-step-clause-whole
-returns-in_err-step-clause-whole g c = λ _ _ _ _. ok_passed c.from_residual.result _ _ c.from_residual.ensures.1
+pub returns-in_err-advance-clause-whole : goal.returns-in_err-advance-clause-whole
+returns-in_err-advance-clause-whole g c = λ _ _ _ _. ok_passed c.from_residual.result _ _ c.from_residual.ensures.1
 
-pub returns-in_err-step-clause-covered : goal.returns-in_err-step-clause-covered
-returns-in_err-step-clause-covered g c = λ _ _ _ _. ok_passed c.from_residual.result _ _ c.from_residual.ensures.1
+pub returns-in_err-advance-clause-covered : goal.returns-in_err-advance-clause-covered
+returns-in_err-advance-clause-covered g c = λ _ _ _ _. ok_passed c.from_residual.result _ _ c.from_residual.ensures.1
 
 pub returns-in_err-flush_much-in-Taken-clause-whole : goal.returns-in_err-flush_much-in-Taken-clause-whole
 returns-in_err-flush_much-in-Taken-clause-whole g c = λ _ _ _ _. ok_passed c.from_residual-in_err-flush_much-in-Taken.result _ _ c.from_residual-in_err-flush_much-in-Taken.ensures.1

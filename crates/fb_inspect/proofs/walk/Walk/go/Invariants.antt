@@ -3,9 +3,9 @@ use Rattle.std.specs.Io.KnownBytes.{Consumes}
 use Rattle.fb_types.specs.Headline.{system_of}
 use Rattle.fb_types.specs.Names.{Name}
 use Rattle.fb_wave.specs.Named.{HasNames}
-use Rattle.fb_inspect.specs.Looks.{most}
-use Rattle.fb_inspect.specs.Standing.{BeginsText, IsLeft, StandsWell}
-use Rattle.fb_inspect.specs.Walking.{HasCovered, Starts, unread}
+use Rattle.fb_inspect.specs.walk.Looks.{most}
+use Rattle.fb_inspect.specs.walk.Standing.{BeginsText, IsLeft, StandsWell}
+use Rattle.fb_inspect.specs.walk.Walking.{HasCovered, Starts, unread}
 use Rattle.fb_inspect.proofs.walk.Walk.go.Given as goal
 
 -- the takings up to here were gone through, and the walk stands at the next line

@@ -4,11 +4,11 @@ use Rattle.fb_types.specs.Headline.{system_of}
 use Rattle.fb_types.specs.Numbers.{path_at}
 use Rattle.fb_trace.specs.declared.last.Outcome.{Outcome}
 use Rattle.fb_wave.specs.Lines.{IsLast, IsNoLast}
-use Rattle.fb_inspect.specs.declared.blocks.Chart.{Chart}
-use Rattle.fb_inspect.specs.declared.blocks.Remembered.{Remembered}
-use Rattle.fb_inspect.specs.declared.blocks.Remembered.TheVariants as kept
-use Rattle.fb_inspect.proofs.Changing.{no_chart}
-use Rattle.fb_inspect.proofs.Near.{basic_kept, far_end, far_mark, far_none, near_text, true_not}
+use Rattle.fb_inspect.specs.declared.walk.blocks.Chart.{Chart}
+use Rattle.fb_inspect.specs.declared.walk.blocks.Remembered.{Remembered}
+use Rattle.fb_inspect.specs.declared.walk.blocks.Remembered.TheVariants as kept
+use Rattle.fb_inspect.proofs.lemmas.dump.Changing.{no_chart}
+use Rattle.fb_inspect.proofs.lemmas.lines.NearStop.{basic_kept, far_end, far_mark, far_none, near_text, true_not}
 use Rattle.fb_inspect.proofs.walk.Walk.is_near.Goals as goal
 
 pub returns-in_default-clause-other : goal.returns-in_default-clause-other

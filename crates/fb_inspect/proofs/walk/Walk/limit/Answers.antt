@@ -1,6 +1,6 @@
 use Rattle.std.proofs.Common.{◌<◌, ℕ, refl, sym, subst}
-use Rattle.fb_inspect.proofs.Near.{limit_left, limit_more}
-use Rattle.fb_inspect.proofs.Placed.{item_is}
+use Rattle.fb_inspect.proofs.lemmas.lines.NearStop.{limit_left, limit_more}
+use Rattle.fb_inspect.proofs.lemmas.reactions.Placed.{item_is}
 use Rattle.fb_inspect.proofs.walk.Walk.limit.Goals as goal
 
 pub index_mut-requires : goal.index_mut-requires

@@ -1,8 +1,8 @@
 use Rattle.std.proofs.Common.{subst}
 use Rattle.fb_trace.specs.End.{ending_of}
 use Rattle.fb_trace.specs.declared.last.Outcome.{Outcome}
-use Rattle.fb_inspect.specs.Walking.{MayEnd}
-use Rattle.fb_inspect.proofs.Near.{keeps_of}
+use Rattle.fb_inspect.specs.walk.Walking.{MayEnd}
+use Rattle.fb_inspect.proofs.lemmas.lines.NearStop.{keeps_of}
 use Rattle.fb_inspect.proofs.walk.Walk.may_end.Goals as goal
 
 pub returns-then-has_used-clause-other : goal.returns-then-has_used-clause-other

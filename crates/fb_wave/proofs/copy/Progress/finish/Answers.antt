@@ -1,8 +1,8 @@
 use Rattle.std.proofs.Common.{inr, refl}
 use Rattle.fb_types.specs.Headline.{system_of}
-use Rattle.fb_wave.proofs.Copied.{unfinished_part}
-use Rattle.fb_wave.proofs.Handing.{ok_passed, on_passed}
-use Rattle.fb_wave.proofs.Unread.{read_end, read_refused_at, read_unfinished}
+use Rattle.fb_wave.proofs.lemmas.Copied.{unfinished_part}
+use Rattle.fb_wave.proofs.lemmas.Handing.{ok_passed, on_passed}
+use Rattle.fb_wave.proofs.lemmas.Unread.{read_end, read_refused_at, read_unfinished}
 use Rattle.fb_wave.proofs.copy.Progress.finish.Goals as goal
 
 pub returns-clause-whole : goal.returns-clause-whole

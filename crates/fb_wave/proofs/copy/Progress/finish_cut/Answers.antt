@@ -1,7 +1,7 @@
 use Rattle.std.proofs.Common.{refl}
 use Rattle.fb_wave.specs.Copying.{IsCutUnfinished}
-use Rattle.fb_wave.proofs.Severed.{unfinished_cut}
-use Rattle.fb_wave.proofs.Handing.{ok_passed, on_passed}
+use Rattle.fb_wave.proofs.lemmas.Severed.{unfinished_cut}
+use Rattle.fb_wave.proofs.lemmas.Handing.{ok_passed, on_passed}
 use Rattle.fb_wave.proofs.copy.Progress.finish_cut.Goals as goal
 
 pub returns-clause-whole : goal.returns-clause-whole

@@ -4,8 +4,8 @@ use Rattle.fb_types.specs.Headline.{system_of}
 use Rattle.fb_types.specs.declared.run.Line.{Line}
 use Rattle.fb_wave.specs.Copying.{RefusesLine}
 use Rattle.fb_wave.specs.Lines.{IsTextOf}
-use Rattle.fb_wave.proofs.Lining.{same_line}
-use Rattle.fb_wave.proofs.Handing.{ok_passed, on_passed}
+use Rattle.fb_wave.proofs.lemmas.Lining.{same_line}
+use Rattle.fb_wave.proofs.lemmas.Handing.{ok_passed, on_passed}
 use Rattle.fb_wave.proofs.copy.Progress.take.Goals as goal
 
 pub returns-clause-taken : goal.returns-clause-taken

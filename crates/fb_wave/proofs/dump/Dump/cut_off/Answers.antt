@@ -1,8 +1,8 @@
 use Rattle.fb_wave.specs.CutOff.{cut_comment}
 use Rattle.fb_wave.specs.Signals.{sizes_of}
 use Rattle.fb_wave.specs.LineSignals.{fires_of, has_signal, touches_of}
-use Rattle.fb_wave.proofs.Showing.{sets_cut}
-use Rattle.fb_wave.proofs.Handing.{on_put}
+use Rattle.fb_wave.proofs.lemmas.Showing.{sets_cut}
+use Rattle.fb_wave.proofs.lemmas.Handing.{on_put}
 use Rattle.fb_wave.proofs.dump.Dump.cut_off.Goals as goal
 
 pub returns : goal.returns

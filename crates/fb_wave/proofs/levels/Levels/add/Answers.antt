@@ -1,6 +1,6 @@
 use Rattle.std.proofs.Common.{◌≡◌, ℕ, ◌+◌, ◌-◌, refl, arith}
 use Rattle.fb_wave.specs.declared.levels.Levels as code
-use Rattle.fb_wave.proofs.Noting.{counted_as, one_more_signal}
+use Rattle.fb_wave.proofs.lemmas.Noting.{counted_as, one_more_signal}
 use Rattle.fb_wave.proofs.levels.Levels.add.Goals as goal
 
 pub loop-left-preserved : goal.loop-left-preserved

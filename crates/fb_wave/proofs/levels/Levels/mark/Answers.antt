@@ -1,6 +1,6 @@
 use Rattle.std.proofs.Common.{true, set, sym, ap, ◌∙◌}
 use Rattle.fb_wave.specs.declared.levels.Cell.{Cell}
-use Rattle.fb_wave.proofs.Noting.{marked_new, marked_old, within_more}
+use Rattle.fb_wave.proofs.lemmas.Noting.{marked_new, marked_old, within_more}
 use Rattle.fb_wave.proofs.levels.Levels.mark.Goals as goal
 
 pub returns-then-index-clause-levels : goal.returns-then-index-clause-levels

@@ -1,5 +1,5 @@
 use Rattle.std.proofs.Common.{ℕ, List, ◌++◌, sym, ap, ◌∙◌, append-nil, arith}
-use Rattle.fb_wave.proofs.Handing.{on_three}
+use Rattle.fb_wave.proofs.lemmas.Handing.{on_three}
 use Rattle.fb_wave.proofs.page.Page.flush_much.Goals as goal
 
 pub returns-clause-whole : goal.returns-clause-whole

@@ -3,8 +3,8 @@ use Rattle.std.specs.Prelude.{slice_get}
 use Rattle.std.proofs.lemmas.Option.{slice_get_read}
 use Rattle.fb_types.specs.Headline.{system_of}
 use Rattle.fb_wave.specs.Ports.{IsPortOf}
-use Rattle.fb_wave.proofs.Finding.{no_text_past, none_past, unended_port}
-use Rattle.fb_wave.proofs.Gluing.{port_named}
+use Rattle.fb_wave.proofs.lemmas.Finding.{no_text_past, none_past, unended_port}
+use Rattle.fb_wave.proofs.lemmas.Gluing.{port_named}
 use Rattle.fb_wave.proofs.table.PortTable.at.Goals as goal
 
 pub returns-clause-found : goal.returns-clause-found

@@ -2,8 +2,8 @@ use Rattle.std.proofs.Common.{ap, sym, ◌∙◌}
 use Rattle.fb_check_names.specs.Indexes.{index_in}
 use Rattle.fb_types.specs.Headline.{system_of}
 use Rattle.fb_types.specs.Names.{Name}
-use Rattle.fb_wave.proofs.Finding.{begins_three, front_is_port, port_placed, port_there}
-use Rattle.fb_wave.proofs.Handing.{none_then}
+use Rattle.fb_wave.proofs.lemmas.Finding.{begins_three, front_is_port, port_placed, port_there}
+use Rattle.fb_wave.proofs.lemmas.Handing.{none_then}
 use Rattle.fb_wave.proofs.table.PortTable.find.Goals as goal
 
 pub returns-in_err-length-clause-none : goal.returns-in_err-length-clause-none

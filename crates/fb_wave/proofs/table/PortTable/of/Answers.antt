@@ -7,7 +7,7 @@ use Rattle.fb_types.specs.Repeated.{Twice}
 use Rattle.fb_check_names.specs.Indexes.{IsIndex}
 use Rattle.fb_wave.specs.Ports.{IsPortOf, port_text}
 use Rattle.fb_wave.specs.declared.ports.Port.{Port}
-use Rattle.fb_wave.proofs.Alike.{texts_differ}
+use Rattle.fb_wave.proofs.lemmas.Alike.{texts_differ}
 use Rattle.fb_wave.proofs.table.PortTable.of.Goals as goal
 
 pub invariant_of-result : goal.invariant_of-result

@@ -1,4 +1,0 @@
-use Rattle.fb_inspect.proofs.ahead.keep_row.Goals as goal
-
-pub returns : goal.returns
-returns c = c.in_ok-push.ensures.items

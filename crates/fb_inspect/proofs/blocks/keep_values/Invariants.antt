@@ -1,6 +1,0 @@
-use Rattle.std.proofs.Common.{◌≡◌, map, take}
-use Rattle.fb_st.specs.Frames.{values_of}
-use Rattle.fb_inspect.proofs.blocks.keep_values.Given as goal
-
-abbrev pub invariant-loop-variable : goal.invariant-loop-variable
-invariant-loop-variable l = l.before.items ≡ map (values_of l.frame) (take l.variable-index l.variables)

@@ -1,0 +1,13 @@
+use Rattle.std.proofs.Common.{◌≡◌, ◌++◌, drop}
+use Rattle.fb_types.specs.Names.{Name}
+use Rattle.fb_st.specs.Frames.{values_of}
+use Rattle.fb_coverage.specs.Reports.{listed}
+use Rattle.fb_inspect.specs.walk.Looks.{Seen}
+use Rattle.fb_inspect.specs.dump.Inner.{internal_begun}
+use Rattle.fb_inspect.proofs.dump.before.put_values.Given as goal
+
+-- with what the rest adds, all is there
+abbrev pub invariant-loop-index : goal.invariant-loop-index
+invariant-loop-index l =
+    (s : Seen) → ((n : Name) → s.variables n ≡ values_of l.frame n)
+    → l.text.items ++ listed (internal_begun l.instance s) l.index (drop l.index l.variables) ≡ l.fn.text.items ++ listed (internal_begun l.instance s) 0 l.variables

@@ -1,0 +1,25 @@
+use Rattle.std.proofs.Common.{◌≡◌, ℕ, List, ◌++◌, codes, ap, ◌∙◌, append_assoc}
+use Rattle.fb_types.specs.declared.library.Variable.{Variable}
+use Rattle.fb_wave.specs.Scopes.{declares}
+use Rattle.fb_coverage.specs.Reports.{listed}
+use Rattle.fb_wave.proofs.lemmas.Handing.{on_ok}
+use Rattle.fb_inspect.specs.dump.Inner.{internal_declared, lost_code, state_code}
+use Rattle.fb_inspect.proofs.dump.inner.put_chart.Goals as goal
+
+regroup : (o a b d : List ℕ) → ((o ++ a) ++ b) ++ d ≡ o ++ ((a ++ b) ++ d)
+regroup o a b d = simp append_assoc
+
+pub returns : goal.returns
+returns c =
+    let i = c.args.instance in
+    let old = c.args.text.now.items in
+    let front : List ℕ = declares (codes "string 1") (state_code i) (codes "state") in
+    let inside : List ℕ = listed (internal_declared i) 0 c.args.block.now.internals in
+    let ends : List ℕ = declares (codes "event 1") (lost_code i) (codes "lost") in
+    on_ok c.put_lost_signal.result _ _ c.put_lost_signal.ensures
+    (λ e.
+    e
+    ∙ ap (λ (t : List ℕ). t ++ ends)
+    (c.in_ok-put_internals.ensures ∙ ap (λ (vs : List Variable). c.put_state_signal.new.text.items ++ listed (internal_declared i) 0 vs) c.as_slice.ensures
+    ∙ ap (λ (t : List ℕ). t ++ inside) c.in_ok-put_state_signal.ensures)
+    ∙ regroup old front inside ends)

@@ -1,6 +1,0 @@
-use Rattle.std.proofs.Common.{◌≡◌, ◌<◌, ℕ}
-use Rattle.fb_types.specs.Numbers.{event_at}
-use Rattle.fb_inspect.proofs.fault_names.event_of.Given as goal
-
-abbrev pub invariant-loop-event : goal.invariant-loop-event
-invariant-loop-event l = (e : ℕ) → e < l.event → l.name ≡ event_at l.events e → ⊥

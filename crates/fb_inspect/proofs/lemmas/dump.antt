@@ -1,0 +1,7 @@
+pub mod WithoutInside
+pub mod Changing
+pub mod Heading
+pub mod Growing
+pub mod Waved
+pub mod DumpSteps
+pub mod Ending

@@ -1,0 +1,322 @@
+-- How a dump ends, and what the writer got where it does not.
+use Rattle.std.proofs.Common.{◌≡◌, ◌<◌, ◌+◌, ℕ, true, List, [], ◌∷◌, ◌++◌, length, map, Option, Some, None, refl, sym, ◌∙◌, ap, subst, inl, inr, append_assoc, append-nil, arith}
+use Rattle.std.specs.Prelude.{IfSome}
+use Rattle.std.specs.Io.KnownBytes.{Appends, Consumes, IsAtEnd, prepend_known}
+use Rattle.std.proofs.KnownBytes.{Appends-nil, Appends-trans}
+use Rattle.std.proofs.lemmas.List.{map-append}
+use Rattle.std.proofs.lemmas.List.Elements.{All-nil}
+use Rattle.fb_types.specs.Numbers.{line_of}
+use Rattle.fb_types.specs.Simulation.{AtHorizon}
+use Rattle.fb_types.specs.States as model
+use Rattle.fb_types.specs.Systems.{System}
+use Rattle.fb_types.specs.Text.{lines_text, trace_text}
+use Rattle.fb_types.specs.declared.run.Form.{Form}
+use Rattle.fb_types.specs.declared.run.Line.{Line}
+use Rattle.fb_trace.specs.End.{ending_of}
+use Rattle.fb_trace.specs.declared.last.Outcome.{Outcome}
+use Rattle.fb_wave.specs.Copying.{IsFirstLine}
+use Rattle.fb_wave.specs.CutOff.{is_unended}
+use Rattle.fb_wave.specs.Dumps.{last_tick}
+use Rattle.fb_wave.specs.Lines.{IsLineOf}
+use Rattle.fb_inspect.proofs.lemmas.walk.Stepped.{none_ahead}
+use Rattle.fb_wave.specs.declared.truncation.Cut.{Cut}
+use Rattle.fb_wave.specs.declared.truncation.Cut.TheVariants as cut
+use Rattle.fb_wave.proofs.lemmas.Copied.{ends_after}
+use Rattle.fb_inspect.specs.Inspections.{all_lines}
+use Rattle.fb_inspect.specs.walk.Looks.{taking_lines}
+use Rattle.fb_wave.specs.Pages.{IsCutShort}
+use Rattle.fb_inspect.specs.Refusals.{IsWrongAt}
+use Rattle.fb_wave.specs.declared.page.Page.{Page}
+use Rattle.fb_wave.specs.declared.page.PageFault.{PageFault}
+use Rattle.fb_inspect.specs.declared.walk.reading.Reading.{Reading}
+use Rattle.fb_inspect.proofs.lemmas.lines.Severing.{cut_whole, on_some}
+use Rattle.fb_inspect.specs.dump.Dumping.{Shows, ShowsUntaken}
+use Rattle.fb_inspect.specs.dump.StateDumps.{HaveLines, Taken, cut_dump, lines_of, state_dump, takings_of}
+use Rattle.fb_inspect.specs.StateWaves.{IsCutStateWave, IsShownWith, IsStateWave, WritesFront}
+use Rattle.fb_inspect.specs.dump.Waving.{Begins, Finishes, FinishesCut, HasWaved, IsCut, IsWhole, SendsCutPart, SendsPart}
+use Rattle.fb_inspect.specs.declared.dump.state_wave.StateWave.{StateWave}
+use Rattle.fb_inspect.proofs.lemmas.dump.Growing.{shows_cut_front, shows_front, shows_untaken_none}
+
+-- ---- What is left after the last line
+
+pub some_left : (text : List ℕ) (o : Option (List ℕ)) → (length text ≡ 0 → ⊥) → IfSome (prepend_known text o) (λ rest. 0 < length rest)
+some_left text None some = tt
+some_left [] (Some xs) some = absurd (some refl)
+some_left (x ∷ text) (Some xs) some = omega arith
+
+pub more_left : (text : List ℕ) (o : Option (List ℕ)) → text ≡ [] → IfSome o (λ rest. 0 < length rest) → IfSome (prepend_known text o) (λ rest. 0 < length rest)
+more_left text o none more = subst (λ (p : Option (List ℕ)). IfSome p (λ rest. 0 < length rest)) (sym (none_ahead text o none)) more
+
+pub end_left : (text : List ℕ) (o : Option (List ℕ)) → text ≡ [] → IsAtEnd o → IsAtEnd (prepend_known text o)
+end_left text o none over = subst IsAtEnd (sym (none_ahead text o none)) over
+
+-- some text is that of a line and what is left after it
+pub some_text : (remaining : Option (List ℕ)) (line : List ℕ) → (known : Option (List ℕ)) × Consumes known remaining line
+some_text None line = (None, tt)
+some_text (Some rest) line = (Some (line ++ rest), refl)
+
+-- ---- What was sent of the end
+
+-- nothing
+pub none_sent : (sys : System) (end : Outcome) (x : StateWave) (old : Option (List ℕ)) → SendsPart sys end x old old
+none_sent sys end x old = record {
+  part = [];
+  got = Appends-nil old;
+  whole = λ xs sent shown.
+      let front = shows_front sys xs (sent ++ x.page.text.items) (ending_of end) x.dump shown in
+      let T : List ℕ = x.page.text.items in
+      (T ++ front.0, ap (λ (l : List ℕ). l ++ (T ++ front.0)) (append-nil sent) ∙ sym (append_assoc sent T front.0) ∙ front.1);
+}
+
+-- a part
+pub part_sent :
+    (sys : System) (end : Outcome) (x : StateWave) (page : Page) (old new : Option (List ℕ)) (fault : PageFault)
+    → ((xs : List Taken) (sent : List ℕ) → Shows sys xs (sent ++ x.page.text.items) x.dump → sent ++ page.text.items ≡ state_dump true sys xs (ending_of end)) → IsCutShort old new page fault
+    → SendsPart sys end x old new
+part_sent sys end x page old new fault whole short = record {
+  part = short.sent;
+  got = short.got;
+  whole = λ xs sent shown. (
+    short.missing,
+    append_assoc sent short.sent short.missing ∙ ap (λ (l : List ℕ). sent ++ l) (sym short.parts) ∙ whole xs sent shown,
+  );
+}
+
+-- nothing is a part of the dump of a trace that is cut off
+pub none_cut_sent : (sys : System) (x : StateWave) (old : Option (List ℕ)) → SendsCutPart sys x old old
+none_cut_sent sys x old = record {
+  part = [];
+  got = Appends-nil old;
+  whole = λ xs us sent shown.
+      let T : List ℕ = x.page.text.items in
+      let front = shows_cut_front sys xs us (sent ++ T) x.dump shown in
+      (T ++ front.0, ap (λ (l : List ℕ). l ++ (T ++ front.0)) (append-nil sent) ∙ sym (append_assoc sent T front.0) ∙ front.1);
+}
+
+pub part_cut_sent :
+    (sys : System) (x : StateWave) (page : Page) (old new : Option (List ℕ)) (fault : PageFault)
+    → ((xs : List Taken) (us : List Line) (sent : List ℕ) → ShowsUntaken sys xs us (sent ++ x.page.text.items) x.dump → sent ++ page.text.items ≡ cut_dump true sys xs us) → IsCutShort old new page fault
+    → SendsCutPart sys x old new
+part_cut_sent sys x page old new fault whole short = record {
+  part = short.sent;
+  got = short.got;
+  whole = λ xs us sent shown. (
+    short.missing,
+    append_assoc sent short.sent short.missing ∙ ap (λ (l : List ℕ). sent ++ l) (sym short.parts) ∙ whole xs us sent shown,
+  );
+}
+
+-- ---- Fronts
+
+module _ (sys : System) (form : Form) (steps : ℕ) where
+  -- what the writer got is the front of the dump of the takings that were gone through
+  pub front_waved : (x : StateWave) (input remaining old new : Option (List ℕ)) → HasWaved sys form steps x input remaining old new → WritesFront sys steps old new
+  front_waved x input remaining old new have =
+      let waved = have.waved in
+      let T : List ℕ = x.page.text.items in
+      let front = shows_front sys have.takings (waved.sent ++ T) (AtHorizon 0) x.dump waved.shown in
+      record {
+        takings = have.takings;
+        are = waved.are;
+        lines = waved.lines;
+        taken = waved.taken;
+        dump = state_dump true sys have.takings (AtHorizon 0);
+        is = inl (AtHorizon 0, refl);
+        bytes = waved.sent;
+        rest = T ++ front.0;
+        parts = sym (append_assoc waved.sent T front.0) ∙ front.1;
+        got = waved.got;
+      }
+
+  -- the same, where a part of what waits was sent after it
+  pub front_flush :
+      (x : StateWave) (input remaining old mid new : Option (List ℕ)) (fault : PageFault) → HasWaved sys form steps x input remaining old mid → IsCutShort mid new x.page fault
+      → WritesFront sys steps old new
+  front_flush x input remaining old mid new fault have short =
+      let waved = have.waved in
+      let front = shows_front sys have.takings (waved.sent ++ x.page.text.items) (AtHorizon 0) x.dump waved.shown in
+      record {
+        takings = have.takings;
+        are = waved.are;
+        lines = waved.lines;
+        taken = waved.taken;
+        dump = state_dump true sys have.takings (AtHorizon 0);
+        is = inl (AtHorizon 0, refl);
+        bytes = waved.sent ++ short.sent;
+        rest = short.missing ++ front.0;
+        parts = sym (append_assoc (waved.sent ++ short.sent) short.missing front.0)
+            ∙ ap (λ (l : List ℕ). l ++ front.0) (append_assoc waved.sent short.sent short.missing ∙ ap (λ (l : List ℕ). waved.sent ++ l) (sym short.parts))
+            ∙ front.1;
+        got = Appends-trans old mid new waved.sent short.sent waved.got short.got;
+      }
+
+  -- ---- The whole dump
+
+  module _ (x : StateWave) (end : Outcome) (input remaining old mid : Option (List ℕ)) (whole : IsWhole sys form steps x end input remaining old mid) where
+    -- all was written
+    pub whole_done : (new : Option (List ℕ)) → Finishes sys end x remaining mid new → IfSome input (λ text. IsStateWave sys steps text old new)
+    whole_done new finished = by input remaining whole.waved.read finished.over
+      where
+        L : List ℕ
+        L = lines_text form sys (map (line_of sys) (lines_of whole.takings))
+
+        shown : (text : List ℕ) → text ≡ trace_text form sys (map (line_of sys) (lines_of whole.takings)) (ending_of end) → IsStateWave sys steps text old new
+        shown text is = record {
+          form = form;
+          takings = whole.takings;
+          end = ending_of end;
+          trace = record {
+            lines = whole.waved.are;
+            last = whole.last.can;
+            ends = ends_after (last_tick 0 (lines_of whole.takings)) (last_tick 0 (lines_of whole.takings)) end refl whole.after;
+            is = is;
+          };
+          lines = whole.waved.lines;
+          ends = whole.ends;
+          got = subst (Appends old new) (finished.whole whole.takings whole.waved.sent whole.waved.shown)
+              (Appends-trans old mid new whole.waved.sent finished.rest whole.waved.got finished.got);
+        }
+
+        by : (a b : Option (List ℕ)) → Consumes a b (L ++ whole.line) → IsAtEnd b → IfSome a (λ text. IsStateWave sys steps text old new)
+        by None b read over = tt
+        by (Some t) None read over = absurd read
+        by (Some t) (Some u) read over =
+            shown t (read ∙ ap (λ (v : List ℕ). (L ++ whole.line) ++ v) over ∙ append-nil (L ++ whole.line) ∙ ap (λ (v : List ℕ). L ++ v) whole.last.is)
+
+    -- a part was written
+    pub whole_part : (new : Option (List ℕ)) → SendsPart sys end x mid new → WritesFront sys steps old new
+    whole_part new part =
+        let waved = whole.waved in
+        let all = part.whole whole.takings waved.sent waved.shown in
+        record {
+          takings = whole.takings;
+          are = waved.are;
+          lines = waved.lines;
+          taken = waved.taken;
+          dump = state_dump true sys whole.takings (ending_of end);
+          is = inl (ending_of end, refl);
+          bytes = waved.sent ++ part.part;
+          rest = all.0;
+          parts = all.1;
+          got = Appends-trans old mid new waved.sent part.part waved.got part.got;
+        }
+
+  -- ---- The dump of a trace that is cut off
+
+  module _ (x : StateWave) (input old mid : Option (List ℕ)) (off : IsCut sys form x input old mid) where
+    -- all was written
+    pub cut_done : (new : Option (List ℕ)) → FinishesCut sys x mid new → IfSome input (λ text. IsCutStateWave sys text old new)
+    cut_done new finished =
+        on_some input _ _ off.rest
+        (λ text after. record {
+          form = form;
+          takings = off.takings;
+          untaken = off.untaken;
+          trace = record { lines = off.are; part = after.part; unended = after.unended; is = after.is };
+          of_one = off.of_one;
+          lines = off.lines;
+          chain = off.chain;
+          goes_on = off.goes_on;
+          got = subst (Appends old new) (finished.whole off.takings off.untaken off.sent off.shown) (Appends-trans old mid new off.sent finished.rest off.got finished.got);
+        })
+
+    -- a part was written
+    pub cut_part : (new : Option (List ℕ)) → SendsCutPart sys x mid new → WritesFront sys steps old new
+    cut_part new part =
+        let all = part.whole off.takings off.untaken off.sent off.shown in
+        record {
+          takings = off.takings;
+          are = off.before;
+          lines = off.lines;
+          taken = inl off.chain;
+          dump = cut_dump true sys off.takings off.untaken;
+          is = inr (off.untaken, off.of_one, refl);
+          bytes = off.sent ++ part.part;
+          rest = all.0;
+          parts = all.1;
+          got = Appends-trans old mid new off.sent part.part off.got part.got;
+        }
+
+  -- a trace is cut off before its first line ends
+  pub cut_none :
+      (x : StateWave) (reading : Reading) (line : List ℕ) (input remaining old : Option (List ℕ)) → Begins sys reading x → Consumes input remaining line → IsFirstLine line input
+      → is_unended line ≡ true → IsCut sys form x input old old
+  cut_none x reading line input remaining old begins read one short = record {
+    takings = [];
+    goes_on = tt;
+    chain = tt;
+    lines = tt;
+    before = record { each = All-nil (IsLineOf sys); rise = tt };
+    untaken = [];
+    of_one = tt;
+    are = record { each = All-nil (IsLineOf sys); rise = tt };
+    rest = cut_whole input remaining line read one short;
+    numbers = begins.numbers;
+    sent = [];
+    got = Appends-nil old;
+    shown = shows_untaken_none sys [] x.page.text.items x.dump begins.shown;
+  }
+
+-- The writer got nothing, since nothing was gone through.
+pub front_none : (sys : System) (steps : ℕ) (old : Option (List ℕ)) → WritesFront sys steps old old
+front_none sys steps old = record {
+  takings = [];
+  are = record { each = All-nil (IsLineOf sys); rise = tt };
+  lines = tt;
+  taken = inl tt;
+  dump = state_dump true sys [] (AtHorizon 0);
+  is = inl (AtHorizon 0, refl);
+  bytes = [];
+  rest = state_dump true sys [] (AtHorizon 0);
+  parts = refl;
+  got = Appends-nil old;
+}
+
+-- where a trace may be cut off or not
+pub shown_whole :
+    (may : Cut) (sys : System) (steps : ℕ) (input old new : Option (List ℕ)) → IfSome input (λ text. IsStateWave sys steps text old new) → IfSome input (λ text. IsShownWith may sys steps text old new)
+shown_whole cut.Refused sys steps input old new shown = shown
+shown_whole cut.Allowed sys steps input old new shown = on_some input _ _ shown (λ text is. inl is)
+
+pub shown_cut :
+    (may : Cut) (sys : System) (steps : ℕ) (input old new : Option (List ℕ)) → may ≡ cut.Allowed → IfSome input (λ text. IsCutStateWave sys text old new)
+    → IfSome input (λ text. IsShownWith may sys steps text old new)
+shown_cut cut.Refused sys steps input old new same shown = absurd (cc)
+shown_cut cut.Allowed sys steps input old new same shown = on_some input _ _ shown (λ text is. inr is)
+
+-- the lines are those of the takings
+lines_are_of : (sys : System) (xs : List Taken) → HaveLines sys xs → map (line_of sys) (lines_of xs) ≡ all_lines (takings_of xs)
+lines_are_of sys [] have = refl
+lines_are_of sys (x ∷ xs) have =
+    map-append (line_of sys) x.lines (lines_of xs) ∙ ap (λ (ls : List model.Line). ls ++ map (line_of sys) (lines_of xs)) have.0 ∙ ap (λ (ls : List model.Line). taking_lines x.taking ++ ls) (lines_are_of sys xs have.1)
+
+-- more than the last line is left
+pub after_last :
+    (sys : System) (form : Form) (steps : ℕ) (x : StateWave) (end : Outcome) (text : List ℕ) (remaining old mid : Option (List ℕ)) (n : ℕ) → IsWhole sys form steps x end (Some text) remaining old mid
+    → n ≡ x.walk.trail.reading.number + 1 → IfSome remaining (λ rest. 0 < length rest) → IsWrongAt sys steps n text
+after_last sys form steps x end text None old mid n whole number more = absurd whole.waved.read
+after_last sys form steps x end text (Some rest) old mid n whole number more =
+    let counted = whole.waved.numbered in
+    let ls = lines_of whole.takings in
+    inr
+    (record {
+      front = lines_text form sys (map (line_of sys) ls) ++ whole.line;
+      accepted = record {
+        form = form;
+        lines = ls;
+        end = ending_of end;
+        trace = record {
+          lines = whole.waved.are;
+          last = whole.last.can;
+          ends = ends_after (last_tick 0 ls) (last_tick 0 ls) end refl whole.after;
+          is = ap (λ (u : List ℕ). lines_text form sys (map (line_of sys) ls) ++ u) whole.last.is;
+        };
+        takings = takings_of whole.takings;
+        lines_are = lines_are_of sys whole.takings whole.waved.lines;
+        ends = whole.ends;
+      };
+      numbered = omega (arith, number, counted);
+      rest = rest;
+      more = more;
+      is = whole.waved.read;
+    })

@@ -1,0 +1,17 @@
+pub mod Moving
+pub mod Emitted
+pub mod Severing
+pub mod Gathered
+pub mod OneLine
+pub mod LinesOfSystem
+pub mod PlainKeys
+pub mod Aligned
+pub mod LastLines
+pub mod OnePort
+pub mod Judged
+pub mod OneEmission
+pub mod Fronting
+pub mod OneEnd
+pub mod AheadOf
+pub mod Judging
+pub mod NearStop

@@ -1,0 +1,131 @@
+-- The next line of a walk: an event, an end that may not come there, or none.
+use Rattle.std.proofs.Common.{◌≡◌, ℕ, Bool, true, false, List, [], ◌∷◌, ◌++◌, map, refl, sym, ap, subst, ◌∙◌, inl, inr, append-nil}
+use Rattle.std.specs.Io.BufRead.{take_through}
+use Rattle.std.proofs.lemmas.List.Elements.{All-nil}
+use Rattle.fb_types.specs.Numbers.{line_of}
+use Rattle.fb_types.specs.Simulation.{AtStop}
+use Rattle.fb_types.specs.States as model
+use Rattle.fb_types.specs.Systems.{System}
+use Rattle.fb_types.specs.Text.{last_line, lines_text}
+use Rattle.fb_types.specs.declared.run.Form.{Form}
+use Rattle.fb_types.specs.declared.run.Line.{Line}
+use Rattle.fb_types.specs.declared.run.StopMark.{StopMark}
+use Rattle.fb_types.specs.declared.value.Reason.{Reason}
+use Rattle.fb_types.specs.declared.value.Reason.TheVariants.{Divide, Range, Steps}
+use Rattle.fb_trace.specs.End.{ending_of}
+use Rattle.fb_trace.specs.declared.last.Outcome.{Outcome}
+use Rattle.fb_trace.specs.declared.last.Outcome.TheVariants.{End, Stop}
+use Rattle.fb_wave.specs.Dumps.{last_tick}
+use Rattle.fb_wave.specs.Lines.{IsEndOf, IsLineOf, IsTextOf}
+use Rattle.fb_wave.specs.Named.{HasNames}
+use Rattle.fb_inspect.specs.Inspections.{all_lines, last_look}
+use Rattle.fb_inspect.specs.walk.Lines.{IsNext}
+use Rattle.fb_inspect.specs.walk.Looks.{Taking, opening_look}
+use Rattle.fb_inspect.specs.Refusals.{IsWrongAfter, IsWrongLine, OfRefusal}
+use Rattle.fb_inspect.specs.walk.Standing.{AreApart, AreNumbered, IsStepsStop, Stands, StandsAt, StandsOn, StandsWell, Watches}
+use Rattle.fb_inspect.specs.walk.Walking.{MayEnd}
+use Rattle.fb_inspect.specs.declared.walk.ahead.Ahead.{Ahead}
+use Rattle.fb_inspect.specs.declared.error.InspectError.{InspectError}
+use Rattle.fb_inspect.specs.declared.error.InspectError.TheVariants.{Refused}
+use Rattle.fb_inspect.specs.declared.walk.reading.Next.{Next}
+use Rattle.fb_inspect.specs.declared.walk.reading.Next.TheVariants as next
+use Rattle.fb_inspect.specs.declared.walk.Walk.{Walk}
+use Rattle.fb_inspect.proofs.lemmas.results.Errors.{of_number}
+use Rattle.fb_inspect.proofs.lemmas.walk.Watched.{too_many_wrong}
+
+-- the next line is that of an event
+pub event_at :
+    (sys : System) (form : Form) (takings : List Taking) (w : Walk) (bad : Next) (ahead last rest text : List ℕ) → HasNames sys → AreNumbered sys → AreApart sys → StandsOn sys form takings w ahead last rest text
+    → (line : Line) → next.Event line ≡ w.trail.reading.next → StandsAt sys form takings (record w { trail = record (w.trail) { reading = record (w.trail.reading) { next = bad } } }) ahead last line rest text
+event_at sys form takings w bad ahead last rest text names numbers apart on line is =
+    let here = subst (λ (n : Next). IsNext sys form (last_tick 0 on.stands.lines) w.trail.reading.line.items n) (sym is) on.next in
+    record {
+      stands = on.stands;
+      names = names;
+      numbers = numbers;
+      apart = apart;
+      is = here.0;
+      later = here.1;
+      plain = here.2;
+    }
+
+-- ---- The line itself is wrong
+
+module _ (sys : System) (form : Form) (steps : ℕ) (w : Walk) (a : Ahead) (rest text : List ℕ) (names : HasNames sys) (well : StandsWell sys form steps w a rest text) where
+  abbrev stands : Stands sys form well.takings w a.text.items a.last.items rest text
+  stands = well.on.stands
+
+  formed_at :
+      (before : List Line) → text ≡ lines_text form sys (map (line_of sys) before) ++ (w.trail.reading.line.items ++ (a.text.items ++ rest)) → before ≡ []
+      → (f : Form) (m : Line) → IsTextOf sys f m w.trail.reading.line.items → f ≡ form
+  formed_at [] is empty f m at = stands.formed f m (record { line = at.line; is = ap (take_through 10) is ∙ sym stands.alone ∙ at.is })
+  formed_at (l ∷ ls) is empty f m at = absurd (cc)
+
+  wrong_line : IsWrongAfter sys form steps (last_tick 0 stands.lines) well.takings [] w.trail.reading.line.items text → IsWrongLine sys steps w.trail.reading.number text
+  wrong_line wrong = record {
+    form = form;
+    before = stands.lines;
+    line = w.trail.reading.line.items;
+    at = record {
+      are = stands.are;
+      numbered = stands.numbered;
+      rest = a.text.items ++ rest;
+      is = stands.is;
+      alone = stands.alone;
+      formed = formed_at stands.lines stands.is;
+    };
+    takings = well.takings;
+    begun = [];
+    taken = record { chain = stands.chain; goes_on = stands.goes_on; lines_are = stands.lines_are ∙ sym (append-nil (all_lines well.takings)) };
+    wrong = wrong;
+  }
+
+  -- the next line is none of the system
+  pub bad_line : next.Bad ≡ w.trail.reading.next → IsWrongLine sys steps w.trail.reading.number text
+  bad_line is =
+      let none = (subst (λ (n : Next). IsNext sys form (last_tick 0 stands.lines) w.trail.reading.line.items n) (sym is) well.on.next) names in
+      wrong_line (inl (inl (refl, record { no_taking = λ m at plain later x first taking. none.0 m at later; no_end = none.1 })))
+
+  -- the next line is an end that may not come there
+  module _ (end : Outcome) (is : next.End end ≡ w.trail.reading.next) (other : IsEndOf sys (ending_of end) → MayEnd sys steps (last_look (opening_look sys) well.takings) (ending_of end) → ⊥) where
+    here : IsNext sys form (last_tick 0 stands.lines) w.trail.reading.line.items (next.End end)
+    here = subst (λ (n : Next). IsNext sys form (last_tick 0 stands.lines) w.trail.reading.line.items n) (sym is) well.on.next
+
+    nothing : IsWrongLine sys steps w.trail.reading.number text
+    nothing =
+        wrong_line (inl (inr (inl (refl, record { end = ending_of end; can = here.0.can; is = here.0.is; other = other here.0.can; near = stands.near }))))
+
+    -- the run ends for its steps, but a resource had used too many before
+    many : (m : StopMark) → end ≡ Stop m → m.reason ≡ Steps → (k : ℕ) (event : List ℕ) → Watches sys form steps well.takings k event true → IsWrongLine sys steps k text
+    many m end_is reason k event watched =
+        let stop_is : ending_of end ≡ AtStop m.tick m.resource Steps = ap ending_of end_is ∙ ap (AtStop m.tick m.resource) reason in
+        let line_is : w.trail.reading.line.items ≡ last_line sys (AtStop m.tick m.resource Steps) = here.0.is ∙ ap (last_line sys) stop_is in
+        too_many_wrong sys form names steps well.takings w a.text.items a.last.items rest text stands k event watched [] (All-nil (IsLineOf sys)) m.tick m.resource (subst (IsEndOf sys) stop_is here.0.can) (a.text.items ++ rest)
+        (stands.is
+        ∙ ap (λ (ls : List model.Line). lines_text form sys ls ++ (w.trail.reading.line.items ++ (a.text.items ++ rest))) (stands.lines_are ∙ sym (append-nil (all_lines well.takings)))
+        ∙ ap (λ (u : List ℕ). lines_text form sys (all_lines well.takings ++ []) ++ (u ++ (a.text.items ++ rest))) line_is)
+        (λ front z e none t kind same. stands.near front z e t kind (line_is ∙ same))
+
+pub wrong_end :
+    (sys : System) (form : Form) (steps : ℕ) (w : Walk) (a : Ahead) (rest text : List ℕ) → HasNames sys → (well : StandsWell sys form steps w a rest text) → (end : Outcome) → next.End end ≡ w.trail.reading.next
+    → (IsEndOf sys (ending_of end) → MayEnd sys steps (last_look (opening_look sys) well.takings) (ending_of end) → ⊥) → (error : InspectError)
+    → (a.watched.is_excess ≡ true → IsStepsStop end → error ≡ Refused a.watched.number) → (a.watched.is_excess ≡ false → error ≡ Refused w.trail.reading.number)
+    → ((IsStepsStop end → ⊥) → error ≡ Refused w.trail.reading.number) → OfRefusal (λ n. IsWrongLine sys steps n text) error
+wrong_end sys form steps w a rest text names well end is other error back none apart = by a.watched.is_excess refl well.watched end refl
+  where
+    not : IsEndOf sys (ending_of end) → MayEnd sys steps (last_look (opening_look sys) well.takings) (ending_of end) → ⊥
+    not can = other can
+
+    plain : error ≡ Refused w.trail.reading.number → OfRefusal (λ n. IsWrongLine sys steps n text) error
+    plain e = of_number (λ n. IsWrongLine sys steps n text) error w.trail.reading.number e (nothing sys form steps w a rest text names well end is not)
+
+    for_steps : (m : StopMark) → end ≡ Stop m → a.watched.is_excess ≡ true → Watches sys form steps well.takings a.watched.number a.watched.text.items true → (r : Reason) → m.reason ≡ r → OfRefusal (λ n. IsWrongLine sys steps n text) error
+    for_steps m e set watched Steps reason =
+        of_number (λ n. IsWrongLine sys steps n text) error a.watched.number (back set (subst IsStepsStop (sym e) reason)) (many sys form steps w a rest text names well end is not m e reason a.watched.number a.watched.text.items watched)
+    for_steps m e set watched Divide reason = plain (apart (λ s. let h : m.reason ≡ Steps = subst IsStepsStop e s in let both : Steps ≡ Divide = sym h ∙ reason in cc))
+    for_steps m e set watched Range reason = plain (apart (λ s. let h : m.reason ≡ Steps = subst IsStepsStop e s in let both : Steps ≡ Range = sym h ∙ reason in cc))
+
+    by : (x : Bool) → a.watched.is_excess ≡ x → Watches sys form steps well.takings a.watched.number a.watched.text.items x → (o : Outcome) → end ≡ o → OfRefusal (λ n. IsWrongLine sys steps n text) error
+    by false set watched o e = plain (none set)
+    by true set watched (End h) e = plain (apart (λ s. subst IsStepsStop e s))
+    by true set watched (Stop m) e = for_steps m e set watched m.reason refl

@@ -1,0 +1,4 @@
+pub mod Refusing
+pub mod Joined
+pub mod Refused
+pub mod Errors

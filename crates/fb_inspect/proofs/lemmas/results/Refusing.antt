@@ -1,0 +1,11 @@
+-- What is said of a refusal where the text may be known.
+use Rattle.std.proofs.Common.{◌≡◌, ℕ, List, Option, Some, Result, Ok, Err}
+use Rattle.std.specs.Prelude.{IfErr, IfSome}
+use Rattle.fb_inspect.specs.Refusals.{OfRefusal}
+use Rattle.fb_inspect.specs.declared.error.InspectError.{InspectError}
+use Rattle.fb_inspect.proofs.lemmas.results.Errors.{of_known}
+
+pub err_known :
+    {A : Type 0} (r : Result A InspectError) (o : Option (List ℕ)) (P : ℕ → List ℕ → Type 0) → ((text : List ℕ) → o ≡ Some text → IfErr r (OfRefusal (λ n. P n text))) → IfErr r (OfRefusal (λ n. IfSome o (P n)))
+err_known (Ok x) o P f = tt
+err_known (Err e) o P f = of_known o P e f

@@ -1,0 +1,15 @@
+pub mod MoreSteps
+pub mod Reacted
+pub mod Waiting
+pub mod Followed
+pub mod RunContinues
+pub mod BeginsSo
+pub mod Numbered
+pub mod RunGiven
+pub mod RunRises
+pub mod RunAccepted
+pub mod ShownRows
+pub mod Splits
+pub mod Rightly
+pub mod Wrongs
+pub mod NoRun

@@ -1,0 +1,12 @@
+pub mod Walked
+pub mod WalkedTakings
+pub mod Stepped
+pub mod OneStep
+pub mod Ended
+pub mod Opened
+pub mod WithinPaths
+pub mod FailedTakings
+pub mod StandsAfter
+pub mod Watched
+pub mod StepsStop
+pub mod UpToRefusal

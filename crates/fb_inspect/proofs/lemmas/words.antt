@@ -1,0 +1,5 @@
+pub mod ThreeWords
+pub mod LastMark
+pub mod PortWords
+pub mod BoundValues
+pub mod NamesApart

@@ -1,5 +1,0 @@
-use Rattle.fb_wave.proofs.Handing.{on_put}
-use Rattle.fb_inspect.proofs.notes.put_cut.Goals as goal
-
-pub returns : goal.returns
-returns c = on_put c.extend_from_slice.result _ _ _ _ c.extend_from_slice.ensures.items (λ e. e)

@@ -1,5 +1,0 @@
-use Rattle.std.proofs.Common.{refl}
-use Rattle.fb_inspect.proofs.reading.Reading.refusal.Goals as goal
-
-pub returns : goal.returns
-returns c = refl

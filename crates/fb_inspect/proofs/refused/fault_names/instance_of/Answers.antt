@@ -1,0 +1,13 @@
+use Rattle.std.proofs.Common.{below_more, sym, ◌∙◌, arith}
+use Rattle.std.proofs.lemmas.Bool.{both_ways}
+use Rattle.std.proofs.lemmas.Bool.Decides.{Decides-eqb}
+use Rattle.std.proofs.lemmas.Slice.Eq.{slice_eq-Decides}
+use Rattle.fb_inspect.proofs.refused.fault_names.instance_of.Goals as goal
+
+pub loop-instance-preserved : goal.loop-instance-preserved
+loop-instance-preserved c =
+    below_more _ _ c.loop-instance.invariant
+    (λ same. both_ways _ c.if-eq.false ((slice_eq-Decides Decides-eqb c.path.result.now c.args.path.now c.eq.result c.eq.ensures).1 (c.path.ensures ∙ sym same)))
+
+pub returns-clause-none : goal.returns-clause-none
+returns-clause-none c = λ i within. c.loop-instance.invariant i (omega (arith, within, c.count-instance-end.ensures))

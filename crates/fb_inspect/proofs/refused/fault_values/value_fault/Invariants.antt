@@ -1,0 +1,7 @@
+use Rattle.std.proofs.Common.{List}
+use Rattle.fb_types.specs.declared.value.Value.{Value}
+use Rattle.fb_wave.proofs.lemmas.Valued.{AreSoFar}
+use Rattle.fb_inspect.proofs.refused.fault_values.value_fault.Given as goal
+
+abbrev pub invariant-loop-place : goal.invariant-loop-place
+invariant-loop-place l = (values : List Value) × AreSoFar l.variables l.indexes l.text l.place values l.rest

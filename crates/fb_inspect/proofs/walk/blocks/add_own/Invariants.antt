@@ -1,0 +1,6 @@
+use Rattle.std.proofs.Common.{◌≡◌, ◌++◌, take}
+use Rattle.fb_types.specs.Blocks.{variable_names}
+use Rattle.fb_inspect.proofs.walk.blocks.add_own.Given as goal
+
+abbrev pub invariant-loop-index : goal.invariant-loop-index
+invariant-loop-index l = l.own.items ≡ l.fn.own.items ++ variable_names (take l.index l.variables)

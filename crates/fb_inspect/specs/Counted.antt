@@ -1,7 +1,0 @@
--- The steps that a resource has left, as the program keeps them (this project's own).
-use Rattle.fb_inspect.specs.Looks.{Left}
-use Rattle.fb_inspect.specs.declared.steps.TickSteps.{TickSteps}
-
--- what the program's count says
-abbrev pub left_of : TickSteps → Left
-left_of s = record { tick = s.tick; left = s.meter.left; least = s.least }

@@ -1,0 +1,15 @@
+pub mod Lines
+pub mod SameLines
+pub mod Notes
+pub mod Chains
+pub mod Looks
+pub mod Counted
+pub mod RunTakings
+pub mod RunLines
+pub mod Moves
+pub mod Charting
+pub mod Timing
+pub mod Walking
+pub mod Stepping
+pub mod Standing
+pub mod OfWalk

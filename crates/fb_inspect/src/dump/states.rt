@@ -1,0 +1,138 @@
+//! The dump of a trace with the inside of basic blocks.
+
+ghost use Rattle.std.specs.Prelude.{◌≡◌, ◌≤◌, ℕ, List, Option, Some, IfErr, IfOk, IfSome, OnErr, OnOk, false};
+ghost use Rattle.std.specs.Io.KnownBytes.{Consumes};
+ghost use Rattle.fb_wave.specs.Copying.{IsFirstLine};
+ghost use Rattle.fb_wave.specs.OfSystem.{HasNames};
+ghost use Rattle.fb_inspect.specs.walk.Looks.{most};
+ghost use Rattle.fb_inspect.specs.Refusals.{OfRefusal};
+ghost use Rattle.fb_inspect.specs.OfSystem.{BeginsWave, IsShownWith, IsWrongAt, WritesFront};
+ghost use Rattle.fb_inspect.specs.walk.OfWalk as of_walk;
+ghost use Rattle.fb_inspect.specs.walk.OfWalk.{BeginsText, IsNext};
+
+use crate::covering::none_shown;
+use crate::dump::before::Before;
+use crate::dump::port_dump::PortDump;
+use crate::dump::state_wave::StateWave;
+use crate::error::InspectError;
+use crate::insides::{begun, first_reading, is_severed, lend};
+use crate::walk::ahead::Ahead;
+use crate::walk::reading::Reading;
+use crate::walk::trail::Fixed;
+use crate::{RefusedLine, Terms};
+use fb_coverage::Marks;
+use fb_system::System;
+use fb_types::MOST_STEPS;
+use fb_wave::{Page, PortTable, SystemPorts};
+use std::alloc::{AllocError, Global};
+use std::io::{BufRead, Write};
+
+/// A dump that was begun, with the first line of a trace.
+fn begin(alloc: Global, system: &System, reading: Reading) -> Result<StateWave, AllocError>
+    ensures { IfOk result (BeginsWave system.now reading) }
+{
+    let only = none_shown(alloc)?;
+    let mut walk = begun(alloc, system, only.as_slice(), Marks::none(alloc), reading)?;
+    walk.trail.passed.are_kept = true;
+    let mut page = Page::new(alloc);
+    let blocks = walk.blocks.as_slice();
+    let dump = PortDump::begin(alloc, system, blocks, &mut page.text)?;
+    Ok(StateWave {
+        walk,
+        dump,
+        page,
+        before: Before::new(alloc),
+    })
+}
+
+/// Goes through a trace from its first line, with which the dump was begun: to its end, or as far as it goes if it is
+/// cut off.
+fn go_through<R: BufRead, W: Write>(
+    wave: &mut StateWave,
+    fixed: &Fixed<'_, '_>,
+    terms: Terms,
+    refused: &mut RefusedLine,
+    input: &mut R,
+    out: &mut W,
+) -> Result<(), InspectError>
+    requires begins { BeginsWave fixed.now.table.now.system.now wave.old.walk.trail.reading wave.old }
+    requires next { IsNext fixed.now 0 wave.old.walk.trail.reading }
+    requires first { wave.old.walk.trail.reading.number ≡ 1 }
+    requires limit { fixed.now.limit ≡ most }
+    ensures whole { (known : Option (List ℕ))
+        → Consumes known (R.remaining input.old) wave.old.walk.trail.reading.line.items → IsFirstLine wave.old.walk.trail.reading.line.items known
+        → OnOk result (IfSome known (λ text. of_walk.IsShownWith terms.cut fixed.now terms.steps text (W.contents out.old) (W.contents out.new))) }
+    ensures fault { (known : Option (List ℕ))
+        → Consumes known (R.remaining input.old) wave.old.walk.trail.reading.line.items → IsFirstLine wave.old.walk.trail.reading.line.items known
+        → OnErr result (of_walk.WritesFront fixed.now terms.steps (W.contents out.old) (W.contents out.new)) }
+    ensures refused { (rest text : List ℕ)
+        → terms.steps ≤ most → of_walk.HasNames fixed.now → R.remaining input.old ≡ Some rest → BeginsText fixed.now wave.old.walk.trail.reading.line.items false rest text
+        → IfErr result (OfRefusal (λ n. of_walk.IsWrongAt fixed.now terms.steps n text)) }
+{
+    if is_severed(terms.cut, wave.walk.trail.reading.line.as_slice()) {
+        return wave.finish_cut(out);
+    }
+    let mut ahead = Ahead::new(fixed.alloc, fixed.table)?;
+    let gone = wave.go(fixed, terms, &mut ahead, input, out);
+    lend(fixed.alloc, fixed.form, &mut wave.walk.trail, refused);
+    gone
+}
+
+/// Reads a trace of the system of a table, and writes its dump with the inside of basic blocks.
+fn write_with<R: BufRead, W: Write>(
+    alloc: Global,
+    table: &PortTable<'_>,
+    terms: Terms,
+    refused: &mut RefusedLine,
+    input: &mut R,
+    out: &mut W,
+) -> Result<(), InspectError>
+    ensures whole { OnOk result (IfSome (R.remaining input.old) (λ text. IsShownWith terms.cut table.now.system.now terms.steps text (W.contents out.old) (W.contents out.new))) }
+    ensures fault { OnErr result (WritesFront table.now.system.now terms.steps (W.contents out.old) (W.contents out.new)) }
+    ensures refused { HasNames table.now.system.now → terms.steps ≤ most
+        → IfErr result (OfRefusal (λ n. IfSome (R.remaining input.old) (IsWrongAt table.now.system.now terms.steps n))) }
+{
+    let (form, reading) = first_reading(alloc, table, input)?;
+    let mut wave = begin(alloc, table.system, reading)?;
+    let fixed = Fixed {
+        alloc,
+        table,
+        form,
+        limit: MOST_STEPS,
+    };
+    go_through(&mut wave, &fixed, terms, refused, input, out)
+}
+
+/// Reads a trace of the system, in either form, and writes its value change dump with the inside of basic blocks. The
+/// scope of each has, after its ports, its state by name, its internal variables, and the events that it lost.
+///
+/// A time of the dump is a tick, in milliseconds. In a tick each signal of a port changes once, at most. What changes
+/// inside a block comes where its taking is, so a state changes as often as takings change it. All memory is that of
+/// the blocks and the signals, of the lines that an event causes, and of a page.
+///
+/// If a trace ends where a resource has used up its steps, the walk uses the limit of the terms, otherwise the greatest
+/// that a run may have. The dump of a trace that is cut off ends in a comment that says so, if the terms allow it.
+/// Before that, lines that may be only a part of what an event causes are shown at ports alone.
+///
+/// # Errors
+/// As those of `crate::inspect`: the line is lent at which the trace is refused. What was written then is the beginning
+/// of a dump of the takings before the fault.
+pub fn write_states<R: BufRead, W: Write>(
+    alloc: Global,
+    system: &System,
+    terms: Terms,
+    refused: &mut RefusedLine,
+    input: &mut R,
+    out: &mut W,
+) -> Result<(), InspectError>
+    ensures whole { OnOk result (IfSome (R.remaining input.old) (λ text. IsShownWith terms.cut system.now terms.steps text (W.contents out.old) (W.contents out.new))) }
+    ensures fault { OnErr result (WritesFront system.now terms.steps (W.contents out.old) (W.contents out.new)) }
+    ensures refused { HasNames system.now → terms.steps ≤ most
+        → IfErr result (OfRefusal (λ n. IfSome (R.remaining input.old) (IsWrongAt system.now terms.steps n))) }
+{
+    let ports = SystemPorts::of(alloc, system)?;
+    let Some(table) = PortTable::of(alloc, &ports)? else {
+        return Err(InspectError::Names);
+    };
+    write_with(alloc, &table, terms, refused, input, out)
+}

@@ -1,0 +1,228 @@
+//! Lines that are read ahead.
+
+ghost use Rattle.std.specs.Prelude.{◌≡◌, ◌∷◌, ◌++◌, ◌||◌, [], IfErr, IfNone, IfOk, IfSome, IsTrue, List, OnOk, true, false};
+ghost use Rattle.fb_types.specs.declared.run.Line as run;
+ghost use Rattle.fb_inspect.specs.Refusals.{IsNoRefusal};
+ghost use Rattle.fb_inspect.specs.walk.Standing.{IsLeft};
+ghost use Rattle.fb_inspect.specs.walk.Walking.{IsOwnRow, IsReadOn, unread};
+ghost use Rattle.fb_inspect.specs.walk.OfWalk.{AreAhead, AreCutOff, AreGathered, HasNames, IsTextOf, MayBeAhead};
+
+use crate::error::InspectError;
+use crate::insides::is_severed;
+use crate::walk::reading::{Next, Reading, judged};
+use crate::walk::trail::Fixed;
+use fb_types::Line;
+use fb_wave::{Cut, Guess, PortTable, next_line};
+use std::alloc::{AllocError, Global};
+use std::io::BufRead;
+use std::mem;
+
+/// The lines after that of an event: those of emissions of its block in its tick, and the line after them. They are read
+/// before the event is taken, since that last line decides whether the trace ends with it.
+pub struct Ahead {
+    /// The lines that the walk has not passed yet.
+    pub text: Vec<u8>,
+    /// Those of emissions that were read last, as they were read.
+    pub rows: Vec<Line>,
+    /// The last line that was read.
+    pub last: Vec<u8>,
+    guess: Guess,
+    /// The event that is taken, or the first one after which its resource had used too many steps.
+    watched: EventLine,
+}
+
+impl Drop for Ahead {
+    fn drop(self) {
+        let Ahead {
+            text: _,
+            rows: _,
+            last: _,
+            guess: _,
+            watched: _,
+        } = self;
+    }
+}
+
+/// The line of an event.
+#[derive(Drop)]
+struct EventLine {
+    text: Vec<u8>,
+    number: u64,
+    /// The tick of the line before it.
+    tick: u64,
+    /// Whether its resource had used too many steps after it.
+    is_excess: bool,
+}
+
+/// Whether a line is one of an emission of the block of another line, in its tick.
+fn is_own(line: &Line, first: &Line) -> bool
+    ensures own { IsTrue result → IsOwnRow line.now first.now }
+    ensures other { result ≡ false → IsOwnRow line.now first.now → ⊥ }
+{
+    !line.taken && line.instance == first.instance && line.key.tick == first.key.tick
+}
+
+/// The line that was read, if it is one of an emission of the block of another line, in its tick.
+fn own_row(next: Next, first: &Line) -> Option<Line>
+    ensures own { IfSome result (λ line. (next ≡ Next.Event line) × IsOwnRow line first.now) }
+    ensures none { IfNone result ((line : run.Line) → next ≡ Next.Event line → IsOwnRow line first.now → ⊥) }
+{
+    let Next::Event(line) = next else {
+        return None;
+    };
+    if !is_own(&line, first) {
+        return None;
+    }
+    Some(line)
+}
+
+fn keep_row(rows: &mut Vec<Line>, row: Line) -> Result<(), AllocError>
+    ensures { OnOk result (rows.new.items ≡ rows.old.items ++ row ∷ []) }
+{
+    rows.push(row)?;
+    Ok(())
+}
+
+impl Ahead {
+    /// Nothing was read ahead yet.
+    ///
+    /// # Errors
+    /// When memory runs out.
+    pub fn new(alloc: Global, table: &PortTable<'_>) -> Result<Ahead, AllocError>
+        ensures empty { IfOk result (λ ahead. ahead.text.items ≡ []) }
+        ensures watched { IfOk result (λ ahead. ahead.watched.is_excess ≡ false) }
+    {
+        Ok(Ahead {
+            text: Vec::new(alloc),
+            rows: Vec::new(alloc),
+            last: Vec::new(alloc),
+            guess: Guess::new(alloc, table)?,
+            watched: EventLine {
+                text: Vec::new(alloc),
+                number: 0,
+                tick: 0,
+                is_excess: false,
+            },
+        })
+    }
+
+    /// Keeps the next line, that of an event, until the next one is kept. The first one after which too many steps were
+    /// used stays.
+    pub(crate) fn watch(&mut self, reading: &Reading) -> Result<(), AllocError>
+        ensures text { self.new.text ≡ self.old.text }
+        ensures rows { self.new.rows ≡ self.old.rows }
+        ensures last { self.new.last ≡ self.old.last }
+        ensures kept { self.old.watched.is_excess ≡ true → self.new.watched ≡ self.old.watched }
+        ensures watched { OnOk result (self.old.watched.is_excess ≡ false
+            → (self.new.watched.is_excess ≡ false) × (self.new.watched.number ≡ reading.now.number) × (self.new.watched.text.items ≡ reading.now.line.items)) }
+    {
+        let watched = &mut self.watched;
+        if watched.is_excess {
+            return Ok(());
+        }
+        watched.number = reading.number;
+        watched.tick = reading.tick;
+        watched.text.clear();
+        watched.text.extend_from_slice(reading.line.as_slice())
+    }
+
+    /// Notes whether the resource of the event that is kept had used too many steps after it.
+    pub(crate) fn note(&mut self, is_excess: bool)
+        ensures text { self.new.text ≡ self.old.text }
+        ensures rows { self.new.rows ≡ self.old.rows }
+        ensures last { self.new.last ≡ self.old.last }
+        ensures watched { self.new.watched ≡ record self.old.watched { is_excess = self.old.watched.is_excess || is_excess } }
+    {
+        self.watched.is_excess = self.watched.is_excess || is_excess;
+    }
+
+    /// Goes back to the first event after which its resource had used too many steps. Answers `false` where there is
+    /// none.
+    pub(crate) fn go_back(&mut self, reading: &mut Reading) -> bool
+        ensures excess { result ≡ self.old.watched.is_excess }
+        ensures back { IsTrue result → reading.new.number ≡ self.old.watched.number }
+        ensures none { result ≡ false → reading.new ≡ reading.old }
+    {
+        if !self.watched.is_excess {
+            return false;
+        }
+        mem::swap(&mut reading.line, &mut self.watched.text);
+        reading.number = self.watched.number;
+        reading.tick = self.watched.tick;
+        true
+    }
+
+    /// Reads the lines after that of an event. The last of them is not added to the text.
+    fn gather<R: BufRead>(
+        &mut self,
+        fixed: &Fixed<'_, '_>,
+        first: &Line,
+        input: &mut R,
+    ) -> Result<(), InspectError>
+        ensures gathered { OnOk result (AreGathered fixed.now first.now self.new.rows.items self.new.text.items self.new.last.items (R.remaining input.old) (R.remaining input.new)) }
+        ensures watched { OnOk result (self.new.watched ≡ self.old.watched) }
+        ensures other { HasNames fixed.now → OnOk result ((m : run.Line) → IsTextOf fixed.now m self.new.last.items → IsOwnRow m first.now → ⊥) }
+        ensures fault { IfErr result IsNoRefusal }
+    {
+        self.text.clear();
+        self.rows.clear();
+        for _ in 0..u64::MAX {
+            next_line(input, &mut self.last)?;
+            let line = self.last.as_slice();
+            let tick = first.key.tick;
+            let next = judged(
+                fixed.alloc,
+                fixed.table,
+                &mut self.guess,
+                fixed.form,
+                tick,
+                line,
+            )?;
+            let Some(row) = own_row(next, first) else {
+                return Ok(());
+            };
+            self.text.extend_from_slice(line)?;
+            keep_row(&mut self.rows, row)?;
+        }
+        Err(InspectError::Read)
+    }
+
+    /// Reads the lines after that of an event, if the walk has passed all lines that were read ahead. Answers whether
+    /// the trace is cut off in them, if it may be: then the part of a line is not added to the text.
+    pub(crate) fn look<R: BufRead>(
+        &mut self,
+        fixed: &Fixed<'_, '_>,
+        cut: Cut,
+        first: &Line,
+        input: &mut R,
+    ) -> Result<bool, InspectError>
+        ensures whole { IfOk result (λ is_cut. is_cut ≡ false → IsReadOn (unread self.old (R.remaining input.old)) (unread self.new (R.remaining input.new))) }
+        ensures watched { OnOk result (self.new.watched ≡ self.old.watched) }
+        ensures ahead { HasNames fixed.now → IfOk result (λ is_cut. is_cut ≡ false
+            → IfSome (R.remaining input.old) (λ before. MayBeAhead fixed.now first.now self.old.text.items self.old.last.items before
+            → IsLeft (R.remaining input.new) (λ rest. (self.old.text.items ++ before ≡ self.new.text.items ++ rest)
+            × ((rows : List run.Line) × AreAhead fixed.now first.now rows self.new.text.items self.new.last.items rest)))) }
+        ensures fault { IfErr result IsNoRefusal }
+        ensures cut { IfOk result (λ is_cut. is_cut ≡ true → (cut ≡ Cut.Allowed) × (self.old.text.items ≡ []) × AreCutOff fixed.now first.now self.new.rows.items self.new.text.items (R.remaining input.old)) }
+    {
+        if !self.text.is_empty() {
+            return Ok(false);
+        }
+        self.gather(fixed, first, input)?;
+        if is_severed(cut, self.last.as_slice()) {
+            return Ok(true);
+        }
+        self.text.extend_from_slice(self.last.as_slice())?;
+        Ok(false)
+    }
+
+    /// Keeps the rest of the text, which the walk has not passed.
+    pub(crate) fn keep(&mut self, rest: Vec<u8>) -> Result<(), AllocError>
+        ensures text { OnOk result (self.new.text.items ≡ rest.items) }
+        ensures last { self.new.last ≡ self.old.last }
+        ensures watched { self.new.watched ≡ self.old.watched }
+    {
+        self.text.clear();
+        self.text.extend_from_slice(rest.as_slice())
+    }
+}
