@@ -15,5 +15,4 @@ pub mod graph;
 mod network;
 mod resource;
 
-pub use fb_text::type_words;
 pub use graph::draw;

@@ -6,9 +6,9 @@ use fb_check::types::{
     Typing, internals_of, port_type, value_kind_of, value_kind_of_type, variable_type,
 };
 use fb_check_names::{Misfit, Misjoin, Site, StatementPart, Variables};
-use fb_draw::type_words;
 use fb_read_positions::headings::{basic_at, network_at};
 use fb_read_positions::{BlockTypes, Text};
+use fb_text::type_words;
 use fb_types::{
     BasicType, BlockType, Expr, Instance, Name, Network, PortName, Ports, Stmt, Ty, Value,
     ValueKind, instance_named,
