@@ -91,7 +91,7 @@ def test_block_types_in_files_of_their_own(tmp_path):
 def test_workers_and_steps_are_passed_on(tmp_path, conveyor):
     assert example_in(EXAMPLES / "conveyor").run(workers=4) == conveyor
     ring = application(tmp_path, RING)
-    with pytest.raises(fbsim.CommandLineFault, match="65 is not in 1..=64"):
+    with pytest.raises(fbsim.InputFault, match="65 is not in 1..=64"):
         ring.run(horizon=5, workers=65)
     for steps in (3, 5):
         trace = ring.run(horizon=5, steps=steps, stop=True)
@@ -196,7 +196,7 @@ def script(folder, text):
     ("echo 'out of memory' >&2; exit 4", fbsim.OutOfMemory, "out of memory"),
     ("echo 'write fault after 64 bytes' >&2; exit 3", fbsim.WriteFault, "write fault after 64 bytes"),
     ("echo 'file fault' >&2; exit 3", fbsim.FileFault, "a file can't be read"),
-    ("echo 'error' >&2; exit 5", fbsim.CommandLineFault, "error"),
+    ("echo 'error' >&2; exit 5", fbsim.InputFault, "error"),
     ("echo 'checked' >&2; exit 124", fbsim.ProgramFault, "status 124: checked"),
     ("kill -9 $$", fbsim.ProgramFault, "signal 9"),
     ("exit 2", fbsim.Refused, "refused"),
@@ -260,15 +260,15 @@ def test_a_stream_has_the_lines_of_the_run(tmp_path):
     stream = cell.stream(STIMULI, horizon=6)
     assert [str(it) for it in stream] == WORKED.splitlines()[:-1]
     assert (stream.end, stream.stop) == (6, None)
-    with pytest.raises(fbsim.Fault, match="read once"):
-        iter(stream)
+    with pytest.raises(fbsim.InputFault, match="read once"):
+        list(stream)
     keyed = cell.stream(STIMULI, horizon=6, keys=True)
     assert [str(it) for it in keyed] == KEYED.splitlines()[:-1] and keyed.end == 6
 
 
 def test_a_stream_raises_faults_and_stops(tmp_path):
     ring = application(tmp_path, RING)
-    with pytest.raises(fbsim.CommandLineFault):
+    with pytest.raises(fbsim.InputFault):
         list(ring.stream(horizon=0))
     lines = iter(ring.stream(horizon=5, steps=3))
     assert [str(next(lines)) for _ in range(5)][-1] == "0 MAIN < M.EO"

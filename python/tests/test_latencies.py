@@ -41,14 +41,14 @@ def test_next_pairs_each_with_the_next_after_it(tmp_path):
 def test_a_name_pairs_equal_values(tmp_path):
     found = pairs(trace_of(tmp_path, "1 > 1", "2 > 2", "3 > 1", "5 < 2", "6 < 1", "9 < 1", "9 < 7"), "number")
     assert (list(found.ticks), found.waiting) == ([3, 5, 6], 0)
-    with pytest.raises(fbsim.PairingFault, match='"1 MAIN > X.GO NUMBER=1" has no SERIAL'):
+    with pytest.raises(fbsim.InputFault, match='"1 MAIN > X.GO NUMBER=1" has no SERIAL'):
         pairs(trace_of(tmp_path, "1 > 1"), "SERIAL")
 
 
 def test_a_second_line_before_its_first_is_a_fault(tmp_path):
     trace = trace_of(tmp_path, "1 < 1", "2 > 1", "3 < 1")
     for pair in ("queue", "NUMBER"):
-        with pytest.raises(fbsim.PairingFault, match='X.DONE NUMBER=1" comes before "2 MAIN > X.GO NUMBER=1"'):
+        with pytest.raises(fbsim.InputFault, match='X.DONE NUMBER=1" comes before "2 MAIN > X.GO NUMBER=1"'):
             pairs(trace, pair)
 
 

@@ -141,7 +141,7 @@ def test_a_scenario_whose_file_is_missing_is_a_failure(room):
     room.change("fbsim.toml", 'stim = "stimuli.csv"', 'stim = "stimulus.csv"')
     result = room.run()
     result.assert_outcomes(passed=5, failed=3)
-    result.stdout.fnmatch_lines(["file fault: stimuli */stimulus.csv no file of this name can be read"])
+    result.stdout.fnmatch_lines(["file fault: stimuli */stimulus.csv: no file of this name can be read"])
 
 
 def test_a_broken_sequence_is_a_failure_of_its_step(room):
@@ -161,13 +161,14 @@ def test_a_broken_sequence_is_a_failure_of_its_step(room):
     ('horizon = 800', 'horizon = "800"', "*fbsim.toml: horizon is not a number"),
     ('horizon = 800', 'horizon = true', "*fbsim.toml: horizon is not a number"),
     ('horizon = 800', 'types = "lib.iec"', "*fbsim.toml: types is not a list of texts"),
-    ('[["CU", "CUO Q=FALSE CV=1"], ["wait 500"], ', '["CU", ', "*fbsim.toml: sequence 2: steps is not lists*"),
+    ('[["CU", "CUO Q=FALSE CV=1"], ["wait 500"], ', '["CU", ',
+     "*fbsim.toml: sequence 2: steps is not a list of lists of texts"),
     ('horizon = 50', 'status = 7', "*fbsim.toml: scenario 2: status is not 0 *"),
     ('name = "no parcel"', 'name = "two parcels"', "*fbsim.toml: there are two with the name two parcels"),
     ('decl = "conveyor.iec"\n', '', "*fbsim.toml: there is no decl"),
     ('decl = "conveyor.iec"\n', 'decl = \n', "*fbsim.toml: Invalid value*"),
-    ('rules = "some.rules"', 'rules = "no.rules"', "file fault: rules */no.rules no file of this name can be read"),
-    ('decl = "conveyor.iec"', 'decl = "convey.iec"', "file fault: declaration */convey.iec no file*"),
+    ('rules = "some.rules"', 'rules = "no.rules"', "file fault: rules */no.rules: no file of this name can be read"),
+    ('decl = "conveyor.iec"', 'decl = "convey.iec"', "file fault: declaration */convey.iec: no file*"),
 ])
 def test_a_file_that_is_wrong_is_an_error_that_names_it(room, old, new, fault):
     room.change("fbsim.toml", old, new)

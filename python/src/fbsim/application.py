@@ -7,22 +7,24 @@ import io
 import os
 import subprocess
 import tempfile
+import weakref
 from collections.abc import Iterable, Iterator, Mapping, Sequence
 from dataclasses import dataclass
-from typing import IO, Any, TypeGuard
+from typing import TYPE_CHECKING
 
-from fbsim.faults import Fault, Stop, Stopped, fault_of
+from fbsim.faults import InputFault, Stop, Stopped, fault_of
 from fbsim.program import call, find_program
-from fbsim.trace import Line, Lines, TemporaryTrace, Trace, Value, ending, lines_of
+from fbsim.texts import constant
+from fbsim.trace import Line, Lines, Trace, Value, ending, lines_of
+
+if TYPE_CHECKING:
+    from concurrent.futures import Executor
+
+    from fbsim.sweep import Sweep
 
 FileName = str | os.PathLike[str]
 Row = tuple[int, str] | tuple[int, str, Mapping[str, Value]]
 Stimuli = FileName | Iterable[Row] | None
-
-
-def written(value: Value) -> str:
-    """Returns a value as stimuli have it."""
-    return ("FALSE", "TRUE")[value] if isinstance(value, bool) else str(int(value))
 
 
 def stimuli_text(rows: Iterable[Row]) -> str:
@@ -31,14 +33,15 @@ def stimuli_text(rows: Iterable[Row]) -> str:
     table = csv.writer(text, lineterminator="\n")
     table.writerow(["tick", "event", "values"])
     for tick, event, *values in rows:
-        words = (f"{name}={written(it)}" for given in values for name, it in given.items())
+        words = (f"{name}={constant(it)}" for given in values for name, it in given.items())
         table.writerow([tick, event, " ".join(words)])
     return text.getvalue()
 
 
-def is_file(stimuli: Stimuli) -> TypeGuard[FileName]:
-    """Whether stimuli are the name of a file."""
-    return isinstance(stimuli, (str, os.PathLike))
+def remove_own(path: str, owner: int) -> None:
+    """Removes a temporary file, but not in a process that was forked from the one that made it."""
+    if os.getpid() == owner and os.path.exists(path):
+        os.remove(path)
 
 
 @dataclass(frozen=True)
@@ -57,13 +60,13 @@ class Application:
             words += ["--types", os.fspath(it)]
         return words if self.deploy is None else [*words, "--deploy", os.fspath(self.deploy)]
 
-    def call_words(self, command: str, stimuli: Stimuli, options: Mapping[str, int | None]) -> tuple[list[str], bytes]:
+    def call_words(self, command: str, stimuli: Stimuli, options: Mapping[str, int | None]) -> tuple[list[str], str]:
         """Returns the words of a call and its standard input, which has stimuli that are given as rows."""
-        words, given = [command, *self.words, "--why"], b""
-        if is_file(stimuli):
+        words, given = [command, *self.words, "--why"], ""
+        if isinstance(stimuli, (str, os.PathLike)):
             words += ["--stim", os.fspath(stimuli)]
         elif stimuli is not None:
-            words, given = [*words, "--stim", "-"], stimuli_text(stimuli).encode()  # type: ignore[arg-type]
+            words, given = [*words, "--stim", "-"], stimuli_text(stimuli)
         for option, number in options.items():
             words += [] if number is None else [f"--{option}", str(number)]
         return words, given
@@ -84,12 +87,12 @@ class Application:
         options = {"horizon": horizon, "steps": steps, "workers": workers, "trace": 2 if keys else None}
         words, given = self.call_words("run", stimuli, options)
         number, path = tempfile.mkstemp(prefix="fbsim-", suffix=".trace")
-        trace = TemporaryTrace(path, self)
+        trace = Trace(path, self)
+        weakref.finalize(trace, remove_own, path, os.getpid())
         with open(number, "wb") as to:
             made = call(words, given, to, statuses=(0, 1))
-        trace.where_stopped = made.said.rstrip()
-        if made.status == 1 and not stop:
-            assert trace.stop is not None
+        trace.where_stopped = made.stderr.rstrip()
+        if trace.stop and not stop:
             raise Stopped(trace.stop, trace)
         return trace
 
@@ -104,11 +107,26 @@ class Application:
         options = {"horizon": horizon, "steps": steps, "workers": workers, "trace": 2 if keys else None}
         return Stream(*self.call_words("run", stimuli, options), stop)
 
+    def sweep(
+        self, parameters: Mapping[str, Iterable[object]], stimuli: Stimuli = None, *, horizon: int,
+        steps: int | None = None, rules: FileName | None = None, latencies: Mapping[str, tuple[str, ...]] = {},
+        executor: Executor | None = None, sample: int | None = None, seed: int = 0
+    ) -> Sweep:
+        """Runs a variant of the application for each combination of values, and judges its trace.
+
+        Parameters are `link.A->B` (a latency, a table of latencies, or `jitter`), `INSTANCE.PARAMETER`,
+        `stimuli[3].tick`, `stimuli[3].VARIABLE`, `horizon` and `steps`. With `sample`, only so many combinations are
+        run, drawn with the seed. Any executor runs them: by default, processes of this machine.
+        """
+        from fbsim.sweep import sweep
+
+        return sweep(self, parameters, stimuli, horizon, steps, rules, latencies, executor, sample, seed)
+
 
 class Stream(Lines):
     """The lines of a run, read from its pipe while it runs. `end` and `stop` are known when all have been read."""
 
-    def __init__(self, words: Sequence[str], given: bytes, may_stop: bool) -> None:
+    def __init__(self, words: Sequence[str], given: str, may_stop: bool) -> None:
         self.words, self.given, self.may_stop = words, given, may_stop
         self.end: int | None = None
         self.stop: Stop | None = None
@@ -116,38 +134,26 @@ class Stream(Lines):
 
     def __iter__(self) -> Iterator[Line]:
         if self.was_read:
-            raise Fault("the lines of a stream are read once: use run, whose trace is read any number of times")
+            raise InputFault("the lines of a stream are read once: use run, whose trace is read any number of times")
         self.was_read = True
-        return self.read()
-
-    def read(self) -> Iterator[Line]:
-        """Starts the run, and reads its lines. The run is ended if nobody reads on."""
         with tempfile.TemporaryFile() as given, tempfile.TemporaryFile() as said:
-            given.write(self.given)
+            given.write(self.given.encode())
             given.seek(0)
             run = subprocess.Popen([find_program(), *self.words], stdin=given, stdout=subprocess.PIPE, stderr=said)
-            assert run.stdout is not None
             try:
-                with io.TextIOWrapper(run.stdout, encoding="ascii", errors="replace", newline="\n") as texts:
-                    yield from lines_of(texts, self.set_end)
+                with io.TextIOWrapper(run.stdout, "ascii", "replace", "\n") as texts:  # type: ignore[arg-type]
+                    last = yield from lines_of(texts)
             except BaseException:
+                # (nobody reads on)
                 run.kill()
                 raise
             finally:
                 run.wait()
-            self.finish(run.returncode, said)
-
-    def set_end(self, text: str) -> None:
-        """Takes the last line."""
-        self.end, self.stop = ending(text)
-
-    def finish(self, status: int, said: IO[Any]) -> None:
-        """Raises the fault or the stop with which the run ended."""
-        said.seek(0)
-        text = said.read().decode(errors="replace")
-        if status not in (0, 1):
-            raise fault_of(status, text)
-        if self.stop is not None:
-            self.stop = self.stop._replace(where=text.rstrip())
-            if not self.may_stop:
-                raise Stopped(self.stop)
+            said.seek(0)
+            text = said.read().decode(errors="replace")
+        if run.returncode not in (0, 1):
+            raise fault_of(run.returncode, text)
+        self.end, stop = ending(last)
+        self.stop = stop and stop._replace(where=text.rstrip())
+        if self.stop and not self.may_stop:
+            raise Stopped(self.stop)

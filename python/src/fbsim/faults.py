@@ -12,11 +12,10 @@ if TYPE_CHECKING:
 
 # What the program prints of a refusal with --why (docs/FORMATS.md, "Program").
 HEAD = re.compile(r"refused (E\d\d|trace)(?: (.*?))??(?: line (\d+))?")
-PLACE = re.compile(r"(.*?):(\d+):(\d+): (?:E\d\d|stop): (.*)")
-OF_RULES = re.compile(r"rules: (?:line (\d+), column (\d+): )?(.*)")
-OF_TRACE = re.compile(r"(?:refused trace (?:.* )?|.*?: )line (\d+)(?:: (.*))?")
+PLACE = re.compile(r"(.*?):(\d+):(\d+): E\d\d: (.*)")
+OF_RULES_OR_TRACE = re.compile(r"(?:(rules|.*?): )?(?:line (\d+)(?:, column (\d+))?: )?(.*)")
 # The files that the line of a file fault may name.
-KINDS = ("block types", "declaration", "deployment", "stimuli", "rules", "trace", "file")
+FILE = re.compile(r"((?:block types|declaration|deployment|stimuli|rules|trace|file) )?(?:(.*): )?(.*)")
 
 
 class Location(NamedTuple):
@@ -30,7 +29,7 @@ class Location(NamedTuple):
 
     def __str__(self) -> str:
         place = ":".join(str(it) for it in self[:3] if it is not None)
-        return f"{place}: {self.text}{self.excerpt and chr(10) + self.excerpt}" if place else self.text
+        return (place and f"{place}: ") + self.text + (self.excerpt and f"\n{self.excerpt}")
 
 
 class Stop(NamedTuple):
@@ -42,11 +41,15 @@ class Stop(NamedTuple):
     where: str = ""
 
     def __str__(self) -> str:
-        return f"stop {self.tick} {self.resource} {self.reason}{self.where and chr(10) + self.where}"
+        return f"stop {self.tick} {self.resource} {self.reason}" + (self.where and f"\n{self.where}")
 
 
 class Fault(Exception):
     """Anything that went wrong with the program, its inputs or its output."""
+
+
+class InputFault(Fault, ValueError):
+    """What was given is wrong: an argument out of range, a pattern, a text that is no trace, a file fbsim.toml."""
 
 
 class ProgramMissing(Fault):
@@ -80,7 +83,7 @@ class FileFault(Fault):
         self.text, self.kind, self.file = text, kind, file
 
     def __str__(self) -> str:
-        return f"file fault: {' '.join([it for it in (self.kind, self.file) if it] + [self.text])}"
+        return f"file fault: {' '.join(it for it in (self.kind, self.file and f'{self.file}:', self.text) if it)}"
 
 
 class WriteFault(Fault):
@@ -91,35 +94,12 @@ class OutOfMemory(Fault):
     """The program ran out of memory. One worker needs least."""
 
 
-class CommandLineFault(Fault):
-    """The program refused an option, for example a horizon out of range."""
-
-
-class PatternFault(Fault, ValueError):
-    """A text is not a pattern of docs/FORMATS.md, "Rules over traces"."""
-
-
-class NoTrace(Fault, ValueError):
-    """A line of a file is not a line of a trace."""
-
-
-class PairingFault(Fault, ValueError):
-    """The lines of two patterns can't be paired as it was asked."""
-
-
-class BenchFault(Fault):
-    """A file fbsim.toml, or a file that it names, is wrong or missing."""
-
-
 class Stopped(Fault):
     """The run stopped before its horizon. `trace` has its lines, which are valid up to the stop."""
 
     def __init__(self, stop: Stop, trace: Lines | None = None) -> None:
         super().__init__(stop)
         self.stop, self.trace = stop, trace
-
-    def __str__(self) -> str:
-        return str(self.stop)
 
 
 class SequenceBroken(Fault, AssertionError):
@@ -137,60 +117,41 @@ class RulesBroken(Fault, AssertionError):
         return "\n".join(str(it) for it in self.broken)
 
 
-def located(lines: Sequence[str]) -> list[Location]:
-    """Returns the locations in the lines of standard error after the first, each with its source line and mark."""
-    found: list[Location] = []
-    at = 0
-    while at < len(lines):
-        place = PLACE.fullmatch(lines[at])
-        rules, trace = OF_RULES.fullmatch(lines[at]), OF_TRACE.fullmatch(lines[at])
-        if place:
-            at += 2
-            excerpt = "\n".join(lines[at - 1:at + 1])
-            found.append(Location(place[1], int(place[2]), int(place[3]), place[4], excerpt))
-        elif rules:
-            line, column = (None if it is None else int(it) for it in rules.group(1, 2))
-            found.append(Location("rules", line, column, rules[3]))
-        elif trace:
-            file = lines[at].split(": line ")[0]
-            found.append(Location(file, int(trace[1]), None, trace[2] or "this is no trace"))
-        else:
-            found.append(Location(None, None, None, lines[at]))
-        at += 1
-    return found
-
-
 def refusal(lines: Sequence[str]) -> Refused:
-    """Returns the refusal that the lines of standard error report."""
-    head = HEAD.fullmatch(lines[0])
-    locations = located(lines[1:])
-    if not locations and head:
-        text = "this is no trace" if head[1] == "trace" else lines[0]
-        locations = [Location(head[2], int(head[3]) if head[3] else None, None, text)]
-    number = None if not head or head[1] == "trace" else head[1]
-    return Refused(number, locations or [Location(None, None, None, "\n".join(lines))])
-
-
-def file_fault(lines: Sequence[str]) -> FileFault:
-    """Returns the file fault that the lines of standard error report."""
-    text = lines[1] if len(lines) > 1 else "a file can't be read"
-    name, colon, what = text.rpartition(": ")
-    kind = next((it for it in KINDS if name.startswith(f"{it} ")), None)
-    if not colon or kind is None:
-        return FileFault(text)
-    return FileFault(what, kind, name.removeprefix(f"{kind} "))
+    """Returns the refusal that the lines of standard error report, each location with its source line and mark."""
+    head = HEAD.fullmatch(lines[0]) or HEAD.fullmatch("refused trace")
+    assert head is not None
+    found: list[Location] = []
+    at = 1
+    while at < len(lines):
+        place, other = PLACE.fullmatch(lines[at]), OF_RULES_OR_TRACE.fullmatch(lines[at])
+        if place:
+            excerpt = "\n".join(lines[at + 1:at + 3])
+            found.append(Location(place[1], int(place[2]), int(place[3]), place[4], excerpt))
+        elif other:
+            line, column = (None if it is None else int(it) for it in other.group(2, 3))
+            found.append(Location(other[1], line, column, other[4]))
+        at += 3 if place else 1
+    if not found:
+        text = "this is no trace" if lines[0].startswith("refused trace") else lines[0]
+        found.append(Location(head[2], int(head[3]) if head[3] else None, None, text))
+    return Refused(None if head[1] == "trace" else head[1], found)
 
 
 def fault_of(status: int, said: str) -> Fault:
-    """Returns the exception for a status over 1 of the program, and what it said on standard error."""
+    """Returns the exception for a status of the program that is a fault, and what it said on standard error."""
     lines = said.splitlines() or [""]
-    if status == 2:
-        return refusal(lines)
-    if status == 3:
-        return file_fault(lines) if lines[0] == "file fault" else WriteFault(said.strip())
-    if status == 4:
-        return OutOfMemory("out of memory: use one worker")
-    if status == 5:
-        return CommandLineFault(said.strip())
+    match status:
+        case 2:
+            return refusal(lines)
+        case 3 if lines[0] == "file fault":
+            parts = FILE.fullmatch(lines[1] if len(lines) > 1 else "a file can't be read")
+            return FileFault(parts[3], parts[1] and parts[1].strip(), parts[2]) if parts else FileFault(said)
+        case 3:
+            return WriteFault(said.strip())
+        case 4:
+            return OutOfMemory("out of memory: use one worker")
+        case 5:
+            return InputFault(said.strip())
     ended = f"signal {-status}" if status < 0 else f"status {status}"
     return ProgramFault(f"the program ended with {ended}: {said.strip()}")

@@ -4,15 +4,15 @@ from __future__ import annotations
 
 import math
 from array import array
-from collections import deque
+from collections import defaultdict, deque
 from collections.abc import Iterable
 from typing import TYPE_CHECKING, Any
 
-from fbsim.faults import Fault, PairingFault
+from fbsim.faults import Fault, InputFault
 from fbsim.pattern import Pattern
 
 if TYPE_CHECKING:
-    from fbsim.trace import Line, Value
+    from fbsim.trace import Line
 
 
 class Latencies:
@@ -24,35 +24,31 @@ class Latencies:
         self.waiting = 0
         #: The two lines of the greatest latency, the first such pair.
         self.most_lines: tuple[Line, Line] | None = None
-        self.in_order: array[int] | None = None
+
+    def __repr__(self) -> str:
+        middle = f"least {self.least}, median {self.median:g}, most {self.most}, " if self.ticks else ""
+        return f"<{self.count} latencies: {middle}{self.waiting} waiting>"
+
+    def __eq__(self, other: object) -> bool:
+        return isinstance(other, Latencies) and vars(self) == vars(other)
 
     def add(self, first: Line, second: Line) -> None:
         """Adds the latency between two lines."""
-        ticks = second.tick - first.tick
-        if self.most_lines is None or ticks > self.most:
+        self.ticks.append(second.tick - first.tick)
+        if self.most_lines is None or self.ticks[-1] > self.most:
             self.most_lines = first, second
-        self.ticks.append(ticks)
-        self.in_order = None
 
-    def __repr__(self) -> str:
+    @property
+    def rising(self) -> list[int]:
+        """The latencies in rising order."""
         if not self.ticks:
-            return f"<no latencies, {self.waiting} waiting>"
-        middle = f"least {self.least}, median {self.median:g}, most {self.most}"
-        return f"<{self.count} latencies: {middle}, {self.waiting} waiting>"
+            raise Fault("there are no latencies: no line of the first pattern has one of the second")
+        return sorted(self.ticks)
 
     @property
     def count(self) -> int:
         """How many latencies there are."""
         return len(self.ticks)
-
-    @property
-    def rising(self) -> array[int]:
-        """The latencies in rising order."""
-        if not self.ticks:
-            raise Fault("there are no latencies: no line of the first pattern has one of the second")
-        if self.in_order is None:
-            self.in_order = array("q", sorted(self.ticks))
-        return self.in_order
 
     @property
     def least(self) -> int:
@@ -62,9 +58,7 @@ class Latencies:
     @property
     def most(self) -> int:
         """The greatest latency; `most_lines` has its two lines."""
-        if self.most_lines is None:
-            return self.rising[-1]
-        return self.most_lines[1].tick - self.most_lines[0].tick
+        return self.most_lines[1].tick - self.most_lines[0].tick if self.most_lines else self.rising[-1]
 
     @property
     def median(self) -> float:
@@ -75,7 +69,7 @@ class Latencies:
     def percentile(self, percent: float) -> int:
         """Returns the percentile by the nearest rank: the least latency that at least so many percent do not exceed."""
         if not 0 <= percent <= 100:
-            raise Fault(f"a percentile is of 0 to 100 percent, and not of {percent}")
+            raise InputFault(f"a percentile is of 0 to 100 percent, and not of {percent}")
         rising = self.rising
         # (a rank that rounding lifts over a whole number would be one too great)
         rank = math.ceil(round(percent * len(rising) / 100, 9))
@@ -86,7 +80,7 @@ class Latencies:
 
         Without a width, it is such that there are at most ten rows.
         """
-        least, most = self.least, self.rising[-1]
+        least, most = self.least, self.most
         width = width or -(-(most - least + 1) // 10)
         counts = [0] * ((most - least) // width + 1)
         for ticks in self.ticks:
@@ -95,59 +89,34 @@ class Latencies:
 
     def plot(self, width: int | None = None) -> Any:
         """Returns a figure of matplotlib with the histogram."""
-        from fbsim.plots import bars
+        from fbsim.figures import bars
 
         return bars(self, width)
 
 
 def paired(lines: Iterable[Line], first: Pattern, second: Pattern, pair: str) -> Latencies:
     """Returns the latencies of lines that are paired as `Lines.latencies` says."""
-    return next_of(lines, first, second) if pair == "next" else queued(lines, first, second, pair)
-
-
-def next_of(lines: Iterable[Line], first: Pattern, second: Pattern) -> Latencies:
-    """Pairs each first line with the next second one after it."""
-    found = Latencies()
-    waiting: list[Line] = []
-    for line in lines:
-        if waiting and second.matches(line):
-            for it in waiting:
-                found.add(it, line)
-            waiting.clear()
-        if first.matches(line):
-            waiting.append(line)
-    found.waiting = len(waiting)
-    return found
-
-
-def queued(lines: Iterable[Line], first: Pattern, second: Pattern, pair: str) -> Latencies:
-    """Pairs the k-th first line with the k-th second one, of all or of those with one value of a variable."""
-    variable = None if pair == "queue" else pair.upper()
-    found = Latencies()
-    waiting: dict[Value | None, deque[Line]] = {}
-    ahead: dict[Value | None, Line] = {}
+    found, is_plain = Latencies(), pair in ("queue", "next")
+    waiting: defaultdict[object, deque[Line]] = defaultdict(deque)
+    ahead: dict[object, Line] = {}
     for line in lines:
         is_first, is_second = first.matches(line), second.matches(line)
         if not is_first and not is_second:
             continue
-        value = None if variable is None else value_of(line, variable)
-        if is_first:
-            if value in ahead:
-                raise PairingFault(f'"{ahead[value]}" comes before "{line}", with which it is paired: use pair="next"')
-            waiting.setdefault(value, deque()).append(line)
-        if is_second:
-            queue = waiting.get(value)
-            if queue:
+        value = None if is_plain else line.values.get(pair.upper())
+        if value is None and not is_plain:
+            raise InputFault(f'"{line}" has no {pair.upper()}, by which lines are paired')
+        queue = waiting[value]
+        if pair == "next":
+            while is_second and queue:
                 found.add(queue.popleft(), line)
-            else:
-                ahead.setdefault(value, line)
-    found.waiting = sum(len(it) for it in waiting.values())
+        elif is_first and value in ahead:
+            raise InputFault(f'"{ahead[value]}" comes before "{line}", with which it is paired: use pair="next"')
+        if is_first:
+            queue.append(line)
+        if is_second and pair != "next" and queue:
+            found.add(queue.popleft(), line)
+        elif is_second and pair != "next":
+            ahead.setdefault(value, line)
+    found.waiting = sum(map(len, waiting.values()))
     return found
-
-
-def value_of(line: Line, variable: str) -> Value:
-    """Returns the value of a variable in a line that must have it."""
-    values = line.values
-    if variable not in values:
-        raise PairingFault(f'"{line}" has no {variable}, by which lines are paired')
-    return values[variable]

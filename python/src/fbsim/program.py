@@ -7,7 +7,7 @@ import shutil
 import subprocess
 from collections.abc import Sequence
 from pathlib import Path
-from typing import IO, Any, NamedTuple
+from typing import IO, Any
 
 from fbsim.faults import ProgramMissing, fault_of
 
@@ -15,20 +15,9 @@ from fbsim.faults import ProgramMissing, fault_of
 BUILT = ("crates/fbsim/out/fbsim", "crates/fbsim/out/fbsim.unproved")
 
 
-class Called(NamedTuple):
-    """What a call of the program came to."""
-
-    status: int
-    out: str
-    said: str
-
-
 def find_program() -> str:
-    """Returns the path of the program.
-
-    It is the one that the environment variable FBSIM names, else the one on PATH, else the one that `./simulate`
-    built in the repository of this file. Of a proved and an unproved one there, it is the proved one.
-    """
+    """Returns the path of the program: that of the environment variable FBSIM, else the one on PATH, else the one that
+    `./simulate` built in the repository of this file. Of a proved and an unproved one there, it is the proved one."""
     named = os.environ.get("FBSIM")
     if named:
         found = shutil.which(named)
@@ -39,24 +28,23 @@ def find_program() -> str:
     if found is not None:
         return os.path.abspath(found)
     for top in Path(__file__).resolve().parents:
-        if (top / "simulate").is_file() and (top / "crates").is_dir():
-            for built in BUILT:
-                if os.access(top / built, os.X_OK):
-                    return str(top / built)
+        for built in BUILT:
+            if (top / "simulate").is_file() and os.access(top / built, os.X_OK):
+                return str(top / built)
     raise ProgramMissing(
         "the program fbsim was not found: set FBSIM to its path, put it on PATH, or build it by ./simulate"
     )
 
 
 def call(
-    words: Sequence[str], given: bytes = b"", to: IO[Any] | int = subprocess.PIPE, statuses: Sequence[int] = (0,)
-) -> Called:
+    words: Sequence[str], given: str = "", to: IO[Any] | int = subprocess.PIPE, statuses: Sequence[int] = (0,)
+) -> subprocess.CompletedProcess[str]:
     """Calls the program, and raises the fault of a status that is not among these.
 
     `given` is its standard input. Standard output goes into the file `to`, or is returned.
     """
-    made = subprocess.run([find_program(), *words], input=given, stdout=to, stderr=subprocess.PIPE)
-    said = made.stderr.decode(errors="replace")
+    how: dict[str, Any] = {"encoding": "utf-8", "errors": "replace"}
+    made = subprocess.run([find_program(), *words], input=given, stdout=to, stderr=subprocess.PIPE, **how)
     if made.returncode not in statuses:
-        raise fault_of(made.returncode, said)
-    return Called(made.returncode, (made.stdout or b"").decode(errors="replace"), said)
+        raise fault_of(made.returncode, made.stderr)
+    return made

@@ -3,20 +3,18 @@
 from __future__ import annotations
 
 import tempfile
-from collections.abc import Iterator
+from collections.abc import Callable, Iterator
+from functools import cached_property, partial
 from pathlib import Path
 from typing import Any
 
 import pytest
 
-from fbsim.bench import Scenario, ServiceSequence, names_of_rules, read_bench
+from fbsim.bench import Bench, Scenario, names_of_rules, read_bench
 from fbsim.faults import Fault, Refused, RulesBroken
 from fbsim.report import Report, check_rules
 from fbsim.sequence import check_sequence
 from fbsim.trace import Trace
-
-BLESSED = "fbsim_blessed"
-HINT = "if this is intended: --fbsim-bless makes the new trace the reference"
 
 
 class Reference:
@@ -39,7 +37,7 @@ class Reference:
             return False
         self.path.parent.mkdir(parents=True, exist_ok=True)
         other.save(self.path)
-        self.node.user_properties.append((BLESSED, str(self.path)))
+        self.node.user_properties.append(("fbsim_blessed", str(self.path)))
         return True
 
     def difference(self, trace: Trace) -> list[str]:
@@ -47,7 +45,8 @@ class Reference:
         if not self.path.is_file():
             return [f"there is no reference {self.path}: --fbsim-bless makes it"]
         said = Trace(self.path).diff(trace).replace(str(trace.path), "the run")
-        return [f"the trace is not that of {self.path}", *said.splitlines(), HINT]
+        hint = "if this is intended: --fbsim-bless makes the new trace the reference"
+        return [f"the trace is not that of {self.path}", *said.splitlines(), hint]
 
 
 def pytest_addoption(parser: pytest.Parser) -> None:
@@ -74,7 +73,7 @@ def pytest_assertrepr_compare(op: str, left: object, right: object) -> list[str]
 def pytest_terminal_summary(terminalreporter: Any) -> None:
     """Names the references that were changed."""
     reports = terminalreporter.stats.get("passed", [])
-    changed = sorted({value for it in reports for name, value in it.user_properties if name == BLESSED})
+    changed = sorted({value for it in reports for name, value in it.user_properties if name == "fbsim_blessed"})
     if changed:
         terminalreporter.section("references changed by --fbsim-bless")
         terminalreporter.write_line("\n".join(changed))
@@ -85,12 +84,32 @@ def pytest_collect_file(file_path: Path, parent: pytest.Collector) -> pytest.Col
     return BenchFile.from_parent(parent, path=file_path) if file_path.name == "fbsim.toml" else None
 
 
-def said_of(node: pytest.Collector | pytest.Item, info: pytest.ExceptionInfo[BaseException], usual: Any) -> Any:
-    """Returns the text of a fault, or what pytest shows of other exceptions."""
-    return str(info.value) if isinstance(info.value, Fault) else usual(info)
+class ByText:
+    """A node whose faults are shown by their texts."""
+
+    def repr_failure(self, excinfo: pytest.ExceptionInfo[BaseException]) -> Any:
+        """Returns the text of a fault, or what pytest shows of other exceptions."""
+        usual = super().repr_failure  # type: ignore[misc]
+        return str(excinfo.value) if isinstance(excinfo.value, Fault) else usual(excinfo)
 
 
-class BenchFile(pytest.File):
+class BenchItem(ByText, pytest.Item):  # type: ignore[misc]
+    """A test of a file fbsim.toml, which is a call with the item itself."""
+
+    def __init__(self, test: Callable[[pytest.Item], object], **given: Any) -> None:
+        super().__init__(**given)
+        self.test = test
+
+    def runtest(self) -> None:
+        """Makes the call."""
+        self.test(self)
+
+    def reportinfo(self) -> tuple[Path, None, str]:
+        """Returns where the test is, and its name."""
+        return self.path, None, self.nodeid.partition("::")[2].replace("::", ": ")
+
+
+class BenchFile(ByText, pytest.File):  # type: ignore[misc]
     """A file fbsim.toml, as tests."""
 
     def collect(self) -> Iterator[pytest.Item | pytest.Collector]:
@@ -99,102 +118,59 @@ class BenchFile(pytest.File):
         with tempfile.TemporaryDirectory(prefix="fbsim-") as folder:
             rules = names_of_rules(self.bench, Path(folder))
         for scenario in self.bench.scenarios:
-            yield ScenarioTests.from_parent(self, name=scenario.name, scenario=scenario, rules=rules)
-        for sequence in self.bench.sequences:
-            yield SequenceTest.from_parent(self, name=sequence.name, sequence=sequence)
+            yield ScenarioTests.from_parent(self, name=scenario.name, bench=self.bench, scenario=scenario, rules=rules)
+        for it in self.bench.sequences:
+            yield BenchItem.from_parent(self, name=it["name"], test=partial(self.test_sequence, it))
 
-    def repr_failure(self, excinfo: pytest.ExceptionInfo[BaseException]) -> Any:  # type: ignore[override]
-        """Shows a fault by its text."""
-        return said_of(self, excinfo, super().repr_failure)
+    def test_sequence(self, given: dict[str, Any], item: pytest.Item) -> None:
+        """Tests whether a block type answers as a service sequence says."""
+        types, declaration = self.bench.application.types, self.bench.application.declaration or None
+        parameters = given.get("parameters")
+        check_sequence(given["type"], given["steps"], parameters=parameters, types=types, declaration=declaration)
 
 
 class ScenarioTests(pytest.Collector):
     """A scenario: a test of its run, and one for each rule. It is run once for all of them."""
 
-    def __init__(self, scenario: Scenario, rules: list[str], **given: Any) -> None:
+    def __init__(self, bench: Bench, scenario: Scenario, rules: list[str], **given: Any) -> None:
         super().__init__(**given)
-        self.scenario, self.rules = scenario, rules
-        self.trace: Trace | None = None
-        self.report: Report | None = None
+        self.bench, self.scenario, self.rules = bench, scenario, rules
 
     def collect(self) -> Iterator[pytest.Item]:
         """Goes over the run and the rules."""
-        yield RunTest.from_parent(self, name="run")
+        yield BenchItem.from_parent(self, name="run", test=self.test_run)
         for at, rule in enumerate(self.rules if self.scenario.status < 2 else []):
-            yield RuleTest.from_parent(self, name=rule, at=at)
+            yield BenchItem.from_parent(self, name=rule, test=partial(self.test_rule, at))
 
-    def run(self) -> Trace:
-        """Returns the trace of the scenario."""
-        if self.trace is None:
-            bench, it = self.parent.bench, self.scenario  # type: ignore[union-attr]
-            self.trace = bench.application.run(it.stimuli, horizon=it.horizon, steps=it.steps, stop=True)
-        return self.trace
+    @cached_property
+    def trace(self) -> Trace:
+        """The trace of the scenario."""
+        it = self.scenario
+        return self.bench.application.run(it.stimuli, horizon=it.horizon, steps=it.steps, stop=True)
 
-    def judge(self) -> Report:
-        """Returns what the rules come to on its trace."""
-        if self.report is None:
-            self.report = check_rules(self.run(), self.parent.bench.rules)  # type: ignore[union-attr]
-        return self.report
+    @cached_property
+    def report(self) -> Report:
+        """What the rules come to on its trace."""
+        return check_rules(Trace(self.trace.path), self.bench.rules or "")
 
-
-class BenchItem(pytest.Item):
-    """A test of a file fbsim.toml."""
-
-    def reportinfo(self) -> tuple[Path, None, str]:
-        """Returns where the test is, and its name."""
-        return self.path, None, self.nodeid.partition("::")[2].replace("::", ": ")
-
-    def repr_failure(self, excinfo: pytest.ExceptionInfo[BaseException]) -> Any:  # type: ignore[override]
-        """Shows a fault by its text."""
-        return said_of(self, excinfo, super().repr_failure)
-
-
-class RunTest(BenchItem):
-    """Whether a scenario ends with its status, and has the trace of its reference."""
-
-    def runtest(self) -> None:
-        """Runs the scenario."""
-        parent: Any = self.parent
-        scenario = parent.scenario
+    def test_run(self, item: pytest.Item) -> None:
+        """Tests whether the scenario ends with its status, and has the trace of its reference."""
         try:
-            trace = parent.run()
+            trace, wanted = self.trace, self.scenario.status
         except Refused:
-            if scenario.status == 2:
-                return
-            raise
-        if scenario.status != (stopped := 1 if trace.stop else 0):
-            raise Fault(f"the run has status {stopped}, and not {scenario.status}: {trace.stop or trace.last.rstrip()}")
-        if scenario.reference is not None:
-            kept = Reference(scenario.reference, self)
+            if self.scenario.status != 2:
+                raise
+            return
+        if wanted != bool(trace.stop):
+            ended = trace.stop or trace.last.rstrip()
+            raise Fault(f"the run has status {int(bool(trace.stop))}, and not {wanted}: {ended}")
+        if self.scenario.reference is not None:
+            kept = Reference(self.scenario.reference, item)
             if trace != kept:
                 raise Fault("\n".join(kept.difference(trace)))
 
-
-class RuleTest(BenchItem):
-    """Whether a rule holds in a scenario."""
-
-    def __init__(self, at: int, **given: Any) -> None:
-        super().__init__(**given)
-        self.at = at
-
-    def runtest(self) -> None:
-        """Looks at the rule's verdict."""
-        parent: Any = self.parent
-        verdict = parent.judge().verdicts[self.at]
+    def test_rule(self, at: int, item: pytest.Item) -> None:
+        """Tests whether a rule holds."""
+        verdict = self.report.verdicts[at]
         if verdict.verdict == "broken":
             raise RulesBroken(Report((verdict,)))
-
-
-class SequenceTest(BenchItem):
-    """Whether a block type answers as a service sequence says."""
-
-    def __init__(self, sequence: ServiceSequence, **given: Any) -> None:
-        super().__init__(**given)
-        self.sequence = sequence
-
-    def runtest(self) -> None:
-        """Runs the block type alone."""
-        parent: Any = self.parent
-        it, bench = self.sequence, parent.bench
-        known = {"types": bench.types, "declaration": bench.declaration}
-        check_sequence(it.type, it.steps, parameters=it.parameters, **known)

@@ -7,16 +7,17 @@ import os
 import re
 from typing import TYPE_CHECKING, NamedTuple
 
-from fbsim.faults import RulesBroken
 from fbsim.program import call
 
 if TYPE_CHECKING:
     from fbsim.trace import Trace
 
-POINT = re.compile(r"(ok|not ok) \d+ - (.*?)(?<!\\)((?:\\\\)*)( # SKIP undecided)?")
-ESCAPED = re.compile(r"\\([\\#])")
-MESSAGE = re.compile(r'  message: "(.*)"')
-NUMBER = re.compile(r"  (line|tick): (\d+)")
+# A point of a report, with the block and the comments after it.
+POINT = re.compile(
+    r"^(not )?ok \d+ - (.*?)( # SKIP undecided)?\n"
+    r'(?:  ---\n  message: "(.*)"\n  trace: .*\n(?:  line: (\d+)\n  tick: (\d+)\n)?  \.\.\.\n)?'
+    r"((?:# .*\n)*)", re.MULTILINE
+)
 
 
 class Verdict(NamedTuple):
@@ -34,10 +35,8 @@ class Verdict(NamedTuple):
     notes: tuple[str, ...] = ()
 
     def __str__(self) -> str:
-        if self.verdict != "broken":
-            return f"{self.rule}: {self.verdict}"
         place = "" if self.line is None else f" at line {self.line}, tick {self.tick}: {self.text}"
-        return f"{self.rule}: {self.message or 'undecided'}{place}"
+        return f"{self.rule}: {self.message or self.verdict}{place}"
 
 
 class Report(NamedTuple):
@@ -46,69 +45,35 @@ class Report(NamedTuple):
     verdicts: tuple[Verdict, ...]
 
     def of(self, verdict: str) -> list[Verdict]:
-        """Returns the rules with a verdict."""
+        """Returns the rules that are kept, broken or undecided."""
         return [it for it in self.verdicts if it.verdict == verdict]
-
-    @property
-    def kept(self) -> list[Verdict]:
-        """The rules that hold."""
-        return self.of("kept")
 
     @property
     def broken(self) -> list[Verdict]:
         """The rules that do not hold."""
         return self.of("broken")
 
-    @property
-    def undecided(self) -> list[Verdict]:
-        """The rules that hold up to the end of the trace, after which they could still break."""
-        return self.of("undecided")
 
-
-def read_report(text: str) -> Report:
-    """Reads a report on one trace."""
-    found: list[Verdict] = []
-    for line in text.splitlines():
-        point = POINT.fullmatch(line)
-        message, number = MESSAGE.fullmatch(line), NUMBER.fullmatch(line)
-        if point:
-            verdict = "broken" if point[1] == "not ok" else "undecided" if point[4] else "kept"
-            found.append(Verdict(ESCAPED.sub(r"\1", point[2] + point[3]), verdict))
-        elif message:
-            found[-1] = found[-1]._replace(message=message[1])
-        elif number and number[1] == "line":
-            found[-1] = found[-1]._replace(line=int(number[2]))
-        elif number:
-            found[-1] = found[-1]._replace(tick=int(number[2]))
-        elif line.startswith("# "):
-            found[-1] = found[-1]._replace(notes=(*found[-1].notes, line[2:]))
-    return Report(tuple(found))
-
-
-def with_texts(report: Report, trace: Trace) -> Report:
-    """Adds to the broken rules the texts of the lines at which they break."""
-    wanted = {it.line for it in report.verdicts if it.line is not None}
-    texts = {}
+def read_report(text: str, trace: Trace) -> Report:
+    """Reads a report on a trace, and looks up the lines at which rules break."""
+    points = [*POINT.finditer(text)]
+    wanted = {int(it[5]): "" for it in points if it[5]}
     with open(trace.path, encoding="ascii", errors="replace") as lines:
-        for number, text in enumerate(itertools.islice(lines, max(wanted, default=0)), 1):
+        for number, line in enumerate(itertools.islice(lines, max(wanted, default=0)), 1):
             if number in wanted:
-                texts[number] = text.rstrip("\n")
-    return Report(tuple(it._replace(text=texts.get(it.line or 0, "")) for it in report.verdicts))
+                wanted[number] = line.rstrip("\n")
+    verdicts = []
+    for it in points:
+        line_number, tick = (int(it[k]) if it[k] else None for k in (5, 6))
+        verdict, rule = "broken" if it[1] else "undecided" if it[3] else "kept", re.sub(r"\\([\\#])", r"\1", it[2])
+        notes = tuple(note[2:] for note in it[7].splitlines())
+        verdicts.append(Verdict(rule, verdict, it[4] or "", line_number, tick, wanted.get(line_number or 0, ""), notes))
+    return Report(tuple(verdicts))
 
 
 def check_rules(trace: Trace, rules: str | os.PathLike[str], strict: bool = False) -> Report:
     """Returns what the rules come to on a trace. If it has an application, rules may name only what that has."""
-    words = ["expect", os.fspath(rules), os.fspath(trace.path), "--why"]
+    words = ["expect", os.fspath(rules), os.fspath(trace.path), "--why", *["--strict"] * strict]
     if trace.application is not None:
         words += ["--decl", *trace.application.words]
-    if strict:
-        words.append("--strict")
-    return with_texts(read_report(call(words, statuses=(0, 1)).out), trace)
-
-
-def expect(trace: Trace, rules: str | os.PathLike[str], strict: bool = False) -> Report:
-    """Does the same, and raises `RulesBroken` if a rule does not hold."""
-    report = check_rules(trace, rules, strict)
-    if report.broken:
-        raise RulesBroken(report)
-    return report
+    return read_report(call(words, statuses=(0, 1)).stdout, trace)

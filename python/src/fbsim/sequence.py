@@ -2,17 +2,16 @@
 
 from __future__ import annotations
 
-import os
 import re
 import tempfile
 from collections.abc import Mapping, Sequence
 from pathlib import Path
 from typing import NamedTuple
 
-from fbsim.application import Application, FileName
-from fbsim.faults import Fault, SequenceBroken
-from fbsim.texts import application_span, constant
-from fbsim.trace import Line, Value
+from fbsim.application import Application, FileName, Row
+from fbsim.faults import InputFault, SequenceBroken
+from fbsim.texts import constant, of_application, read, write
+from fbsim.trace import Line
 
 INSTANCE = "BLOCK"
 EVENT = re.compile(r"[A-Z_]\w*(?: +[A-Z_]\w*=(?:TRUE|FALSE|-?\d+))*", re.ASCII)
@@ -20,21 +19,24 @@ WAIT = re.compile(r"WAIT +([1-9]\d*)", re.ASCII)
 
 
 class Step(NamedTuple):
-    """A step: an input event with values, or ticks to wait; the output events that must follow; and its ticks."""
+    """A step: a row of stimuli with its event, or none; the outputs that must follow; and the ticks for them."""
 
     text: str
-    event: str | None
-    values: dict[str, Value]
-    outputs: list[str]
+    rows: list[Row]
+    outputs: list[Line]
     first: int
     last: int
 
 
-def event_of(text: str) -> tuple[str, dict[str, Value]]:
-    """Returns the event and the values of a text as `CUO Q=FALSE CV=1`."""
-    event, *words = text.split()
-    line = Line(0, "", "<", "", event, " ".join(words))
-    return event, line.values
+def line_of(text: str) -> Line:
+    """Returns a line with the event and the values of a text as `CUO Q=FALSE CV=1`."""
+    event, _, words = text.partition(" ")
+    return Line(0, "", "<", INSTANCE, event, " ".join(words.split()))
+
+
+def said(lines: Sequence[Line]) -> str:
+    """Returns events as a step has them."""
+    return ", ".join(f"{it.event} {it.words}".rstrip() for it in lines) or "nothing"
 
 
 def steps_of(given: Sequence[Sequence[str]]) -> list[Step]:
@@ -44,36 +46,23 @@ def steps_of(given: Sequence[Sequence[str]]) -> list[Step]:
     for number, texts in enumerate(given, 1):
         words = [it.upper().strip() for it in texts]
         wait = WAIT.fullmatch(words[0]) if words else None
-        wrong = [it for it in (words[1:] if wait else words or [""]) if not EVENT.fullmatch(it)]
-        if wrong:
-            raise Fault(f"step {number}: {wrong[0]!r} is neither an event, as CUO Q=FALSE CV=1, nor wait N, N over 0")
-        event, values = (None, {}) if wait else event_of(words[0])
-        last = tick + (int(wait[1]) if wait else 1) - 1
-        steps.append(Step(texts[0], event, values, words[1:], tick, last))
-        tick = last + 1
+        for it in words[1:] if wait else words or [""]:
+            if not EVENT.fullmatch(it):
+                raise InputFault(f"step {number}: {it!r} is neither an event, as CUO CV=1, nor wait N, N over 0")
+        first, *outputs = map(line_of, words)
+        rows: list[Row] = [] if wait else [(tick, f"{INSTANCE}.{first.event}", first.values)]
+        steps.append(Step(texts[0], rows, outputs, tick, tick + (int(wait[1]) if wait else 1) - 1))
+        tick = steps[-1].last + 1
     if not steps:
-        raise Fault("a sequence has at least one step")
+        raise InputFault("a sequence has at least one step")
     return steps
 
 
-def harness(type_name: str, parameters: Mapping[str, object]) -> str:
-    """Returns an application of one instance of the type."""
-    given = ", ".join(f"{name} := {constant(value)}" for name, value in parameters.items())
-    return f"APPLICATION HARNESS FBS {INSTANCE} : {type_name}{given and f'({given})'}; END_FBS END_APPLICATION\n"
-
-
-def matches(line: Line, expected: str) -> bool:
+def matches(line: Line, expected: Line) -> bool:
     """Whether a line is of the expected event, with the expected values among its own."""
-    event, values = event_of(expected)
-    found = line.values
-    # (a truth value is no number)
-    same = all(name in found and str(found[name]) == str(value) for name, value in values.items())
-    return line.event == event and same
-
-
-def text_of(line: Line) -> str:
-    """Returns a line as a step has it."""
-    return f"{line.event} {line.words}".rstrip()
+    # (as texts, since a truth value is no number)
+    found, wanted = ({name: str(it) for name, it in given.values.items()} for given in (line, expected))
+    return line.event == expected.event and wanted.items() <= found.items()
 
 
 def compare(steps: Sequence[Step], lines: Sequence[Line]) -> list[str]:
@@ -82,8 +71,7 @@ def compare(steps: Sequence[Step], lines: Sequence[Line]) -> list[str]:
     for number, step in enumerate(steps, 1):
         came = [it for it in lines if step.first <= it.tick <= step.last]
         if len(came) != len(step.outputs) or not all(map(matches, came, step.outputs)):
-            expected, found = ", ".join(step.outputs), ", ".join(text_of(it) for it in came)
-            faults.append(f"step {number}, {step.text}: expected {expected or 'nothing'}, came {found or 'nothing'}")
+            faults.append(f"step {number}, {step.text}: expected {said(step.outputs)}, came {said(came)}")
     return faults
 
 
@@ -97,16 +85,18 @@ def check_sequence(
     must follow in these ticks, in order, no more and no fewer. Values that are not given may be any. The types are
     event blocks, those of the files `types`, and those of a declaration, whose application is left out.
     """
-    sequence, text = steps_of(steps), harness(type_name, parameters or {})
+    sequence = steps_of(steps)
+    given = ", ".join(f"{name} := {constant(value)}" for name, value in (parameters or {}).items())
+    instance = f"{INSTANCE} : {type_name}{given and f'({given})'};"
+    text = f"APPLICATION HARNESS FBS {instance} END_FBS END_APPLICATION\n"
     if declaration is not None:
-        around = Path(declaration).read_text(encoding="latin-1")
-        start, end = application_span(around) or (len(around), len(around))
-        text = around[:start] + text + around[end:]
-    rows = [(it.first, f"{INSTANCE}.{it.event}", it.values) for it in sequence if it.event is not None]
+        around = read(declaration)
+        span = of_application(around)
+        text = around[:span[0].start()] + text + around[span[-1].end():] if span else around + text
+    rows = [row for it in sequence for row in it.rows]
     with tempfile.TemporaryDirectory(prefix="fbsim-") as folder:
-        file = os.path.join(folder, "harness.iec")
-        Path(file).write_text(text, encoding="latin-1")
-        trace = Application(file, types).run(rows, horizon=sequence[-1].last + 1)
+        write(Path(folder, "harness.iec"), text)
+        trace = Application(Path(folder, "harness.iec"), types).run(rows, horizon=sequence[-1].last + 1)
         lines = [it for it in trace if it.sign == "<" and it.instance == INSTANCE]
     faults = compare(sequence, lines)
     if faults:

@@ -1,20 +1,17 @@
-"""Traces: their lines, read one after another, and what is worked out from them.
-
-A trace is never held in memory as a whole. What reads it goes over its lines, and keeps no more than its result.
-"""
+"""Traces: their lines, read one after another and never held as a whole, and what is worked out from them."""
 
 from __future__ import annotations
 
+import filecmp
 import itertools
 import os
 import shutil
-import weakref
 from abc import ABC, abstractmethod
-from collections.abc import Callable, Iterable, Iterator, Sequence
+from collections.abc import Generator, Iterable, Iterator, Sequence
 from pathlib import Path
 from typing import TYPE_CHECKING, Any, NamedTuple
 
-from fbsim.faults import Fault, NoTrace, Stop
+from fbsim.faults import InputFault, RulesBroken, Stop
 from fbsim.latencies import Latencies, paired
 from fbsim.pattern import Pattern
 
@@ -23,10 +20,6 @@ if TYPE_CHECKING:
     from fbsim.report import Report
 
 Value = int | bool
-
-# How many different ends of lines, all after the tick, are kept in parsed form. Most traces have few.
-KEPT_HEADS = 4096
-PIECE = 1 << 20
 
 
 class Line(NamedTuple):
@@ -71,17 +64,15 @@ def head_of(text: str) -> tuple[str, str, str, str, str]:
     return resource, sign, instance, event, words[0].rstrip() if words else ""
 
 
-def lines_of(texts: Iterable[str], at_end: Callable[[str], None]) -> Iterator[Line]:
-    """Parses lines of either form. The last one, `end` or `stop`, goes to `at_end`."""
-    texts = iter(texts)
-    first = next(texts, None)
-    if first is None:
-        return
+def lines_of(texts: Iterator[str]) -> Generator[Line, None, str]:
+    """Parses lines of either form, and returns the text of the last one, `end` or `stop`."""
+    first = last = next(texts, "")
     has_keys = not first.startswith(("end", "stop")) and first.partition(" ")[2][:1].isdigit()
+    # (most traces have few different ends of lines, all after the tick; so many are kept in parsed form)
     heads: dict[str, tuple[str, str, str, str, str]] = {}
     new, key, number, text = tuple.__new__, None, 0, first
     try:
-        for number, text in enumerate(itertools.chain([first], texts), 1):
+        for number, text in enumerate(itertools.chain([first] if first else [], texts), 1):
             if has_keys and text[0].isdigit():
                 *parts, text = text.split(" ", 3)
                 key = (int(parts[0]), int(parts[1]), int(parts[2]))
@@ -89,14 +80,15 @@ def lines_of(texts: Iterable[str], at_end: Callable[[str], None]) -> Iterator[Li
             head = heads.get(rest)
             if head is None:
                 if tick in ("end", "stop"):
-                    at_end(text)
+                    last = text
                     continue
                 head = head_of(rest)
-                if len(heads) < KEPT_HEADS:
+                if len(heads) < 4096:
                     heads[rest] = head
             yield new(Line, (int(tick), *head, key))
     except (ValueError, IndexError) as it:
-        raise NoTrace(f"line {number} is no line of a trace: {text[:80].rstrip()}") from it
+        raise InputFault(f"line {number} is no line of a trace: {text[:80].rstrip()}") from it
+    return last
 
 
 def ending(text: str) -> tuple[int | None, Stop | None]:
@@ -106,7 +98,7 @@ def ending(text: str) -> tuple[int | None, Stop | None]:
             return int(horizon), None
         case ["stop", tick, resource, reason] if tick.isdigit():
             return None, Stop(int(tick), resource, reason)
-    raise NoTrace(f"the last line is neither end nor stop: {text[:80].rstrip()}")
+    raise InputFault(f"the last line is neither end nor stop: {text[:80].rstrip()}")
 
 
 class Lines(ABC):
@@ -135,7 +127,7 @@ class Lines(ABC):
         for name, signal in found.items():
             instance, dot, variable = name.upper().rpartition(".")
             if not dot:
-                raise Fault(f"{name} is no signal: it is INSTANCE.VARIABLE, as GATE.TAKEN")
+                raise InputFault(f"{name} is no signal: it is INSTANCE.VARIABLE, as GATE.TAKEN")
             wanted.setdefault(instance, []).append((variable, signal))
         for line in self:
             for variable, signal in wanted.get(line.instance, ()):
@@ -155,13 +147,13 @@ class Lines(ABC):
 
     def frame(self) -> Any:
         """Returns a pandas data frame: a row for each line, a column for each part and for each variable."""
-        from fbsim.frames import frame_of_lines
+        from fbsim.figures import frame_of_lines
 
         return frame_of_lines(self)
 
     def plot(self, names: Sequence[str]) -> Any:
         """Returns a figure of matplotlib that draws variables as steps over ticks."""
-        from fbsim.plots import steps
+        from fbsim.figures import steps
 
         return steps(self.signals(names), getattr(self, "end", None))
 
@@ -175,9 +167,6 @@ class Selection(Lines):
     def __iter__(self) -> Iterator[Line]:
         return filter(self.pattern.matches, self.lines)
 
-    def __repr__(self) -> str:
-        return f"{self.lines!r}.where({self.pattern.text!r})"
-
 
 class Trace(Lines):
     """A trace in a file, which may be read any number of times.
@@ -186,20 +175,21 @@ class Trace(Lines):
     yours; with `application`, rules over it may name only what the application has.
     """
 
-    def __init__(self, path: str | os.PathLike[str], application: Application | None = None, where: str = "") -> None:
-        self.path, self.application, self.where_stopped = Path(path), application, where
+    def __init__(self, path: str | os.PathLike[str], application: Application | None = None) -> None:
+        self.path, self.application, self.where_stopped = Path(path), application, ""
 
     def __repr__(self) -> str:
         return f"<trace {self.path}>"
 
     def __iter__(self) -> Iterator[Line]:
         with open(self.path, encoding="ascii", errors="replace", newline="\n") as texts:
-            yield from lines_of(texts, lambda text: None)
+            yield from lines_of(texts)
 
     def __eq__(self, other: object) -> bool:
         if not isinstance(other, Trace):
             return NotImplemented
-        return same_bytes(self.path, other.path)
+        filecmp.clear_cache()
+        return filecmp.cmp(self.path, other.path, shallow=False)
 
     __hash__ = None  # type: ignore[assignment]
 
@@ -218,7 +208,7 @@ class Trace(Lines):
     def last(self) -> str:
         """The text of the last line."""
         with open(self.path, "rb") as it:
-            it.seek(max(0, os.path.getsize(self.path) - PIECE))
+            it.seek(max(0, os.path.getsize(self.path) - 1000))
             return (it.read().splitlines() or [b""])[-1].decode("ascii", "replace")
 
     def text(self) -> str:
@@ -234,37 +224,15 @@ class Trace(Lines):
 
         With `strict`, an undecided rule counts as broken.
         """
-        from fbsim.report import expect
+        from fbsim.report import check_rules
 
-        return expect(self, rules, strict)
+        report = check_rules(self, rules, strict)
+        if report.broken:
+            raise RulesBroken(report)
+        return report
 
     def diff(self, other: Trace) -> str:
         """Returns what `fbsim diff` says of this trace and another one: nothing if they are the same."""
         from fbsim.program import call
 
-        return call(["diff", os.fspath(self.path), os.fspath(other.path)], statuses=(0, 1)).out
-
-
-class TemporaryTrace(Trace):
-    """A trace in a file that is removed when nothing refers to the trace any more, or when Python ends."""
-
-    def __init__(self, path: str, application: Application | None = None, where: str = "") -> None:
-        super().__init__(path, application, where)
-        self.remove = weakref.finalize(self, remove_own, path, os.getpid())
-
-
-def remove_own(path: str, owner: int) -> None:
-    """Removes a temporary file, but not in a process that was forked from the one that made it."""
-    if os.getpid() == owner:
-        Path(path).unlink(missing_ok=True)
-
-
-def same_bytes(one: Path, other: Path) -> bool:
-    """Whether two files have the same bytes."""
-    if os.path.getsize(one) != os.path.getsize(other):
-        return False
-    with open(one, "rb") as left, open(other, "rb") as right:
-        while piece := left.read(PIECE):
-            if piece != right.read(PIECE):
-                return False
-    return True
+        return call(["diff", os.fspath(self.path), os.fspath(other.path)], statuses=(0, 1)).stdout

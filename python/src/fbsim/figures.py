@@ -1,0 +1,112 @@
+"""Data frames of pandas and figures of matplotlib, which the package does not need otherwise."""
+
+from __future__ import annotations
+
+from collections.abc import Iterable, Mapping, Sequence
+from importlib import import_module
+from typing import TYPE_CHECKING, Any
+
+from fbsim.faults import Fault
+
+if TYPE_CHECKING:
+    from fbsim.latencies import Latencies
+    from fbsim.sweep import Variant
+    from fbsim.trace import Line, Signal
+
+
+def needed(module: str, package: str) -> Any:
+    """Returns a module of a package that may not be installed."""
+    try:
+        return import_module(module)
+    except ImportError as it:
+        raise Fault(f"this needs {package}: install it, on Debian as python3-{package}") from it
+
+
+def column(pandas: Any, values: list[Any]) -> Any:
+    """Returns the values of a variable as a column whose missing values are NA: of truth values, else of numbers."""
+    given = [it for it in values if it is not None]
+    if all(isinstance(it, bool) for it in given):
+        return pandas.array(values, dtype="boolean")
+    if not any(isinstance(it, bool) for it in given) and all(-(2**63) <= it < 2**63 for it in given):
+        return pandas.array(values, dtype="Int64")
+    return pandas.array(values, dtype=object)
+
+
+def frame_of_lines(lines: Iterable[Line]) -> Any:
+    """Returns a frame with the columns tick, resource, sign, instance, event, and one for each variable."""
+    pandas = needed("pandas", "pandas")
+    parts: dict[str, list[Any]] = {name: [] for name in ("tick", "resource", "sign", "instance", "event")}
+    variables: dict[str, list[Any]] = {}
+    count = 0
+    for count, line in enumerate(lines, 1):
+        for values, it in zip(parts.values(), line):
+            values.append(it)
+        for name, value in line.values.items():
+            values = variables.setdefault(name, [])
+            values.extend([None] * (count - 1 - len(values)))
+            values.append(value)
+    for values in variables.values():
+        values.extend([None] * (count - len(values)))
+    parts["tick"] = pandas.array(parts["tick"], dtype="int64")
+    return pandas.DataFrame(parts | {name: column(pandas, values) for name, values in variables.items()})
+
+
+def frame_of_sweep(rows: Sequence[Variant]) -> Any:
+    """Returns a frame with the parameters, the end, the stop, the verdict of each rule, and statistics of latencies."""
+    pandas = needed("pandas", "pandas")
+    found = []
+    for it in rows:
+        row: dict[str, Any] = {**it.parameters, "end": it.end, "stop": it.stop and str(it.stop)}
+        row |= {verdict.rule: verdict.verdict for verdict in it.report.verdicts}
+        for name, given in it.latencies.items():
+            row |= {f"{name}.count": given.count, f"{name}.waiting": given.waiting}
+            for statistic in ("least", "median", "most"):
+                row[f"{name}.{statistic}"] = getattr(given, statistic) if given.count else None
+        found.append(row)
+    return pandas.DataFrame(found)
+
+
+def figure(height: float) -> Any:
+    """Returns an empty figure."""
+    return needed("matplotlib.figure", "matplotlib").Figure(figsize=(8.0, height), layout="constrained")
+
+
+def steps(signals: Mapping[str, Signal], end: int | None) -> Any:
+    """Returns a figure that draws each signal as steps over ticks, from its first value on."""
+    if not signals:
+        raise Fault("there is nothing to draw: name at least one signal, as GATE.TAKEN")
+    made = figure(0.6 + 1.1 * len(signals))
+    rows = made.subplots(len(signals), 1, sharex=True, squeeze=False)[:, 0]
+    for axes, (name, (ticks, values)) in zip(rows, signals.items()):
+        last = [max(end, ticks[-1])] if ticks and end is not None else []
+        axes.step(ticks + last, [int(it) for it in values + values[-1:] * len(last)], where="post")
+        axes.set_ylabel(name, rotation=0, ha="right", va="center")
+        if values and all(isinstance(it, bool) for it in values):
+            axes.set_yticks([0, 1], ["FALSE", "TRUE"])
+            axes.set_ylim(-0.2, 1.2)
+        axes.grid(True, alpha=0.3)
+    rows[-1].set_xlabel("tick [ms]")
+    return made
+
+
+def bars(latencies: Latencies, width: int | None) -> Any:
+    """Returns a figure with the histogram of latencies."""
+    made = figure(3.2)
+    axes, rows = made.subplots(), latencies.histogram(width)
+    axes.bar([low for low, _, _ in rows], [it for _, _, it in rows], [to - low for low, to, _ in rows], align="edge")
+    axes.set(xlabel="latency [ms]", ylabel="count")
+    return made
+
+
+def points(frame: Any, broken: Sequence[bool], x: str, y: str) -> Any:
+    """Returns a figure of two columns of a frame, with another mark for rows that break a rule."""
+    made = figure(4.0)
+    axes = made.subplots()
+    for value, mark, label in ((False, "o", "all rules hold"), (True, "x", "a rule is broken")):
+        rows = frame[[it == value for it in broken]]
+        if len(rows):
+            xs, ys = ([it if isinstance(it, (int, float)) else str(it) for it in rows[name]] for name in (x, y))
+            axes.plot(xs, ys, mark, label=label)
+    axes.set(xlabel=x, ylabel=y)
+    axes.legend()
+    return made

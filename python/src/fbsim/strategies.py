@@ -1,0 +1,22 @@
+"""Strategies of Hypothesis."""
+
+from __future__ import annotations
+
+from collections.abc import Mapping
+from operator import itemgetter
+from typing import Any
+
+from hypothesis import strategies
+
+
+def stimuli(events: Mapping[str, Mapping[str, Any]], ticks: Any, min_size: int = 0, max_size: int | None = None) -> Any:
+    """Returns a strategy of stimuli, in the order of their ticks, which shrinks to few stimuli with small values.
+
+    `events` has for each INSTANCE.EVENT the strategies of its variables: {"BEFORE.SENSE": {"COVERED": booleans()}}.
+    """
+    rows = [
+        strategies.tuples(ticks, strategies.just(event), strategies.fixed_dictionaries(dict(values)))
+        for event, values in events.items()
+    ]
+    lists = strategies.lists(strategies.one_of(rows), min_size=min_size, max_size=max_size)
+    return lists.map(lambda given: sorted(given, key=itemgetter(0)))
