@@ -42,7 +42,7 @@ class Imported(NamedTuple):
 
 
 def import_all(folder, files, *words, out="out"):
-    """Writes these files, imports those at the top with those below `lib` as the library, and returns what came of it."""
+    """Writes files, imports those at the top with those below `lib` as the library, and returns what came of it."""
     given = []
     for name, text in files.items():
         path = folder / name
@@ -124,7 +124,8 @@ def system(network, resources="", mapping="", name="App"):
 
 def resource(device, name, network=""):
     """Returns a device with one resource."""
-    return f'<Device Name="{device}" Type="X"><Resource Name="{name}" Type="EMB_RES"><FBNetwork>{network}</FBNetwork></Resource></Device>'
+    inside = f'<Resource Name="{name}" Type="EMB_RES"><FBNetwork>{network}</FBNetwork></Resource>'
+    return f'<Device Name="{device}" Type="X">{inside}</Device>'
 
 
 def connections(kind, *rows):

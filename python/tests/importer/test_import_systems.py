@@ -39,7 +39,8 @@ LANE = """<SubAppType Name="Lane">
   <SubAppNetwork><FB Name="D" Type="E_DELAY"/><FB Name="E" Type="E_DELAY"/>
     <EventConnections><Connection Source="GO" Destination="E.START"/><Connection Source="GO" Destination="D.START"/>
       <Connection Source="GO" Destination="PASSED"/><Connection Source="D.EO" Destination="DONE"/></EventConnections>
-    <DataConnections><Connection Source="TIME_1" Destination="D.DT"/><Connection Source="TIME_1" Destination="E.DT"/></DataConnections>
+    <DataConnections><Connection Source="TIME_1" Destination="D.DT"/>
+      <Connection Source="TIME_1" Destination="E.DT"/></DataConnections>
   </SubAppNetwork>
 </SubAppType>
 """
@@ -48,17 +49,23 @@ LANE = """<SubAppType Name="Lane">
 def test_nested_subapplications_are_flattened(tmp_path):
     outer = LANE.replace('"Lane"', '"Outer"').replace('<FB Name="D" Type="E_DELAY"/>', '<SubApp Name="D" Type="Lane"/>')
     outer = outer.replace("D.START", "D.GO").replace("D.EO", "D.DONE").replace("D.DT", "D.TIME_1")
-    network = ('<FB Name="P" Type="E_SPLIT"/><SubApp Name="SORT" Type="Outer"><Parameter Name="TIME_1" Value="T#2s"/></SubApp>'
-               '<SubApp Name="Plain"><SubAppNetwork><FB Name="M" Type="E_MERGE"/></SubAppNetwork></SubApp>'
-               '<FB Name="L" Type="E_MERGE"/>'
-               + connections("Event", "P.EO1 L.EI1", "P.EO1 SORT.GO", "P.EO1 L.EI2", "SORT.PASSED P.EI", "SORT.DONE L.EI1"))
+    network = (
+        '<FB Name="P" Type="E_SPLIT"/><SubApp Name="SORT" Type="Outer"><Parameter Name="TIME_1" Value="T#2s"/></SubApp>'
+        '<SubApp Name="Plain"><SubAppNetwork><FB Name="M" Type="E_MERGE"/></SubAppNetwork></SubApp>'
+        '<FB Name="L" Type="E_MERGE"/>'
+        + connections("Event", "P.EO1 L.EI1", "P.EO1 SORT.GO", "P.EO1 L.EI2", "SORT.PASSED P.EI", "SORT.DONE L.EI1")
+    )
     done = import_all(tmp_path, {"lib/Lane.sub": LANE, "lib/Outer.sub": outer, "A.sys": system(network)})
     assert done.status == 0, done.lines
-    assert ("FBS P : E_SPLIT; SORT__D__D : E_DELAY(DT := T#2000ms); SORT__D__E : E_DELAY(DT := T#2000ms); "
-            "SORT__E : E_DELAY(DT := T#2000ms); PLAIN__M : E_MERGE; L : E_MERGE; END_FBS") in done.declaration()
+    assert (
+        "FBS P : E_SPLIT; SORT__D__D : E_DELAY(DT := T#2000ms); SORT__D__E : E_DELAY(DT := T#2000ms); "
+        "SORT__E : E_DELAY(DT := T#2000ms); PLAIN__M : E_MERGE; L : E_MERGE; END_FBS"
+    ) in done.declaration()
     # What the events of P become, in the order of the connections from outside to inside; and what comes out.
-    assert ("P.EO1 TO L.EI1; P.EO1 TO SORT__E.START; P.EO1 TO SORT__D__E.START; P.EO1 TO SORT__D__D.START; P.EO1 TO P.EI; "
-            "P.EO1 TO L.EI2;") in done.declaration()
+    assert (
+        "P.EO1 TO L.EI1; P.EO1 TO SORT__E.START; P.EO1 TO SORT__D__E.START; P.EO1 TO SORT__D__D.START; P.EO1 TO P.EI; "
+        "P.EO1 TO L.EI2;"
+    ) in done.declaration()
     assert "SORT__D__D.EO TO L.EI1;" in done.declaration()
     assert done.declaration().count(" TO ") == 7
 
@@ -72,10 +79,11 @@ def test_a_subapplication_in_itself_and_a_circle_are_refused(tmp_path):
     text = LANE.replace('<FB Name="D" Type="E_DELAY"/>', '<SubApp Name="D" Type="Lane"/>').replace("D.START", "D.GO")
     text = text.replace("D.EO", "D.DONE").replace("D.DT", "D.TIME_1")
     done = import_all(tmp_path, {"lib/Lane.sub": text, "A.sys": system('<SubApp Name="S" Type="Lane"/>')})
-    assert done.lines == [f"lib/Lane.sub:{place_of(text, 'D', 2)}: subapplication Lane contains itself, or they nest more than 16 deep"] \
-        or "contains itself" in done.lines[0], done.lines
-    network = ('<FB Name="P" Type="E_SPLIT"/><SubApp Name="S" Type="Lane"/>'
-               + connections("Event", "P.EO1 S.GO", "S.PASSED S.GO"))
+    place = place_of(text, 'D" Type="Lane"')
+    assert done.lines == [f"lib/Lane.sub:{place}: subapplication Lane contains itself, or they nest more than 16 deep"]
+    network = '<FB Name="P" Type="E_SPLIT"/><SubApp Name="S" Type="Lane"/>' + connections(
+        "Event", "P.EO1 S.GO", "S.PASSED S.GO"
+    )
     text = system(network)
     done = import_all(tmp_path / "two", {"lib/Lane.sub": LANE, "A.sys": text})
     assert done.status == 2 and "lead in a circle" in done.lines[0], done.lines
@@ -83,10 +91,16 @@ def test_a_subapplication_in_itself_and_a_circle_are_refused(tmp_path):
 
 # ---- Mapping and links
 
+
 def test_each_pair_of_resources_that_a_connection_crosses_gets_a_link(tmp_path):
-    network = THREE + connections("Event", "A.EO B.S", "B.EO A.R", "C.EO A.S", "A.EO C.CLK") + connections("Data", "A.Q C.D")
-    text = system(network, resource("D1", "R1") + resource("D2", "R2") + resource("D3", "R3"),
-                  mappings("App", A="D1.R1", B="D2.R2", C="D3.R3"))
+    network = (
+        THREE + connections("Event", "A.EO B.S", "B.EO A.R", "C.EO A.S", "A.EO C.CLK") + connections("Data", "A.Q C.D")
+    )
+    text = system(
+        network,
+        resource("D1", "R1") + resource("D2", "R2") + resource("D3", "R3"),
+        mappings("App", A="D1.R1", B="D2.R2", C="D3.R3"),
+    )
     done = import_all(tmp_path, {"A.sys": text}, "--latency", "12")
     assert done.status == 0, done.lines
     pairs = [(it["from"], it["to"], it["latency"]) for it in deployment(done)["link"]]
@@ -95,44 +109,62 @@ def test_each_pair_of_resources_that_a_connection_crosses_gets_a_link(tmp_path):
 
 
 def test_resources_of_one_name_get_the_device_in_front(tmp_path):
-    text = system(THREE, resource("D1", "EMB_RES") + resource("D2", "EMB_RES") + resource("D3", "Main"),
-                  mappings("App", A="D1.EMB_RES", B="D2.EMB_RES"))
+    text = system(
+        THREE,
+        resource("D1", "EMB_RES") + resource("D2", "EMB_RES") + resource("D3", "Main"),
+        mappings("App", A="D1.EMB_RES", B="D2.EMB_RES"),
+    )
     done = import_all(tmp_path, {"A.sys": text})
     assert done.status == 0, done.lines
     found = [(it["device"], it["name"], it["instances"]) for it in deployment(done)["resource"]]
-    assert found == [("D1", "D1__EMB_RES", ["A"]), ("D2", "D2__EMB_RES", ["B"]), ("D3", "MAIN", []), ("DEV", "MAIN_1", ["C"])]
+    assert found == [
+        ("D1", "D1__EMB_RES", ["A"]),
+        ("D2", "D2__EMB_RES", ["B"]),
+        ("D3", "MAIN", []),
+        ("DEV", "MAIN_1", ["C"]),
+    ]
     assert "mapped nowhere, and so in resource MAIN_1 together: C" in done.text("import.txt")
 
 
 def test_the_instances_of_a_subapplication_follow_its_mapping_or_their_own(tmp_path):
-    text = system('<SubApp Name="S" Type="Lane"/>', resource("D1", "R1") + resource("D2", "R2"),
-                  mappings("App", S="D1.R1") + '<Mapping From="App.S.E" To="D2.R2.E"/>')
+    text = system(
+        '<SubApp Name="S" Type="Lane"/>',
+        resource("D1", "R1") + resource("D2", "R2"),
+        mappings("App", S="D1.R1") + '<Mapping From="App.S.E" To="D2.R2.E"/>',
+    )
     done = import_all(tmp_path, {"lib/Lane.sub": LANE, "A.sys": text})
     assert done.status == 0, done.lines
     assert [it["instances"] for it in deployment(done)["resource"]] == [["S__D"], ["S__E"]]
 
 
 def test_a_crossing_without_an_event_that_carries_it_is_reported_and_not_repaired(tmp_path):
-    text = system(THREE + LINK, resource("D1", "R1") + resource("D2", "R2"), mappings("App", A="D1.R1", B="D1.R1", C="D2.R2"))
+    text = system(
+        THREE + LINK, resource("D1", "R1") + resource("D2", "R2"), mappings("App", A="D1.R1", B="D1.R1", C="D2.R2")
+    )
     done = import_all(tmp_path, {"A.sys": text})
     assert done.status == 2
-    assert done.lines == [f"A.sys:{place_of(text, 'A.Q')}: E28: application APP: data connection A.Q TO C.D: "
-                          "no output event of A WITH Q goes to resource R2"]
+    assert done.lines == [
+        f"A.sys:{place_of(text, 'A.Q')}: E28: application APP: data connection A.Q TO C.D: "
+        "no output event of A WITH Q goes to resource R2"
+    ]
     assert not done.out.exists()
 
 
-@pytest.mark.parametrize("old, new, part, says", [
-    ('From="App.A"', 'From="App.X"', "App.X", "there is no instance X"),
-    ('From="App.A"', 'From="Other.A"', "Other.A", "Other.A is no instance of application App"),
-    ('To="D1.R1.A"', 'To="D1.R9.A"', "D1.R9.A", "D1.R9.A is no instance of a resource"),
-    ('From="App.B"', 'From="App.A"', 'App.A" To="D2', "A is mapped twice"),
-    ("A.EO B.S", "A.EO B.X", "B.X", "B.X: type E_SR has no event input X (it has S, R)"),
-    ("A.EO B.S", "A.X B.S", "A.X", "A.X: type E_SR has no event output X (it has EO)"),
-    ("A.EO B.S", "X.EO B.S", "X.EO", "there is no instance X"),
-    ("A.EO B.S", "EO B.S", "EO", "there is no port EO"),
-    ("A.EO B.S", "A.Q B.S", 'A.Q" Destination="B', "A.Q: type E_SR has no event output Q (it has EO)"),
-    ('<FB Name="B"', '<FB Name="A"', 'A" Type="E_SR"/><FB Name="C', "the instance A is given twice"),
-])
+@pytest.mark.parametrize(
+    "old, new, part, says",
+    [
+        ('From="App.A"', 'From="App.X"', "App.X", "there is no instance X"),
+        ('From="App.A"', 'From="Other.A"', "Other.A", "Other.A is no instance of application App"),
+        ('To="D1.R1.A"', 'To="D1.R9.A"', "D1.R9.A", "D1.R9.A is no instance of a resource"),
+        ('From="App.B"', 'From="App.A"', 'App.A" To="D2', "A is mapped twice"),
+        ("A.EO B.S", "A.EO B.X", "B.X", "B.X: type E_SR has no event input X (it has S, R)"),
+        ("A.EO B.S", "A.X B.S", "A.X", "A.X: type E_SR has no event output X (it has EO)"),
+        ("A.EO B.S", "X.EO B.S", "X.EO", "there is no instance X"),
+        ("A.EO B.S", "EO B.S", "EO", "there is no port EO"),
+        ("A.EO B.S", "A.Q B.S", 'A.Q" Destination="B', "A.Q: type E_SR has no event output Q (it has EO)"),
+        ('<FB Name="B"', '<FB Name="A"', 'A" Type="E_SR"/><FB Name="C', "the instance A is given twice"),
+    ],
+)
 def test_a_name_of_a_system_is_refused_at_its_place(old, new, part, says, tmp_path):
     network = THREE + connections("Event", new if old == "A.EO B.S" else "A.EO B.S")
     text = system(network, resource("D1", "R1") + resource("D2", "R2"), mappings("App", A="D1.R1", B="D2.R2"))
@@ -144,22 +176,34 @@ def test_a_name_of_a_system_is_refused_at_its_place(old, new, part, says, tmp_pa
 def test_one_application_and_one_system(tmp_path):
     text = system(THREE).replace("</Application>", '</Application><Application Name="Two"/>')
     done = import_all(tmp_path, {"A.sys": text})
-    assert done.lines == [f"A.sys:{place_of(text, '<Application', 2)}: the profile has one application: "
-                          "make a system of each, or draw them as one"]
+    assert done.lines == [
+        f"A.sys:{place_of(text, '<Application', 2)}: the profile has one application: "
+        "make a system of each, or draw them as one"
+    ]
     done = import_all(tmp_path / "two", {"A.sys": system(THREE), "B.sys": system(THREE)})
     assert done.lines == ["B.sys:1:1: there is more than one system: import them one by one"]
 
 
 # ---- Networks of resources
 
+
 def test_the_start_of_each_resource_is_an_instance(tmp_path):
-    text = system(THREE, resource("D1", "R1", connections("Event", "START.COLD A.S"))
-                  + resource("D2", "R2", '<FB Name="START" Type="E_RESTART"/><FB Name="A" Type="E_SPLIT"/>'
-                             + connections("Event", "START.COLD A.EI", "A.EO1 B.S", "START.COLD C.CLK")),
-                  mappings("App", A="D1.R1", B="D2.R2", C="D2.R2"))
+    text = system(
+        THREE,
+        resource("D1", "R1", connections("Event", "START.COLD A.S"))
+        + resource(
+            "D2",
+            "R2",
+            '<FB Name="START" Type="E_RESTART"/><FB Name="A" Type="E_SPLIT"/>'
+            + connections("Event", "START.COLD A.EI", "A.EO1 B.S", "START.COLD C.CLK"),
+        ),
+        mappings("App", A="D1.R1", B="D2.R2", C="D2.R2"),
+    )
     done = import_all(tmp_path, {"A.sys": text})
     assert done.status == 0, done.lines
-    assert done.run(1) == """\
+    assert (
+        done.run(1)
+        == """\
 0 R1 < R1__START.COLD
 0 R1 > A.S
 0 R1 < A.EO Q=TRUE
@@ -172,21 +216,35 @@ def test_the_start_of_each_resource_is_an_instance(tmp_path):
 0 R2 < B.EO Q=TRUE
 end 1
 """
+    )
 
 
 def test_a_resource_may_repeat_instances_and_connections_of_the_application(tmp_path):
-    inside = '<FB Name="A" Type="E_SR"/><FB Name="X" Type="E_D_FF"><Parameter Name="D" Value="1"/></FB>' \
-        + connections("Event", "A.EO X.CLK")
+    inside = '<FB Name="A" Type="E_SR"/><FB Name="X" Type="E_D_FF"><Parameter Name="D" Value="1"/></FB>' + connections(
+        "Event", "A.EO X.CLK"
+    )
     network = THREE + connections("Event", "A.EO C.CLK")
-    text = system(network, resource("D1", "R1", inside), '<Mapping From="App.A" To="D1.R1.A"/><Mapping From="App.C" To="D1.R1.X"/>')
+    text = system(
+        network,
+        resource("D1", "R1", inside),
+        '<Mapping From="App.A" To="D1.R1.A"/><Mapping From="App.C" To="D1.R1.X"/>',
+    )
     done = import_all(tmp_path, {"A.sys": text})
     assert done.status == 0, done.lines
-    assert "FBS A : E_SR; B : E_SR; C : E_D_FF(D := TRUE); END_FBS EVENT_CONNECTIONS A.EO TO C.CLK; END_CONNECTIONS" in done.declaration()
-    assert f"A.sys:{place_of(text, 'A.EO', 2)}: this connection of the application is given again in a resource" in done.text("import.txt")
+    assert (
+        "FBS A : E_SR; B : E_SR; C : E_D_FF(D := TRUE); END_FBS EVENT_CONNECTIONS A.EO TO C.CLK; END_CONNECTIONS"
+        in done.declaration()
+    )
+    assert (
+        f"A.sys:{place_of(text, 'A.EO', 2)}: this connection of the application is given again in a resource"
+        in done.text("import.txt")
+    )
 
 
 def test_a_system_with_networks_of_resources_alone(tmp_path):
-    inside = '<FB Name="C" Type="E_CYCLE"><Parameter Name="DT" Value="T#2ms"/></FB>' + connections("Event", "START.COLD C.START")
+    inside = '<FB Name="C" Type="E_CYCLE"><Parameter Name="DT" Value="T#2ms"/></FB>' + connections(
+        "Event", "START.COLD C.START"
+    )
     text = f'<System Name="Sys">{resource("D1", "R1", inside)}{resource("D2", "R2", inside)}</System>'
     done = import_all(tmp_path, {"A.sys": text})
     assert done.status == 0, done.lines
@@ -196,24 +254,40 @@ def test_a_system_with_networks_of_resources_alone(tmp_path):
 
 # ---- Communication blocks
 
+
 def service_block(name, kind, identifier="1.2.3.4:5"):
-    return (f'<FB Name="{name}" Type="{kind}"><Parameter Name="QI" Value="1"/>'
-            f'<Parameter Name="ID" Value="&quot;{identifier}&quot;"/></FB>')
+    return (
+        f'<FB Name="{name}" Type="{kind}"><Parameter Name="QI" Value="1"/>'
+        f'<Parameter Name="ID" Value="&quot;{identifier}&quot;"/></FB>'
+    )
 
 
 COUNTER = '<FB Name="N" Type="E_CTU"/><FB Name="L" Type="E_CTU"/><FB Name="K" Type="E_MERGE"/>'
 
 
 def test_publish_and_subscribe_become_the_connections_that_they_carry(tmp_path):
-    sender = service_block("P", "PUBLISH_1") + connections("Event", "START.COLD P.INIT", "P.INITO N.CU", "N.CUO P.REQ", "P.CNF K.EI1") \
+    sender = (
+        service_block("P", "PUBLISH_1")
+        + connections("Event", "START.COLD P.INIT", "P.INITO N.CU", "N.CUO P.REQ", "P.CNF K.EI1")
         + connections("Data", "N.CV P.SD_1")
-    receiver = service_block("S", "SUBSCRIBE_1") + connections("Event", "S.IND L.CU") + connections("Data", "S.RD_1 L.PV")
-    text = system(COUNTER, resource("D1", "R1", sender) + resource("D2", "R2", receiver), mappings("App", N="D1.R1", K="D1.R1", L="D2.R2"))
+    )
+    receiver = (
+        service_block("S", "SUBSCRIBE_1") + connections("Event", "S.IND L.CU") + connections("Data", "S.RD_1 L.PV")
+    )
+    text = system(
+        COUNTER,
+        resource("D1", "R1", sender) + resource("D2", "R2", receiver),
+        mappings("App", N="D1.R1", K="D1.R1", L="D2.R2"),
+    )
     done = import_all(tmp_path, {"A.sys": text}, "--latency", "3")
     assert done.status == 0, done.lines
-    assert ("EVENT_CONNECTIONS R1__START.COLD TO N.CU; N.CUO TO L.CU; N.CUO TO K.EI1; END_CONNECTIONS "
-            "DATA_CONNECTIONS N.CV TO L.PV; END_CONNECTIONS") in done.declaration()
-    assert done.run(5) == """\
+    assert (
+        "EVENT_CONNECTIONS R1__START.COLD TO N.CU; N.CUO TO L.CU; N.CUO TO K.EI1; END_CONNECTIONS "
+        "DATA_CONNECTIONS N.CV TO L.PV; END_CONNECTIONS"
+    ) in done.declaration()
+    assert (
+        done.run(5)
+        == """\
 0 R1 < R1__START.COLD
 0 R1 > N.CU PV=0
 0 R1 < N.CUO Q=TRUE CV=1
@@ -223,76 +297,135 @@ def test_publish_and_subscribe_become_the_connections_that_they_carry(tmp_path):
 3 R2 < L.CUO Q=TRUE CV=1
 end 5
 """
+    )
 
 
 def test_client_and_server_become_connections_both_ways(tmp_path):
-    client = service_block("C", "CLIENT_1_1") + connections("Event", "N.CUO C.REQ", "C.CNF N.R") + connections("Data", "N.CV C.SD_1")
-    server = service_block("S", "SERVER_1_1") + connections("Event", "S.IND L.CU", "L.CUO S.RSP") \
+    client = (
+        service_block("C", "CLIENT_1_1")
+        + connections("Event", "N.CUO C.REQ", "C.CNF N.R")
+        + connections("Data", "N.CV C.SD_1")
+    )
+    server = (
+        service_block("S", "SERVER_1_1")
+        + connections("Event", "S.IND L.CU", "L.CUO S.RSP")
         + connections("Data", "S.RD_1 L.PV", "L.CV S.SD_1")
+    )
     client = client.replace("</DataConnections>", '<Connection Source="C.RD_1" Destination="N.PV"/></DataConnections>')
-    text = system(COUNTER, resource("D1", "R1", client) + resource("D2", "R2", server), mappings("App", N="D1.R1", K="D1.R1", L="D2.R2"))
+    text = system(
+        COUNTER,
+        resource("D1", "R1", client) + resource("D2", "R2", server),
+        mappings("App", N="D1.R1", K="D1.R1", L="D2.R2"),
+    )
     done = import_all(tmp_path, {"A.sys": text})
     assert done.status == 0, done.lines
-    assert ("EVENT_CONNECTIONS N.CUO TO L.CU; L.CUO TO N.R; END_CONNECTIONS "
-            "DATA_CONNECTIONS N.CV TO L.PV; L.CV TO N.PV; END_CONNECTIONS") in done.declaration()
+    assert (
+        "EVENT_CONNECTIONS N.CUO TO L.CU; L.CUO TO N.R; END_CONNECTIONS "
+        "DATA_CONNECTIONS N.CV TO L.PV; L.CV TO N.PV; END_CONNECTIONS"
+    ) in done.declaration()
 
 
 def test_a_publisher_has_several_subscribers(tmp_path):
     inside = service_block("P", "PUBLISH_0") + connections("Event", "N.CUO P.REQ")
-    other = service_block("S", "SUBSCRIBE_0") + service_block("T", "SUBSCRIBE_0") + connections("Event", "S.IND L.CU", "T.IND L.R")
-    text = system(COUNTER, resource("D1", "R1", inside) + resource("D2", "R2", other), mappings("App", N="D1.R1", K="D1.R1", L="D2.R2"))
+    other = (
+        service_block("S", "SUBSCRIBE_0")
+        + service_block("T", "SUBSCRIBE_0")
+        + connections("Event", "S.IND L.CU", "T.IND L.R")
+    )
+    text = system(
+        COUNTER,
+        resource("D1", "R1", inside) + resource("D2", "R2", other),
+        mappings("App", N="D1.R1", K="D1.R1", L="D2.R2"),
+    )
     done = import_all(tmp_path, {"A.sys": text})
     assert "EVENT_CONNECTIONS N.CUO TO L.CU; N.CUO TO L.R; END_CONNECTIONS" in done.declaration(), done.lines
 
 
-@pytest.mark.parametrize("block, other, says", [
-    (service_block("P", "PUBLISH_1"), "", "there is no SUBSCRIBE with its ID 1.2.3.4:5"),
-    (service_block("S", "SUBSCRIBE_1"), service_block("P", "PUBLISH_1", "9:9"), "there is no PUBLISH with its ID 1.2.3.4:5"),
-    (service_block("C", "CLIENT_1_1"), "", "there is no SERVER with its ID 1.2.3.4:5"),
-    ('<FB Name="P" Type="PUBLISH_1"/>', "", "it has no ID as a parameter"),
-    (service_block("C", "CLIENT_1"), service_block("D", "CLIENT_1") + service_block("S", "SERVER_1"), "there is more than one CLIENT"),
-])
+@pytest.mark.parametrize(
+    "block, other, says",
+    [
+        (service_block("P", "PUBLISH_1"), "", "there is no SUBSCRIBE with its ID 1.2.3.4:5"),
+        (
+            service_block("S", "SUBSCRIBE_1"),
+            service_block("P", "PUBLISH_1", "9:9"),
+            "there is no PUBLISH with its ID 1.2.3.4:5",
+        ),
+        (service_block("C", "CLIENT_1_1"), "", "there is no SERVER with its ID 1.2.3.4:5"),
+        ('<FB Name="P" Type="PUBLISH_1"/>', "", "it has no ID as a parameter"),
+        (
+            service_block("C", "CLIENT_1"),
+            service_block("D", "CLIENT_1") + service_block("S", "SERVER_1"),
+            "there is more than one CLIENT",
+        ),
+    ],
+)
 def test_a_communication_block_without_a_partner_is_refused(block, other, says, tmp_path):
     text = system(COUNTER + block + other)
     done = import_all(tmp_path, {"A.sys": text})
     name = block.split('"')[1]
     place = place_of(text, f'{name}" Type="{block.split(chr(34))[3]}')
     assert done.status == 2
-    assert [it for it in done.lines if it.startswith(f"A.sys:{place}: ") and says in it.replace("'", "")], (place, done.lines)
+    assert [it for it in done.lines if it.startswith(f"A.sys:{place}: ") and says in it.replace("'", "")], (
+        place,
+        done.lines,
+    )
 
 
 def test_a_status_of_communication_is_refused(tmp_path):
-    text = system(COUNTER + service_block("P", "PUBLISH_0") + service_block("S", "SUBSCRIBE_0") + '<FB Name="X" Type="E_PERMIT"/>'
-                  + connections("Data", "S.QO X.PERMIT"))
+    text = system(
+        COUNTER
+        + service_block("P", "PUBLISH_0")
+        + service_block("S", "SUBSCRIBE_0")
+        + '<FB Name="X" Type="E_PERMIT"/>'
+        + connections("Data", "S.QO X.PERMIT")
+    )
     done = import_all(tmp_path, {"A.sys": text})
     assert done.lines == [f"A.sys:{place_of(text, 'S.QO')}: QO of SUBSCRIBE_0 is not simulated: links don't fail"]
 
 
 def test_communication_inside_a_composite_type_is_refused(tmp_path):
-    text = ('<FBType Name="Box"><InterfaceList/><FBNetwork>' + service_block("P", "PUBLISH_0") + service_block("S", "SUBSCRIBE_0")
-            + "</FBNetwork></FBType>")
+    text = (
+        '<FBType Name="Box"><InterfaceList/><FBNetwork>'
+        + service_block("P", "PUBLISH_0")
+        + service_block("S", "SUBSCRIBE_0")
+        + "</FBNetwork></FBType>"
+    )
     done = import_all(tmp_path, {"Box.fbt": text})
-    assert done.status == 2 and all("communication blocks are for applications and resources" in it for it in done.lines), done.lines
+    assert done.status == 2 and all(
+        "communication blocks are for applications and resources" in it for it in done.lines
+    ), done.lines
 
 
 def test_too_many_instances_are_refused(tmp_path):
     ten = "".join(f'<SubApp Name="S{it}" Type="NEXT"/>' for it in range(10))
-    files = {f"lib/L{it}.sub": f'<SubAppType Name="L{it}"><SubAppNetwork>{ten.replace("NEXT", f"L{it + 1}")}</SubAppNetwork></SubAppType>'
-             for it in range(9)}
+    files = {
+        f"lib/L{it}.sub": f'<SubAppType Name="L{it}"><SubAppNetwork>'
+        f'{ten.replace("NEXT", f"L{it + 1}")}</SubAppNetwork></SubAppType>'
+        for it in range(9)
+    }
     files["lib/L9.sub"] = '<SubAppType Name="L9"><SubAppNetwork><FB Name="A" Type="E_SR"/></SubAppNetwork></SubAppType>'
     done = import_all(tmp_path, {**files, "A.sys": system('<SubApp Name="S" Type="L0"/>')})
-    assert done.status == 2 and done.lines == [f"lib/L9.sub:1:{len('<SubAppType Name=.L9.><SubAppNetwork><FB Name=.') + 1}: "
-                                               "there are more than 4,096 instances"], done.lines
+    assert done.status == 2 and done.lines == [
+        f"lib/L9.sub:1:{len('<SubAppType Name=.L9.><SubAppNetwork><FB Name=.') + 1}: "
+        "there are more than 4,096 instances"
+    ], done.lines
 
 
 def test_a_basic_type_in_two_devices(tmp_path):
-    network = '<FB Name="A" Type="Adder"/><FB Name="B" Type="Adder"/>' + connections("Event", "A.CNF B.REQ") + connections("Data", "A.SUM B.A")
+    network = (
+        '<FB Name="A" Type="Adder"/><FB Name="B" Type="Adder"/>'
+        + connections("Event", "A.CNF B.REQ")
+        + connections("Data", "A.SUM B.A")
+    )
     text = system(network, resource("D1", "R1") + resource("D2", "R2"), mappings("App", A="D1.R1", B="D2.R2"))
     done = import_all(tmp_path, {"lib/Adder.fbt": basic("SUM := A + 1;"), "A.sys": text}, "--latency", "4")
-    assert done.run(9, "tick,event,values\n2,A.REQ,A=5\n") == """\
+    assert (
+        done.run(9, "tick,event,values\n2,A.REQ,A=5\n")
+        == """\
 2 R1 > A.REQ A=5 QI=FALSE
 2 R1 < A.CNF SUM=6
 6 R2 > B.REQ A=6 QI=FALSE
 6 R2 < B.CNF SUM=7
 end 9
-""", done.lines
+"""
+    ), done.lines

@@ -16,7 +16,8 @@ BODIES = {
     "ON := QI = 1;": "ON := QI = TRUE;",
     "ON := A = 1;": "ON := A = 1;",
     "ON := NOT (0) OR (QI AND 1);": "ON := NOT (FALSE) OR (QI AND TRUE);",
-    "IF 1 THEN SUM := 1; ELSIF QI <> 0 THEN SUM := 0; END_IF;": "IF TRUE THEN SUM := 1; ELSIF QI <> FALSE THEN SUM := 0; END_IF;",
+    "IF 1 THEN SUM := 1; ELSIF QI <> 0 THEN SUM := 0; END_IF;":
+        "IF TRUE THEN SUM := 1; ELSIF QI <> FALSE THEN SUM := 0; END_IF;",
     "WHILE 0 DO SUM := 1; END_WHILE;": "WHILE FALSE DO SUM := 1; END_WHILE;",
     "REPEAT SUM := 1; UNTIL 1 END_REPEAT": "REPEAT SUM := 1; UNTIL TRUE END_REPEAT;",
     "SUM := SEL(0, 1, A);": "SUM := SEL(FALSE, 1, A);",
@@ -111,7 +112,7 @@ REFUSED = [
     ("T := T#5s5m;", "T#5s5m", "is no time in whole milliseconds"),
     ("T := DATE#2020-01-01;", "DATE#2020-01-01", "is no literal of the profile"),
     ("SUM := B[3];", "[3]", "is used as an array"),
-    ("SUM := B.X;", "B.X", "there is no variable 'B.X'"),
+    ("SUM := B.X;", "B.X", "there is no variable B.X"),
     ("SUM := CONCAT(A, B);", "CONCAT", "CONCAT is no function of the profile"),
     ("SUM := REAL_TO_INT(A);", "REAL_TO_INT", "REAL_TO_INT is no function of the profile"),
     ("SUM := TIME_TO_DINT(T);", "TIME_TO_DINT", "TIME_TO_DINT is no function of the profile"),
@@ -120,8 +121,8 @@ REFUSED = [
     ("TIMER(IN := QI);", "TIMER", "calls as statements"),
     ("FOR B := 1 TO 2 DO CONTINUE; END_FOR;", "CONTINUE", "CONTINUE"),
     ("SUM := %IW0;", "%", "% is not in the profile"),
-    ("SUM := NOWHERE;", "NOWHERE", "there is no variable 'NOWHERE'"),
-    ("SUM := REQ;", "REQ;", "there is no variable 'REQ'"),
+    ("SUM := NOWHERE;", "NOWHERE", "there is no variable NOWHERE"),
+    ("SUM := REQ;", "REQ;", "there is no variable REQ"),
     ("SUM := A +;", ";", "found ;, expected a value"),
     ("SUM := (* open", "(* open", "is a comment that is not closed"),
     ("VAR_TEMP X : REAL; END_VAR SUM := 1;", "REAL", "REAL is no type of the profile"),
@@ -137,34 +138,42 @@ def test_what_the_profile_lacks_is_refused_at_its_place(body, part, says, tmp_pa
     assert done.status == 2
     line, column = place_of(text, body).split(":")
     place = f"Adder.fbt:{line}:{int(column) + body.index(part)}: "
-    assert any(it.startswith(place) and says in it.replace("there is no variable ", "there is no variable ") or
-               it.startswith(place) and says.replace("'", "") in it for it in done.lines), done.lines
+    assert [it for it in done.lines if it.startswith(place) and says in it], done.lines
     assert not done.out.exists()
 
 
-@pytest.mark.parametrize("condition, part, says", [
-    ("", "", "expected a value"),
-    ("REQ OR QI", "OR", "found OR, expected &amp;"),
-    ("REQ &amp; QI OR ON", "OR ON", "expected the end"),
-    ("QI &amp; REQ", "REQ", "there is no variable REQ"),
-    ("NOWHERE", "NOWHERE", "there is no variable NOWHERE"),
-    ("REQ[QI", "", "expected ]"),
-    ("[A &gt; 1.5]", "1.5", "1.5 is a REAL"),
-])
+@pytest.mark.parametrize(
+    "condition, part, says",
+    [
+        ("", "", "expected a value"),
+        ("REQ OR QI", "OR", "found OR, expected &amp;"),
+        ("REQ &amp; QI OR ON", "OR ON", "expected the end"),
+        ("QI &amp; REQ", "REQ", "there is no variable REQ"),
+        ("NOWHERE", "NOWHERE", "there is no variable NOWHERE"),
+        ("REQ[QI", "", "expected ]"),
+        ("[A &gt; 1.5]", "1.5", "1.5 is a REAL"),
+    ],
+)
 def test_a_condition_is_refused_at_its_place(condition, part, says, tmp_path):
     text = basic(condition=condition)
     done = import_all(tmp_path, {"Adder.fbt": text})
     assert done.status == 2
     line, column = place_of(text, f'Condition="{condition}"').split(":")
     offset = len('Condition="') + (condition.index(part) if part else len(condition))
-    assert [it for it in done.lines if it.startswith(f"Adder.fbt:{line}:{int(column) + offset}: ") and
-            says.replace("&amp;", "&") in it], done.lines
+    assert [
+        it
+        for it in done.lines
+        if it.startswith(f"Adder.fbt:{line}:{int(column) + offset}: ") and says.replace("&amp;", "&") in it
+    ], done.lines
 
 
 def test_all_refusals_come_in_one_go(tmp_path):
-    text = basic("SUM := 1.5;\nT := DT#2020-01-01-00:00:00;\nSUM := FOO(2.5) + B[1];\nSUM := ;\nSUM := 'x';", "REQ[3.5 > A]")
-    text = text.replace('Name="B" Type="INT"', 'Name="B" Type="LREAL"').replace('<VarDeclaration Name="SUM" Type="INT"/>',
-                                                                                '<VarDeclaration Name="SUM" Type="WORD"/>')
+    text = basic(
+        "SUM := 1.5;\nT := DT#2020-01-01-00:00:00;\nSUM := FOO(2.5) + B[1];\nSUM := ;\nSUM := 'x';", "REQ[3.5 > A]"
+    )
+    text = text.replace('Name="B" Type="INT"', 'Name="B" Type="LREAL"').replace(
+        '<VarDeclaration Name="SUM" Type="INT"/>', '<VarDeclaration Name="SUM" Type="WORD"/>'
+    )
     done = import_all(tmp_path, {"Adder.fbt": text})
     assert done.status == 2
     parts = ["LREAL", "WORD", "1.5", "DT#2020", "FOO", "2.5", "[1]", " ;", "'x'", "3.5"]
@@ -180,7 +189,9 @@ def test_faults_that_only_the_simulator_sees_are_mapped_back(tmp_path):
     done = import_all(tmp_path, {"Adder.fbt": text})
     assert done.status == 2
     line, column = place_of(text, "QI + 1").split(":")
-    assert done.lines[0].startswith(f"Adder.fbt:{line}:{int(column) - 7}: E22: block type ADDER: algorithm ADD: statement 2")
+    assert done.lines[0].startswith(
+        f"Adder.fbt:{line}:{int(column) - 7}: E22: block type ADDER: algorithm ADD: statement 2"
+    )
     assert done.lines[1].startswith(f"Adder.fbt:{place_of(text, 'ON := A')}: E22")
 
 
@@ -191,11 +202,21 @@ def test_a_fault_of_syntax_that_only_the_simulator_sees_is_mapped_back(tmp_path)
     assert done.lines == [f"Adder.fbt:{place_of(text, 'ELSE SUM')}: E03: " + done.lines[0].split("E03: ")[1]]
 
 
-@pytest.mark.parametrize("kind, value, out", [
-    ("BOOL", "1", "TRUE"), ("BOOL", "0", "FALSE"), ("BOOL", "true", "TRUE"), ("BOOL", "BOOL#0", "FALSE"), ("INT", "-5", "-5"),
-    ("INT", "INT#5", "5"), ("UINT", "16#FF", "16#FF"), ("TIME", "T#1.5s", "T#1500ms"), ("TIME", "t#2h", "T#7200000ms"),
-    ("LINT", " LINT#7 ", "7"),
-])
+@pytest.mark.parametrize(
+    "kind, value, out",
+    [
+        ("BOOL", "1", "TRUE"),
+        ("BOOL", "0", "FALSE"),
+        ("BOOL", "true", "TRUE"),
+        ("BOOL", "BOOL#0", "FALSE"),
+        ("INT", "-5", "-5"),
+        ("INT", "INT#5", "5"),
+        ("UINT", "16#FF", "16#FF"),
+        ("TIME", "T#1.5s", "T#1500ms"),
+        ("TIME", "t#2h", "T#7200000ms"),
+        ("LINT", " LINT#7 ", "7"),
+    ],
+)
 def test_an_initial_value_is_converted(kind, value, out, tmp_path):
     text = basic("").replace('Name="B" Type="INT"', f'Name="B" Type="{kind}" InitialValue="{value}"')
     done = import_all(tmp_path, {"Adder.fbt": text})
@@ -203,8 +224,10 @@ def test_an_initial_value_is_converted(kind, value, out, tmp_path):
     assert f"B : {kind} := {out};" in done.text("types.iec")
 
 
-@pytest.mark.parametrize("kind, value", [("INT", "1.5"), ("INT", "[1, 2]"), ("BOOL", "-1"), ("TIME", "T#1.5ms"), ("INT", "X + 1"),
-                                         ("INT", "'a'")])
+@pytest.mark.parametrize(
+    "kind, value",
+    [("INT", "1.5"), ("INT", "[1, 2]"), ("BOOL", "-1"), ("TIME", "T#1.5ms"), ("INT", "X + 1"), ("INT", "'a'")],
+)
 def test_an_initial_value_that_the_profile_lacks_is_refused(kind, value, tmp_path):
     text = basic("").replace('Name="B" Type="INT"', f'Name="B" Type="{kind}" InitialValue="{value}"')
     done = import_all(tmp_path, {"Adder.fbt": text})
@@ -212,7 +235,9 @@ def test_an_initial_value_that_the_profile_lacks_is_refused(kind, value, tmp_pat
     assert any(it.startswith(f"Adder.fbt:{place_of(text, value)}: ") for it in done.lines), done.lines
 
 
-@pytest.mark.parametrize("kind", ["REAL", "LREAL", "STRING", "WSTRING", "BYTE", "WORD", "DWORD", "LWORD", "DATE", "ANY", "COLOR", ""])
+@pytest.mark.parametrize(
+    "kind", ["REAL", "LREAL", "STRING", "WSTRING", "BYTE", "WORD", "DWORD", "LWORD", "DATE", "ANY", "COLOR", ""]
+)
 def test_a_type_that_the_profile_lacks_is_refused(kind, tmp_path):
     text = basic("").replace('Name="B" Type="INT"', f'Name="B" Type="{kind}"')
     done = import_all(tmp_path, {"Adder.fbt": text})

@@ -55,7 +55,8 @@ SHELL = """<FBType Name="Shell">
 """
 MASTER_AND_SLAVE = system(
     '<FB Name="M" Type="Master"/><FB Name="W" Type="Slave"/>'
-    '<AdapterConnections><Connection Source="M.P" Destination="W.S"/></AdapterConnections>')
+    '<AdapterConnections><Connection Source="M.P" Destination="W.S"/></AdapterConnections>'
+)
 FILES = {"lib/Drive.adp": ADAPTER, "lib/Master.fbt": MASTER, "lib/Slave.fbt": SLAVE, "lib/Shell.fbt": SHELL}
 TWO = "tick,event,values\n1,M.GO,\n2,M.GO,\n"
 
@@ -64,7 +65,9 @@ def test_an_adapter_becomes_ports(tmp_path):
     done = import_all(tmp_path, {**FILES, "A.sys": MASTER_AND_SLAVE})
     assert done.status == 0, done.lines
     # The master asks with 7 and then 14; the slave adds up: 7, 21.
-    assert done.run(3, TWO) == """\
+    assert (
+        done.run(3, TWO)
+        == """\
 1 MAIN > M.GO
 1 MAIN < M.P__RUN P__SPEED=7
 1 MAIN > W.S__RUN S__SPEED=7
@@ -79,12 +82,17 @@ def test_an_adapter_becomes_ports(tmp_path):
 2 MAIN < M.READY N=21
 end 3
 """
+    )
 
 
 def test_a_composite_hands_an_adapter_on(tmp_path):
-    done = import_all(tmp_path, {**FILES, "A.sys": MASTER_AND_SLAVE.replace('"Slave"', '"Shell"').replace("W.S", "W.OUTER")})
+    done = import_all(
+        tmp_path, {**FILES, "A.sys": MASTER_AND_SLAVE.replace('"Slave"', '"Shell"').replace("W.S", "W.OUTER")}
+    )
     assert done.status == 0, done.lines
-    assert done.run(2, TWO) == """\
+    assert (
+        done.run(2, TWO)
+        == """\
 1 MAIN > M.GO
 1 MAIN < M.P__RUN P__SPEED=7
 1 MAIN > W.OUTER__RUN OUTER__SPEED=7
@@ -95,14 +103,18 @@ def test_a_composite_hands_an_adapter_on(tmp_path):
 1 MAIN < M.READY N=7
 end 2
 """
+    )
 
 
-@pytest.mark.parametrize("source, target, part, says", [
-    ("W.S", "M.P", "W.S", "W.S: type Slave has no plug S"),
-    ("M.P", "M.P", 'Destination="M.P', "M.P: type Master has no socket P"),
-    ("M.X", "W.S", "M.X", "M.X: type Master has no plug X"),
-    ("X.P", "W.S", "X.P", "there is no instance X"),
-])
+@pytest.mark.parametrize(
+    "source, target, part, says",
+    [
+        ("W.S", "M.P", "W.S", "W.S: type Slave has no plug S"),
+        ("M.P", "M.P", 'Destination="M.P', "M.P: type Master has no socket P"),
+        ("M.X", "W.S", "M.X", "M.X: type Master has no plug X"),
+        ("X.P", "W.S", "X.P", "there is no instance X"),
+    ],
+)
 def test_an_adapter_connection_is_refused_at_its_place(source, target, part, says, tmp_path):
     text = MASTER_AND_SLAVE.replace('Source="M.P" Destination="W.S"', f'Source="{source}" Destination="{target}"')
     done = import_all(tmp_path, {**FILES, "A.sys": text})
@@ -120,7 +132,8 @@ COMPOSITE = """<FBType Name="Twice">
   </InterfaceList>
   <FBNetwork>
     <FB Name="ONE" Type="Adder"/><FB Name="TWO" Type="Adder"><Parameter Name="QI" Value="1"/></FB>
-    <EventConnections><Connection Source="EI" Destination="ONE.REQ"/><Connection Source="ONE.CNF" Destination="TWO.REQ"/>
+    <EventConnections><Connection Source="EI" Destination="ONE.REQ"/>
+      <Connection Source="ONE.CNF" Destination="TWO.REQ"/>
       <Connection Source="TWO.CNF" Destination="EO"/></EventConnections>
     <DataConnections><Connection Source="N" Destination="ONE.A"/><Connection Source="ONE.SUM" Destination="TWO.A"/>
       <Connection Source="TWO.SUM" Destination="M"/></DataConnections>
@@ -134,7 +147,9 @@ def test_a_composite_stays_one_and_keeps_the_order_of_its_connections(tmp_path):
     files = {"lib/Twice.fbt": COMPOSITE, "lib/Adder.fbt": basic("SUM := A * 2;"), "A.sys": system(network)}
     done = import_all(tmp_path, files)
     assert done.status == 0, done.lines
-    assert done.run(1, "tick,event,values\n0,T.EI,N=21\n") == """\
+    assert (
+        done.run(1, "tick,event,values\n0,T.EI,N=21\n")
+        == """\
 0 MAIN > T.EI N=21
 0 MAIN > T.ONE.REQ A=21 QI=FALSE
 0 MAIN < T.ONE.CNF SUM=42
@@ -143,11 +158,16 @@ def test_a_composite_stays_one_and_keeps_the_order_of_its_connections(tmp_path):
 0 MAIN < T.EO M=84
 end 1
 """
+    )
 
 
 def test_types_are_written_if_they_are_reached_and_after_those_that_they_use(tmp_path):
-    files = {"lib/Twice.fbt": COMPOSITE, "lib/sub/Adder.fbt": basic(), "lib/Other.fbt": basic().replace("Adder", "Other"),
-             "A.sys": system('<FB Name="T" Type="Twice"/>')}
+    files = {
+        "lib/Twice.fbt": COMPOSITE,
+        "lib/sub/Adder.fbt": basic(),
+        "lib/Other.fbt": basic().replace("Adder", "Other"),
+        "A.sys": system('<FB Name="T" Type="Twice"/>'),
+    }
     done = import_all(tmp_path, files)
     assert done.status == 0, done.lines
     text = done.text("types.iec")
@@ -165,9 +185,11 @@ SIMPLE = """<FBType Name="Simple">
   <InterfaceList>
     <EventInputs><Event Name="REQ"><With Var="A"/></Event><Event Name="CLEAR"/></EventInputs>
     <EventOutputs><Event Name="CNF"><With Var="B"/></Event></EventOutputs>
-    <InputVars><VarDeclaration Name="A" Type="INT"/></InputVars><OutputVars><VarDeclaration Name="B" Type="INT"/></OutputVars>
+    <InputVars><VarDeclaration Name="A" Type="INT"/></InputVars>
+    <OutputVars><VarDeclaration Name="B" Type="INT"/></OutputVars>
   </InterfaceList>
-  <SimpleFB><Algorithm Name="REQ"><ST>B := B + A;</ST></Algorithm><Algorithm Name="CLEAR"><ST>B := 0;</ST></Algorithm></SimpleFB>
+  <SimpleFB><Algorithm Name="REQ"><ST>B := B + A;</ST></Algorithm>
+    <Algorithm Name="CLEAR"><ST>B := 0;</ST></Algorithm></SimpleFB>
 </FBType>
 """
 
@@ -175,7 +197,9 @@ SIMPLE = """<FBType Name="Simple">
 def test_a_simple_type_gets_a_chart(tmp_path):
     done = import_all(tmp_path, {"Simple.fbt": SIMPLE})
     assert done.status == 0, done.lines
-    assert done.run(4, "tick,event,values\n0,SIMPLE.REQ,A=3\n1,SIMPLE.REQ,A=4\n2,SIMPLE.CLEAR,\n") == """\
+    assert (
+        done.run(4, "tick,event,values\n0,SIMPLE.REQ,A=3\n1,SIMPLE.REQ,A=4\n2,SIMPLE.CLEAR,\n")
+        == """\
 0 MAIN > SIMPLE.REQ A=3
 0 MAIN < SIMPLE.CNF B=3
 1 MAIN > SIMPLE.REQ A=4
@@ -184,11 +208,14 @@ def test_a_simple_type_gets_a_chart(tmp_path):
 2 MAIN < SIMPLE.CNF B=0
 end 4
 """
+    )
 
 
 def test_a_simple_type_with_states_of_its_own(tmp_path):
-    states = ('<SimpleECState Name="REQ"><SimpleECAction Algorithm="CLEAR" Output="CNF"/></SimpleECState>'
-              '<SimpleECState Name="CLEAR"><SimpleECAction Algorithm="REQ"/><SimpleECAction Output="CNF"/></SimpleECState>')
+    states = (
+        '<SimpleECState Name="REQ"><SimpleECAction Algorithm="CLEAR" Output="CNF"/></SimpleECState>'
+        '<SimpleECState Name="CLEAR"><SimpleECAction Algorithm="REQ"/><SimpleECAction Output="CNF"/></SimpleECState>'
+    )
     done = import_all(tmp_path, {"Simple.fbt": SIMPLE.replace("<SimpleFB>", f"<SimpleFB>{states}")})
     assert done.status == 0, done.lines
     assert "ON__REQ : CLEAR -> CNF; ON__CLEAR : REQ, -> CNF;" in done.declaration()
@@ -203,8 +230,11 @@ def test_a_simple_type_without_an_algorithm_for_an_event_is_refused(tmp_path):
 
 # ---- Service interface types and stubs
 
-PANEL = system('<FB Name="P" Type="Panel"/><FB Name="A" Type="Adder"/>'
-               + connections("Event", "P.PRESSED A.REQ", "A.CNF P.SHOW") + connections("Data", "P.KEY A.A", "A.SUM P.N"))
+PANEL = system(
+    '<FB Name="P" Type="Panel"/><FB Name="A" Type="Adder"/>'
+    + connections("Event", "P.PRESSED A.REQ", "A.CNF P.SHOW")
+    + connections("Data", "P.KEY A.A", "A.SUM P.N")
+)
 
 
 def test_a_service_interface_type_is_refused_by_name(tmp_path):
@@ -212,14 +242,20 @@ def test_a_service_interface_type_is_refused_by_name(tmp_path):
     done = import_all(tmp_path, {"lib/Panel.fbt": text, "lib/Adder.fbt": basic(), "A.sys": PANEL})
     assert done.status == 2
     place = place_of(text, "Panel")
-    assert done.lines == [f"lib/Panel.fbt:{place}: Panel is a service interface type: the simulator has none (see --stub)"]
+    assert done.lines == [
+        f"lib/Panel.fbt:{place}: Panel is a service interface type: the simulator has none (see --stub)"
+    ]
 
 
 def test_a_stub_emits_what_stimuli_give(tmp_path):
-    done = import_all(tmp_path, {"lib/Panel.fbt": service(), "lib/Adder.fbt": basic("SUM := A + 1;"), "A.sys": PANEL}, "--stub")
+    done = import_all(
+        tmp_path, {"lib/Panel.fbt": service(), "lib/Adder.fbt": basic("SUM := A + 1;"), "A.sys": PANEL}, "--stub"
+    )
     assert done.status == 0, done.lines
     assert "P.PRESSED: the stimulus P.GIVE_PRESSED GIVE_KEY=.." in done.text("import.txt")
-    assert done.run(9, "tick,event,values\n5,P.GIVE_PRESSED,GIVE_KEY=41\n") == """\
+    assert (
+        done.run(9, "tick,event,values\n5,P.GIVE_PRESSED,GIVE_KEY=41\n")
+        == """\
 5 MAIN > P.GIVE_PRESSED GIVE_KEY=41
 5 MAIN < P.PRESSED KEY=41
 5 MAIN > A.REQ A=41 QI=FALSE
@@ -227,6 +263,7 @@ def test_a_stub_emits_what_stimuli_give(tmp_path):
 5 MAIN > P.SHOW N=42
 end 9
 """
+    )
 
 
 # ---- Annex A
@@ -271,7 +308,8 @@ def test_the_names_of_4diac_for_timers_are_known(tmp_path):
 
 
 def test_a_list_of_times_is_given_to_the_inputs_of_a_table(tmp_path):
-    network = '<FB Name="F" Type="E_TABLE"><Parameter Name="DT" Value="[T#1s, T#2.5s,T#3ms]"/><Parameter Name="N" Value="3"/></FB>'
+    values = '<Parameter Name="DT" Value="[T#1s, T#2.5s,T#3ms]"/><Parameter Name="N" Value="3"/>'
+    network = f'<FB Name="F" Type="E_TABLE">{values}</FB>'
     done = import_all(tmp_path, {"A.sys": system(network)})
     assert done.status == 0, done.lines
     assert "F : E_TABLE(DT0 := T#1000ms, DT1 := T#2500ms, DT2 := T#3ms, N := 3);" in done.declaration()
@@ -284,23 +322,37 @@ def test_the_package_has_the_file_of_the_repository():
 
 # ---- What is refused
 
-@pytest.mark.parametrize("old, new, part, says", [
-    ('<ECState Name="ADD">', '<ECState Name="ADD" Colour="red">', "Colour", "the attribute Colour of ECState is not known"),
-    ("<InternalVars>", "<Methods/><InternalVars>", "<Methods", "the element Methods in BasicFB is not known"),
-    ("<InternalVars>", "<InternalVars>some text", "some", "InternalVars has a text, which is not known"),
-    ("</OutputVars>", '</OutputVars><InOutVars><VarDeclaration Name="Z" Type="INT"/></InOutVars>', "<InOutVars", "VAR_IN_OUT"),
-    ('Name="B" Type="INT"', 'Name="B" Type="INT" ArraySize="4"', '4"', "B is an array"),
-    ('<With Var="A"/>', '<With Var="SUM"/>', 'SUM"', "type Adder has no data input SUM"),
-    ('Name="REQ" Type="Event"', 'Name="REQ" Type="Alarm"', "Alarm", "Alarm is no type of an event here"),
-    ('Algorithm="ADD"', 'Algorithm="SUB"', "SUB", "there is no algorithm SUB"),
-    ('Output="CNF"', 'Output="REQ"', 'REQ"/></ECState', "type Adder has no event output REQ"),
-    ('Destination="ADD"', 'Destination="AD"', 'AD" Cond', "there is no state AD"),
-    ("<ST>", '<Other Language="C" Text="x"/><ST>', "<Other", "algorithm ADD is not in Structured Text"),
-    ("<ST><![CDATA[SUM := A;]]></ST>", '<FBD/>', "<FBD", "the element FBD in Algorithm is not known"),
-    ('Name="B"', 'Name="A"', 'A" Type="INT"/><VarDeclaration Name="ON', "the variable A is given twice"),
-    ('Name="B"', 'Name="B-1"', "B-1", "'B-1' is no name"),
-    ('Name="Adder"', 'Name=""', '" Comment="adds', "'' is no name"),
-])
+
+@pytest.mark.parametrize(
+    "old, new, part, says",
+    [
+        (
+            '<ECState Name="ADD">',
+            '<ECState Name="ADD" Colour="red">',
+            "Colour",
+            "the attribute Colour of ECState is not known",
+        ),
+        ("<InternalVars>", "<Methods/><InternalVars>", "<Methods", "the element Methods in BasicFB is not known"),
+        ("<InternalVars>", "<InternalVars>some text", "some", "InternalVars has a text, which is not known"),
+        (
+            "</OutputVars>",
+            '</OutputVars><InOutVars><VarDeclaration Name="Z" Type="INT"/></InOutVars>',
+            "<InOutVars",
+            "VAR_IN_OUT",
+        ),
+        ('Name="B" Type="INT"', 'Name="B" Type="INT" ArraySize="4"', '4"', "B is an array"),
+        ('<With Var="A"/>', '<With Var="SUM"/>', 'SUM"', "type Adder has no data input SUM"),
+        ('Name="REQ" Type="Event"', 'Name="REQ" Type="Alarm"', "Alarm", "Alarm is no type of an event here"),
+        ('Algorithm="ADD"', 'Algorithm="SUB"', "SUB", "there is no algorithm SUB"),
+        ('Output="CNF"', 'Output="REQ"', 'REQ"/></ECState', "type Adder has no event output REQ"),
+        ('Destination="ADD"', 'Destination="AD"', 'AD" Cond', "there is no state AD"),
+        ("<ST>", '<Other Language="C" Text="x"/><ST>', "<Other", "algorithm ADD is not in Structured Text"),
+        ("<ST><![CDATA[SUM := A;]]></ST>", '<FBD/>', "<FBD", "the element FBD in Algorithm is not known"),
+        ('Name="B"', 'Name="A"', 'A" Type="INT"/><VarDeclaration Name="ON', "the variable A is given twice"),
+        ('Name="B"', 'Name="B-1"', "B-1", "'B-1' is no name"),
+        ('Name="Adder"', 'Name=""', '" Comment="adds', "'' is no name"),
+    ],
+)
 def test_what_is_not_known_is_refused_at_its_place(old, new, part, says, tmp_path):
     text = basic().replace(old, new, 1)
     done = import_all(tmp_path, {"Adder.fbt": text})
@@ -312,7 +364,9 @@ def test_what_is_not_known_is_refused_at_its_place(old, new, part, says, tmp_pat
 def test_a_type_that_is_missing_is_refused_where_it_is_used(tmp_path):
     text = system('<FB Name="F" Type="Nowhere"/><FB Name="G" Type="E_SR"/>' + connections("Event", "F.EO G.S"))
     done = import_all(tmp_path, {"A.sys": text})
-    assert done.lines == [f"A.sys:{place_of(text, 'Nowhere')}: there is no type Nowhere in the files: give its folder by --lib"]
+    assert done.lines == [
+        f"A.sys:{place_of(text, 'Nowhere')}: there is no type Nowhere in the files: give its folder by --lib"
+    ]
 
 
 def test_a_type_in_a_file_with_another_name_is_refused(tmp_path):
@@ -322,7 +376,7 @@ def test_a_type_in_a_file_with_another_name_is_refused(tmp_path):
 
 def test_a_composite_that_contains_itself_is_refused(tmp_path):
     text = COMPOSITE.replace("Adder", "Twice").replace('Name="TWO" Type="Twice"', 'Name="TWO" Type="E_SR"')
-    text = text[:text.index("<EventConnections>")] + "</FBNetwork></FBType>"
+    text = text[: text.index("<EventConnections>")] + "</FBNetwork></FBType>"
     text = text.replace('<Parameter Name="QI" Value="1"/>', "")
     done = import_all(tmp_path, {"Twice.fbt": text})
     assert done.status == 2 and "E25" in done.lines[0], done.lines
@@ -331,8 +385,11 @@ def test_a_composite_that_contains_itself_is_refused(tmp_path):
 
 def test_what_means_nothing_is_counted(tmp_path):
     text = basic().replace("<BasicFB>", '<BasicFB><!-- a --><?b c?><Attribute Name="x"><Strange y="1"/></Attribute>')
-    text = text.replace("<FBType ", '<FBType xmlns:xsi="http://www.w3.org/2001/XMLSchema-instance" '
-                                    'xsi:noNamespaceSchemaLocation="http://www.holobloc.com/xml/LibraryElement.xsd" ')
+    text = text.replace(
+        "<FBType ",
+        '<FBType xmlns:xsi="http://www.w3.org/2001/XMLSchema-instance" '
+        'xsi:noNamespaceSchemaLocation="http://www.holobloc.com/xml/LibraryElement.xsd" ',
+    )
     done = import_all(tmp_path, {"Adder.fbt": text})
     assert done.status == 0, done.lines
     assert "attribute Comment: 1" in done.text("import.txt") and "element Attribute: 1" in done.text("import.txt")
