@@ -1,20 +1,21 @@
 #!/usr/bin/env python3
-"""tools/pages.py [PROGRAM]: follows pages of docs/ as their reader does, and compares what is printed.
+"""tools/pages.py [PROGRAM]: follows README and pages of docs/ as their reader does, and compares what is printed.
 
-It goes through each page from top to bottom, in a folder of its own. A line with only a file's name in backquotes and a colon, and the
-block below it, is a file to write, which replaces an earlier one of that name. A block `console` has commands after `$ `, each with its
-output below it; a command that ends with a backslash goes on in the next line. Blocks with another word after the fence are only
-shown. `sh` runs each command, with the built program, or PROGRAM, as `fbsim` on its PATH. If a command prints anything else than the
-page shows, this reports it and ends with status 1. ./gate runs this each time it has run the program."""
+It goes through each page from top to bottom, in a folder of its own that has the examples. A line with only the name of a file in
+backquotes and a colon, and the block below it, is a file to write, which replaces an earlier one of that name. A block `console` has
+commands after `$ `, each with its output below it; a command that ends with a backslash goes on in the next line. Blocks with another
+word after the fence are only shown. `sh` runs each command, with the built program, or PROGRAM, as `fbsim` on its PATH. If a command
+prints anything else than the page shows, this reports it and ends with status 1. ./gate runs this each time it has run the program."""
 
 import os
 import re
+import shutil
 import sys
 
 from kit import TOP
 from program import Room
 
-PAGES = ("docs/FIRST_APPLICATION.md", "docs/BENCH.md", "docs/FROM_4DIAC.md")
+PAGES = ("README.md", "docs/FIRST_APPLICATION.md", "docs/BENCH.md", "docs/FROM_4DIAC.md")
 PROGRAM = f"{TOP}/crates/fbsim/out/fbsim"
 # A folder that pages may name. Its files are in the folder of the page.
 FOLDER = "/tmp/"
@@ -57,11 +58,12 @@ def commands(page, number, lines):
 
 
 class Reader:
-    """A reader of a page, in a folder with nothing but the program: writes files, and runs commands one after another."""
+    """A reader of a page, in a folder with the program and the examples: writes files, and runs commands one after another."""
 
     def __init__(self, room):
         self.room, self.status = room, 0
         os.mkdir(f"{room.folder}/bin")
+        shutil.copytree(f"{TOP}/examples", f"{room.folder}/examples")
         os.symlink(room.program, f"{room.folder}/bin/fbsim")
 
     def write(self, name, lines):
