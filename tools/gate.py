@@ -19,7 +19,8 @@ First it installs the system packages of tools/system_packages.txt that are miss
   rings of resources (tools/rings.py), random systems (tools/drawn.py), random types (tools/drawn_types.py), where they stop
   (tools/stops.py), each token at each place of a declaration (tools/expected.py), types with more events than 16 bits can number
   (tools/wide.py), outputs that take little and readers that fail (tools/narrow.py), texts that are cut or changed in one byte
-  (tools/hostile.py), and each request for memory refused (tools/refuse.py)
+  (tools/hostile.py), the Python package with docs/PYTHON.md (tools/python_package.py), and each request for memory refused
+  (tools/refuse.py)
 
 Then it prints the processor seconds and the memory of each crate. The last line is 'N passed, M failed', and the status is 0 if none
 failed. With crates it does the same only for these and those below them, on a copy of their files. --jobs N uses N processors.
@@ -63,6 +64,7 @@ import notice
 import package
 import packages
 import pages
+import python_package
 import refuse
 import rings
 import state_waves
@@ -240,6 +242,7 @@ def call_after_each_run():
         yield narrow.try_all(made)
         yield hostile.try_all(made)
         yield expected.try_all(made)
+        yield python_package.try_all(made)
         yield refuse.try_all(made)
 
     def run_and_call(crate, tests, ending=""):

@@ -84,8 +84,11 @@ def steps(signals: Mapping[str, Signal], end: int | None) -> Any:
         if values and all(isinstance(it, bool) for it in values):
             axes.set_yticks([0, 1], ["FALSE", "TRUE"])
             axes.set_ylim(-0.2, 1.2)
+        else:
+            axes.yaxis.get_major_locator().set_params(integer=True)
         axes.grid(True, alpha=0.3)
     rows[-1].set_xlabel("tick [ms]")
+    made.align_ylabels()
     return made
 
 
