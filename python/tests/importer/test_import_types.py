@@ -109,9 +109,9 @@ end 2
 @pytest.mark.parametrize(
     "source, target, part, says",
     [
-        ("W.S", "M.P", "W.S", "W.S: type Slave has no plug S"),
-        ("M.P", "M.P", 'Destination="M.P', "M.P: type Master has no socket P"),
-        ("M.X", "W.S", "M.X", "M.X: type Master has no plug X"),
+        ("W.S", "M.P", "W.S", "W.S: type Slave has no plug S (it has none)"),
+        ("M.P", "M.P", 'Destination="M.P', "M.P: type Master has no socket P (it has none)"),
+        ("M.X", "W.S", "M.X", "M.X: type Master has no plug X (it has P)"),
         ("X.P", "W.S", "X.P", "there is no instance X"),
     ],
 )
@@ -121,6 +121,16 @@ def test_an_adapter_connection_is_refused_at_its_place(source, target, part, say
     line, column = place_of(text, part).split(":")
     column = int(column) + (len('Destination="') if part.startswith("Dest") else 0)
     assert done.status == 2 and f"A.sys:{line}:{column}: {says}" in done.lines, done.lines
+
+
+def test_adapters_of_two_types_do_not_fit(tmp_path):
+    other = {
+        "lib/Other.adp": ADAPTER.replace('"Drive"', '"Other"').replace('"RUN"', '"GO"'),
+        "lib/Slave.fbt": SLAVE.replace('"Drive"', '"Other"').replace("S.RUN", "S.GO"),
+    }
+    done = import_all(tmp_path, {**FILES, **other, "A.sys": MASTER_AND_SLAVE})
+    place = place_of(MASTER_AND_SLAVE, "M.P")
+    assert done.lines == [f"A.sys:{place}: a plug of type Drive does not fit a socket of type Other"]
 
 
 COMPOSITE = """<FBType Name="Twice">
@@ -359,6 +369,16 @@ def test_what_is_not_known_is_refused_at_its_place(old, new, part, says, tmp_pat
     assert done.status == 2
     place = place_of(text, part)
     assert [it for it in done.lines if it.startswith(f"Adder.fbt:{place}: ") and says in it], (place, done.lines)
+
+
+def test_constants_of_a_type_are_internal_variables(tmp_path):
+    text = basic("SUM := A + LIMIT_1;").replace(
+        "<ECC>",
+        '<InternalConstVars><VarDeclaration Name="LIMIT_1" Type="INT" InitialValue="7"/></InternalConstVars><ECC>',
+    )
+    done = import_all(tmp_path, {"Adder.fbt": text})
+    assert done.status == 0, done.lines
+    assert "LIMIT_1 : INT := 7;" in done.declaration()
 
 
 def test_a_type_that_is_missing_is_refused_where_it_is_used(tmp_path):

@@ -23,21 +23,17 @@ SECTION = re.compile(r"\b(EVENT_INPUT|EVENT_OUTPUT|VAR_INPUT|VAR_OUTPUT)\b(.*?)\
 
 @dataclass(slots=True)
 class Port:
-    """An event or a variable of an interface. Its name is that of the XML; of an adapter's port it is ADAPTER.NAME."""
+    """An event, a variable (data) or an adapter of an interface. The ports of an adapter have names ADAPTER.NAME."""
 
     name: str
-    is_event: bool
+    kind: str
     is_output: bool
     place: Place
     type: str = ""
     initial: Code | None = None
     withs: list[tuple[str, Place]] = field(default_factory=list)
     out: str = ""
-
-    @property
-    def shape(self) -> tuple[str, bool, bool, str]:
-        """What two interfaces must have alike."""
-        return self.name.upper(), self.is_event, self.is_output, self.type
+    adapter: Block | None = None
 
 
 @dataclass(slots=True, eq=False)
@@ -51,7 +47,6 @@ class Block:
     out: str = ""
     text: str = ""
     ports: dict[str, Port] = field(default_factory=dict)
-    adapters: dict[str, tuple[bool, Block]] = field(default_factory=dict)
     folded: dict[str, list[Port]] = field(default_factory=dict)
 
     def find(self, name: str) -> Port | None:
@@ -62,18 +57,14 @@ class Block:
         alike = self.folded.get(name.upper(), [])
         return self.ports.get(name) or (alike[0] if len(alike) == 1 else None)
 
-    def side(self, is_event: bool, is_output: bool) -> list[Port]:
+    def side(self, kind: str, is_output: bool) -> list[Port]:
         """Return the ports of one kind and one side, in their order."""
-        return [it for it in self.ports.values() if it.is_event == is_event and it.is_output == is_output]
+        return [it for it in self.ports.values() if it.kind == kind and it.is_output == is_output]
 
-    @property
-    def shape(self) -> set[tuple[str, bool, bool, str]]:
-        """What two types with one interface have alike."""
-        return {it.shape for it in self.ports.values()}
-
-    def withs(self) -> set[tuple[str, ...]]:
-        """Return the WITH lists of the events."""
-        return {(it.name.upper(), *sorted(name.upper() for name, _ in it.withs)) for it in self.ports.values()}
+    def shape(self, with_lists: bool) -> set[tuple[object, ...]]:
+        """Return what two types with one interface have alike, with or without the WITH lists of their events."""
+        return {(it.name.upper(), it.kind, it.is_output, it.type,
+                 *sorted(name.upper() for name, _ in it.withs if with_lists)) for it in self.ports.values()}
 
 
 def packaged(name: str) -> dict[str, Block]:
@@ -88,13 +79,13 @@ def packaged(name: str) -> dict[str, Block]:
         place = Place(Source(name, text), one.start())
         block = found[one[1]] = Block(one[1], "declared", place, out=one[1], text=one[0])
         for section, inside in SECTION.findall(re.sub(r"\(\*.*?\*\)", " ", one[2], flags=re.DOTALL)):
-            is_event, is_output = section.startswith("EVENT"), section.endswith("OUTPUT")
+            kind, is_output = "event" if section.startswith("EVENT") else "data", section.endswith("OUTPUT")
             for row in (it for it in inside.split(";") if it.strip()):
                 names, _, rest = re.sub(r"\bWITH\b", ":", row).partition(":")
-                withs = [(it.strip(), place) for it in rest.split(",") if is_event and it.strip()]
-                kind = "" if is_event else rest.strip()
+                withs = [(it.strip(), place) for it in rest.split(",") if kind == "event" and it.strip()]
                 for it in names.replace(",", " ").split():
-                    block.ports[it] = Port(it, is_event, is_output, place, kind, None, withs, it)
+                    type_name = rest.strip() if kind == "data" else ""
+                    block.ports[it] = Port(it, kind, is_output, place, type_name, None, withs, it)
     return found
 
 
@@ -160,8 +151,8 @@ class Library:
             if block is None or self.faults:
                 return False
             if usual.out in self.built_in:
-                return block.shape != usual.shape or block.withs() != usual.withs()
-            return block.kind != "service" and not usual.shape <= block.shape
+                return block.shape(True) != usual.shape(True)
+            return block.kind != "service" and not usual.shape(False) <= block.shape(False)
         except (Refused, FileFault):
             return False
         finally:
@@ -213,7 +204,7 @@ def read_interface(block: Block, library: Library) -> None:
         else:
             ports += [event(it, is_output, library.faults) for it in part.children]
     if block.kind == "service":
-        ports += [given(it) for it in ports if it.is_output]
+        ports += [given(it) for it in ports if it.is_output and it.kind != "adapter"]
     ports.sort(key=lambda it: "." in it.name)
     names = Names("port", [(it.name, it.place) for it in ports], library.faults)
     for it in ports:
@@ -227,7 +218,7 @@ def event(node: Node, is_output: bool, faults: Faults) -> Port:
     if node.get("Type") not in ("", "Event", "EInit"):
         faults.add(node.at("Type"), f"{shown(node.get('Type'))} is no type of an event here: write Event")
     withs = [(it.get("Var"), it.at("Var")) for it in node.all("With")]
-    return Port(node.get("Name"), True, is_output, node.at("Name"), withs=withs)
+    return Port(node.get("Name"), "event", is_output, node.at("Name"), withs=withs)
 
 
 def with_list(block: Block, port: Port, faults: Faults) -> list[tuple[str, Place]]:
@@ -235,7 +226,7 @@ def with_list(block: Block, port: Port, faults: Faults) -> list[tuple[str, Place
     found = []
     for name, place in port.withs:
         other = block.find(name)
-        if other is None or other.is_event or other.is_output != port.is_output:
+        if other is None or other.kind != "data" or other.is_output != port.is_output:
             side = "output" if port.is_output else "input"
             faults.add(place, f"type {block.name} has no data {side} {shown(name)}")
         else:
@@ -252,7 +243,7 @@ def variable(node: Node, is_output: bool, faults: Faults) -> Port:
         faults.add(node.at("Type"), f"{shown(node.get('Type')) or 'nothing'} is no type of the profile")
         kind = ""
     initial = node.code("InitialValue") if node.get("InitialValue") else None
-    return Port(node.get("Name"), False, is_output, node.at("Name"), kind, initial)
+    return Port(node.get("Name"), "data", is_output, node.at("Name"), kind, initial)
 
 
 def given(port: Port) -> Port:
@@ -270,7 +261,7 @@ def adapter_ports(block: Block, part: Node, library: Library) -> list[Port]:
         if adapter and adapter.kind != "adapter":
             library.faults.add(node.at("Type"), f"{adapter.name} is no adapter type")
         elif adapter:
-            block.adapters[name] = is_plug, adapter
+            ports.append(Port(name, "adapter", is_plug, node.at("Name"), adapter.name, adapter=adapter))
             for it in adapter.ports.values():
                 withs = [(f"{name}.{var}", place) for var, place in it.withs]
                 ports.append(replace(it, name=f"{name}.{it.name}", is_output=it.is_output == is_plug,

@@ -34,7 +34,8 @@ class Reader:
         self.bodies = Names("algorithm", [(it.get("Name"), it.at("Name")) for it in nodes], self.faults)
         self.codes = {name: Algorithm(code_of(it, self.faults), self.finder(name), self.faults)
                       for it in nodes if (name := it.get("Name"))}
-        inner = [variable(it, False, self.faults) for part in inside.all("InternalVars") for it in part.children]
+        inner = [variable(it, False, self.faults)
+                 for part in inside.all("InternalVars", "InternalConstVars") for it in part.children]
         rows: list[Row] = [(it.name, it.type, it.initial, it.place) for it in inner]
         rows += [(f"{name}.{it.name.text}", it.type, None, code.code.place(it.name.at))
                  for name, code in self.codes.items() for it in code.temporaries]
@@ -43,7 +44,7 @@ class Reader:
         self.names = Names("variable", wanted, self.faults)
         for port in ports:
             port.out = self.names.out[port.name]
-        self.types = {it.name: it.type for it in ports if not it.is_event} | {it[0]: it[1] for it in rows}
+        self.types = {it.name: it.type for it in ports if it.kind == "data"} | {it[0]: it[1] for it in rows}
         self.chart.variables = [(self.names.out[name], *rest) for name, *rest in rows]  # type: ignore[misc]
 
     def finder(self, algorithm: str) -> Find:
@@ -56,7 +57,7 @@ class Reader:
     def event(self, name: str, is_output: bool) -> str | None:
         """Return what an event is called."""
         port = self.block.find(name)
-        return port.out if port and port.is_event and port.is_output == is_output else None
+        return port.out if port and port.kind == "event" and port.is_output == is_output else None
 
     def action(self, node: Node) -> tuple[str, str, Place]:
         """Read an action of a state."""
@@ -98,9 +99,9 @@ class Reader:
     def simple(self) -> Names:
         """Make the chart of a simple type: each event input runs the algorithm of its name, or the only one."""
         states = {it.get("Name"): it for it in self.inside.all("SimpleECState")}
-        outputs, inside = self.block.side(True, True), self.inside
+        outputs, inside = self.block.side("event", True), self.inside
         rows: list[tuple[str, Place, list[Node]]] = [("START", inside.place, [])]
-        for it in self.block.side(True, False):
+        for it in self.block.side("event", False):
             own = self.bodies.find(it.name) or (next(iter(self.codes)) if len(self.codes) == 1 else "")
             actions: list[Node] = []
             if it.name in states:
@@ -113,7 +114,7 @@ class Reader:
                 self.faults.add(it.place, text)
             rows.append((f"ON.{it.name}", it.place, actions))
         names = self.states(rows)
-        for it in self.block.side(True, False):
+        for it in self.block.side("event", False):
             state = names.out[f"ON.{it.name}"]
             self.chart.transitions.append((names.out["START"], state, [(it.out, it.place)], it.place))
             self.chart.transitions.append((state, names.out["START"], [("1", it.place)], it.place))
@@ -144,7 +145,7 @@ def stub(block: Block) -> Chart:
     """Return the chart of a stub. It does nothing by itself: GIVE_X emits the event X, with the values given."""
     place = block.place
     chart = Chart(states=[("IDLE", [], place)])
-    for port in block.side(True, True):
+    for port in block.side("event", True):
         name = block.ports[f"GIVE_{port.name}"].out
         chart.states.append((name, [(name, port.out, place)], place))
         chart.transitions += [("IDLE", name, [(name, place)], place), (name, "IDLE", [("1", place)], place)]

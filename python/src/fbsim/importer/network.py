@@ -82,7 +82,7 @@ class Network:
             self.add_instance(it, scope)
         for part in node.all("EventConnections", "DataConnections", "AdapterConnections"):
             for it in part.children:
-                self.connect(it, part.tag, scope)
+                self.connect(it, part.tag.removesuffix("Connections").lower(), scope)
 
     def add_instance(self, node: Node, scope: Scope) -> None:
         """Add an instance, or the inside of a subapplication."""
@@ -135,70 +135,56 @@ class Network:
                          code.place(found.start())) for number, found in enumerate(parts)]
             for name, code, place in rows:
                 port = block.find(name)
-                if port is None or port.is_event or port.is_output:
+                if port is None or port.kind != "data" or port.is_output:
                     self.faults.add(place, f"type {block.name} has no data input {shown(name)}")
                 elif code.text.strip():
                     self.parameters.append(((path, port.name), code))
 
-    def connect(self, node: Node, tag: str, scope: Scope) -> None:
+    def connect(self, node: Node, kind: str, scope: Scope) -> None:
         """Add a connection, or those that an adapter connection stands for."""
-        place, other, repeats = node.at("Source"), node.at("Destination"), bool(scope.aliases)
-        if tag != "AdapterConnections":
-            is_event = tag == "EventConnections"
-            begin = self.find(node.get("Source"), scope, is_event, True, place)
-            end = self.find(node.get("Destination"), scope, is_event, False, other)
-            if begin and end:
-                self.outgoing.setdefault(begin, []).append(Wire(begin, end, place, is_event, repeats))
+        place = node.at("Source")
+        begin = self.find(node.get("Source"), scope, kind, True, place)
+        end = self.find(node.get("Destination"), scope, kind, False, node.at("Destination"))
+        if begin is None or end is None:
             return
-        plug = self.find_adapter(node.get("Source"), scope, True, place)
-        socket = self.find_adapter(node.get("Destination"), scope, False, other)
-        for it in plug[2].ports.values() if plug and socket else ():
-            ends = [(path, f"{name}.{it.name}") for path, name, _ in filter(None, (plug, socket))]
-            begin, end = ends if it.is_output else ends[::-1]
-            self.outgoing.setdefault(begin, []).append(Wire(begin, end, place, it.is_event, repeats))
+        rows = [(begin[0], end[0], kind)]
+        plug, socket = begin[1].adapter, end[1].adapter
+        if plug and socket:
+            if plug is not socket:
+                self.faults.add(place, f"a plug of type {plug.name} does not fit a socket of type {socket.name}")
+                return
+            ends = [((begin[0][0], f"{begin[1].name}.{it.name}"), (end[0][0], f"{end[1].name}.{it.name}"), it)
+                    for it in plug.ports.values()]
+            rows = [(one, other, it.kind) if it.is_output else (other, one, it.kind) for one, other, it in ends]
+        for source, target, part in rows:
+            wire = Wire(source, target, place, part == "event", bool(scope.aliases))
+            self.outgoing.setdefault(source, []).append(wire)
 
-    def block_of(self, text: str, scope: Scope, place: Place) -> tuple[str, str, Block] | None:
-        """Return the path, the port's name and the block that INSTANCE.PORT means, or refuse the name."""
-        name, _, port = text.rpartition(".")
-        path = scope.find(name)
-        if not path or path not in self.blocks:
-            what = f"instance {shown(name)}" if name else f"port {shown(text)}"
-            self.faults.add(place, f"there is no {what}")
-        block = self.blocks.get(path) if path else None
-        return (path, port, block) if block else None
-
-    def find(self, text: str, scope: Scope, is_event: bool, is_source: bool, place: Place) -> Key | None:
-        """Return the port at an end of a connection, or refuse its name."""
+    def find(self, text: str, scope: Scope, kind: str, is_source: bool, place: Place) -> tuple[Key, Port] | None:
+        """Return the port at an end of a connection, of the owner or of an instance, or refuse its name."""
         owner = self.blocks.get(scope.path)
         own = owner.find(text) if owner else None
-        if own and own.is_event == is_event and own.is_output != is_source:
-            return scope.path, own.name
-        found = self.block_of(text, scope, place)
-        if found is None:
+        if own and own.kind == kind and own.is_output != is_source:
+            return (scope.path, own.name), own
+        instance, _, name = text.rpartition(".")
+        path = scope.find(instance)
+        if not path or path not in self.blocks:
+            what = f"instance {shown(instance)}" if instance else f"port {shown(text)}"
+            self.faults.add(place, f"there is no {what}")
+        block = self.blocks.get(path) if path else None
+        if block is None:
             return None
-        path, name, block = found
         port = block.find(name)
-        if port is None or port.is_event != is_event or port.is_output != is_source:
-            kind = f"{'event' if is_event else 'data'} {'output' if is_source else 'input'}"
-            others = ", ".join(it.name for it in block.side(is_event, is_source)) or "none"
-            text = f"{shown(text)}: type {block.name} has no {kind} {shown(name)} (it has {shown(others)})"
-            self.faults.add(place, text)
+        if port is None or port.kind != kind or port.is_output != is_source:
+            side = f"{kind} {'output' if is_source else 'input'}"
+            if kind == "adapter":
+                side = "plug" if is_source else "socket"
+            others = shown(", ".join(it.name for it in block.side(kind, is_source)) or "none")
+            self.faults.add(place, f"{shown(text)}: type {block.name} has no {side} {shown(name)} (it has {others})")
             return None
         if block.kind == "communication" and port.name in ("QO", "STATUS"):
             self.faults.add(place, f"{port.name} of {block.name} is not simulated: links don't fail")
-        return path, port.name
-
-    def find_adapter(self, text: str, scope: Scope, is_source: bool, place: Place) -> tuple[str, str, Block] | None:
-        """Return the path, the name and the type of an adapter. A source is a plug, or a socket of the owner."""
-        owner, found, is_plug = self.blocks.get(scope.path), None, is_source
-        if owner and text in owner.adapters:
-            found, is_plug = (scope.path, text, owner), not is_source
-        found = found or self.block_of(text, scope, place)
-        adapter = found[2].adapters.get(found[1]) if found else None
-        if found and (adapter is None or adapter[0] != is_plug):
-            kind = "plug" if is_plug else "socket"
-            self.faults.add(place, f"{shown(text)}: type {found[2].name} has no {kind} {shown(found[1])}")
-        return (found[0], found[1], adapter[1]) if found and adapter and adapter[0] == is_plug else None
+        return (path, port.name), port
 
     def link_services(self) -> None:
         """Connect communication blocks: what one sends is what those with the same ID receive."""
@@ -254,7 +240,7 @@ class Network:
         """Give parameters to instances. Those of a subapplication, and its initial values, go to the inputs inside."""
         set_already = {it.target for row in self.outgoing.values() for it in row} | {key for key, _ in self.parameters}
         for path, block in self.blocks.items():
-            for it in block.side(False, False) if block and block.kind == "subapplication" else ():
+            for it in block.side("data", False) if block and block.kind == "subapplication" else ():
                 if it.initial and (path, it.name) not in set_already:
                     self.parameters.append(((path, it.name), it.initial))
         for key, code in self.parameters:
@@ -279,7 +265,7 @@ def communication(name: str, place: Place) -> Block | None:
     _, sends, confirms = SERVICES[kind]
     data = ["QI", "ID", *(f"SD_{it}" for it in numbers if not kind.startswith("SUB"))]
     outputs = ["QO", "STATUS", *(f"RD_{it}" for it in numbers if not kind.startswith("PUB"))]
-    events = (["INIT", sends], True, False), (["INITO", confirms], True, True)
-    sides = (*events, (data, False, False), (outputs, False, True))
-    block.ports = {it: Port(it, is_event, is_output, place) for names, is_event, is_output in sides for it in names}
+    events = (["INIT", sends], "event", False), (["INITO", confirms], "event", True)
+    sides = (*events, (data, "data", False), (outputs, "data", True))
+    block.ports = {it: Port(it, part, is_output, place) for names, part, is_output in sides for it in names}
     return block

@@ -18,7 +18,7 @@ def section(title: str, rows: Iterable[str]) -> list[str]:
 def stub_rows(system: System) -> Iterable[str]:
     """Return the output events of stubs, with the stimuli that give them."""
     for it in system.network.instances.values():
-        for port in it.block.side(True, True) if it.block.kind == "service" else ():
+        for port in it.block.side("event", True) if it.block.kind == "service" else ():
             given = it.block.ports[f"GIVE_{port.name}"]
             values = "".join(f" {it.block.ports[name].out}=.." for name, _ in given.withs)
             yield f"{it.out}.{port.out}: the stimulus {it.out}.{given.out}{values}"

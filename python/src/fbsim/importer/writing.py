@@ -84,13 +84,13 @@ class Types:
         self.text.add(f"{block.out}\n", block.place)
         for word, is_output in (("EVENT_INPUT", False), ("EVENT_OUTPUT", True)):
             rows = []
-            for port in block.side(True, is_output):
+            for port in block.side("event", is_output):
                 withs = [(f"{', ' if number else ' WITH '}{block.ports[name].out}", place)
                          for number, (name, place) in enumerate(port.withs)]
                 rows.append([(port.out, port.place), *withs])
             self.text.rows(word, "END_EVENT", rows)
         for word, is_output in (("VAR_INPUT", False), ("VAR_OUTPUT", True)):
-            ports = block.side(False, is_output)
+            ports = block.side("data", is_output)
             self.variables(word, [(it.out, it.type, it.initial, it.place) for it in ports])
         self.variables("VAR", variables)
 
