@@ -111,7 +111,7 @@ def is_short():
         if name.endswith(".py"):
             with open(f"{folder}/{name}", encoding="utf-8") as it:
                 lines += len(it.readlines())
-    print(f"python: the package has {lines} of at most {MOST_LINES} lines")
+    print(f"python: the package has {lines} of at most {MOST_LINES} lines", flush=True)
     return lines <= MOST_LINES
 
 
