@@ -259,6 +259,9 @@ def main():
     places = [it for kind in ("src/**/*.rt", "specs/**/*.antt", "proofs/**/*.antt") for it in glob.glob(f"{TOP}/crates/*/{kind}", recursive=True)]
     known = {word for it in places for word in re.findall(r"[A-Z]\w+", text_of(os.path.relpath(it, TOP)))}
     known |= {os.path.basename(it).removesuffix(".antt") for it in places}
+    # (pages for users name classes of the Python package, and elements of XML that it imports)
+    texts = [it for it in glob.glob(f"{TOP}/python/**/*.py", recursive=True) + glob.glob(f"{TOP}/examples/xml/**/*.*", recursive=True) if os.path.isfile(it)]
+    known |= {word for it in texts for word in re.findall(r"[A-Z]\w+", text_of(os.path.relpath(it, TOP)))}
     for page in pages:
         faults += name_faults(page)
         # (names of XML and of Python are none of ours)
