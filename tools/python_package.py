@@ -96,6 +96,8 @@ class Copy:
 
     def follow(self):
         """Returns whether each command of the page prints what the page has."""
+        # (in a new home, matplotlib says once that it looks for fonts)
+        self.run([PYTHON, "-c", "import matplotlib.font_manager"], self.page)
         with open(f"{TOP}/{PAGE}", encoding="utf-8") as it:
             count, faults = pages.follow(PAGE, it.read(), self)
         print(*faults, sep="\n", end="\n" * bool(faults))
