@@ -26,6 +26,6 @@ def examples() -> Path:
 @pytest.fixture(scope="session")
 def conveyor():
     """The trace of examples/conveyor."""
-    from helpers import example_in
+    from common import example_in
 
     return example_in(TOP / "examples" / "conveyor").run()

@@ -7,7 +7,7 @@ import stat
 import time
 
 import pytest
-from helpers import ALL, CYCLE, EXAMPLES, RING, application, example_in, interpreter, second_trace
+from common import ALL, CYCLE, EXAMPLES, RING, application, example_in, interpreter, second_trace
 
 import fbsim
 

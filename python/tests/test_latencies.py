@@ -5,7 +5,7 @@ import subprocess
 
 import numpy
 import pytest
-from helpers import EXAMPLES, trace_in
+from common import EXAMPLES, trace_in
 
 import fbsim
 

@@ -3,7 +3,7 @@
 import shutil
 
 import pytest
-from helpers import CYCLE, EXAMPLES, RING
+from common import CYCLE, EXAMPLES, RING
 from junitparser import JUnitXml
 
 BENCH = """decl = "conveyor.iec"

@@ -1,7 +1,7 @@
 """Tests of service sequences."""
 
 import pytest
-from helpers import EXAMPLES
+from common import EXAMPLES
 
 import fbsim
 from fbsim import check_sequence

@@ -3,7 +3,7 @@
 import time
 
 import pytest
-from helpers import EXAMPLES
+from common import EXAMPLES
 from hypothesis import HealthCheck, find, given, settings
 from hypothesis.errors import NoSuchExample
 from hypothesis.strategies import booleans, integers

@@ -9,7 +9,7 @@ import time
 from concurrent.futures import Executor, Future, ProcessPoolExecutor, ThreadPoolExecutor
 
 import pytest
-from helpers import CYCLE, EXAMPLES, application, example_in, interpreter, second_trace
+from common import CYCLE, EXAMPLES, application, example_in, interpreter, second_trace
 
 import fbsim
 

@@ -1,7 +1,7 @@
 """Tests of changes in the texts of an application, worked by hand."""
 
 import pytest
-from helpers import CYCLE, application
+from common import CYCLE, application
 
 import fbsim
 from fbsim import texts

@@ -7,7 +7,7 @@ import sys
 
 import pandas
 import pytest
-from helpers import ALL, CYCLE, EXAMPLES, application, example_in, trace_in
+from common import ALL, CYCLE, EXAMPLES, application, example_in, trace_in
 
 import fbsim
 from fbsim import Line
