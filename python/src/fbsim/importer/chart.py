@@ -17,12 +17,22 @@ Row = tuple[str, str, "Code | None", Place]
 
 @dataclass(slots=True)
 class Chart:
-    """All that a basic type has after its interface. An action is an algorithm, an event or both."""
+    """All that a basic type has after its interface, as it is written."""
 
     variables: list[Row] = field(default_factory=list)
-    states: list[tuple[str, list[tuple[str, str, Place]], Place]] = field(default_factory=list)
-    transitions: list[tuple[str, str, Pieces, Place]] = field(default_factory=list)
-    algorithms: list[tuple[str, Pieces, Place]] = field(default_factory=list)
+    states: list[Pieces] = field(default_factory=list)
+    transitions: list[Pieces] = field(default_factory=list)
+    algorithms: list[Pieces] = field(default_factory=list)
+
+    def add(self, state: tuple[str, Place], actions: Iterable[tuple[str, str, Place]]) -> None:
+        """Add a state with its actions: an algorithm, an event or both. An action with neither goes away."""
+        rows = [(f"{algorithm} -> {event}".strip() if event else algorithm, place) for algorithm, event, place in actions]
+        rows = [row for row in rows if row[0]]
+        self.states.append([state, *((f"{', ' if n else ' : '}{text}", at) for n, (text, at) in enumerate(rows))])
+
+    def lead(self, source: str, target: str, condition: Pieces, place: Place) -> None:
+        """Add a transition."""
+        self.transitions.append([(f"{source} TO {target} := ", place), *condition])
 
 
 class Reader:
@@ -75,8 +85,7 @@ class Reader:
         rows = list(nodes)
         names = Names("state", [(name, place) for name, place, _ in rows], self.faults)
         for name, place, actions in rows:
-            read = [self.action(it) for it in actions]
-            self.chart.states.append((names.out[name], [it for it in read if it[0] or it[1]], place))
+            self.chart.add((names.out[name], place), map(self.action, actions))
         return names
 
     def basic(self) -> Names:
@@ -93,7 +102,7 @@ class Reader:
                     self.faults.add(it.at(end), f"there is no state {shown(it.get(end))}")
             source, target = (names.out[found] if found else "X" for found in ends)
             pieces = condition(it.code("Condition"), self.finder(""), lambda name: self.event(name, False), self.faults)
-            self.chart.transitions.append((source, target, pieces, it.at("Source")))
+            self.chart.lead(source, target, pieces, it.at("Source"))
         return names
 
     def simple(self) -> Names:
@@ -115,9 +124,9 @@ class Reader:
             rows.append((f"ON.{it.name}", it.place, actions))
         names = self.states(rows)
         for it in self.block.side("event", False):
-            state = names.out[f"ON.{it.name}"]
-            self.chart.transitions.append((names.out["START"], state, [(it.out, it.place)], it.place))
-            self.chart.transitions.append((state, names.out["START"], [("1", it.place)], it.place))
+            start, state = names.out["START"], names.out[f"ON.{it.name}"]
+            self.chart.lead(start, state, [(it.out, it.place)], it.place)
+            self.chart.lead(state, start, [("1", it.place)], it.place)
         return names
 
     def finish(self, states: Names) -> Chart:
@@ -125,7 +134,7 @@ class Reader:
         notes = self.library.notes
         for name, code in self.codes.items():
             out = {it.name.text: self.names.out[f"{name}.{it.name.text}"] for it in code.temporaries}
-            self.chart.algorithms.append((self.bodies.out[name], code.body(out), code.code.place(0)))
+            self.chart.algorithms.append([(self.bodies.out[name], code.code.place(0)), *code.body(out)])
             notes += [f"{code.code.place(it.at)}: {it.text} goes away: a value that does not fit stops the run"
                       for it in code.conversions]
         notes += [f"type {self.block.out}: {it}" for names in (self.names, self.bodies, states) for it in names.renamed]
@@ -144,13 +153,15 @@ def code_of(node: Node, faults: Faults) -> Code:
 def stub(block: Block) -> Chart:
     """Return the chart of a stub. It does nothing by itself: GIVE_X emits the event X, with the values given."""
     place = block.place
-    chart = Chart(states=[("IDLE", [], place)])
+    chart = Chart()
+    chart.add(("IDLE", place), [])
     for port in block.side("event", True):
         name = block.ports[f"GIVE_{port.name}"].out
-        chart.states.append((name, [(name, port.out, place)], place))
-        chart.transitions += [("IDLE", name, [(name, place)], place), (name, "IDLE", [("1", place)], place)]
+        chart.add((name, place), [(name, port.out, place)])
+        chart.lead("IDLE", name, [(name, place)], place)
+        chart.lead(name, "IDLE", [("1", place)], place)
         rows = ((block.ports[it].out, block.ports[f"GIVE_{it}"].out) for it, _ in port.withs)
-        chart.algorithms.append((name, [(f"\n    {out} := {given};", place) for out, given in rows], place))
+        chart.algorithms.append([(name, place), *((f"\n    {out} := {given};", place) for out, given in rows)])
     return chart
 
 

@@ -188,7 +188,7 @@ class Network:
 
     def link_services(self) -> None:
         """Connect communication blocks: what one sends is what those with the same ID receive."""
-        kinds = {path: kind_of(self.blocks[path]) for path in self.services}
+        kinds = {path: block.text for path in self.services if (block := self.blocks[path])}
         for path, (name, place) in self.services.items():
             kind, block, title = kinds[path], self.blocks[path], path.lstrip(".")
             partner, sends, confirms = SERVICES[kind]
@@ -249,19 +249,13 @@ class Network:
                     self.instances[path].parameters[name] = code
 
 
-def kind_of(block: Block | None) -> str:
-    """Return the kind of a communication block."""
-    found = COMMUNICATION.fullmatch(block.name) if block else None
-    return found[1].upper() if found else "PUBLISH"
-
-
 def communication(name: str, place: Place) -> Block | None:
     """Return the type of a communication block: PUBLISH_1, SUBSCRIBE_1, CLIENT_1_1, SERVER_1_1 and so on."""
     found = COMMUNICATION.fullmatch(name.rpartition("::")[2])
     if found is None:
         return None
-    block = Block(found[0], "communication", place)
-    kind, numbers = kind_of(block), range(1, max(int(found[2] or 1), int(found[3] or 0)) + 1)
+    kind, numbers = found[1].upper(), range(1, max(int(found[2] or 1), int(found[3] or 0)) + 1)
+    block = Block(found[0], "communication", place, text=kind)
     _, sends, confirms = SERVICES[kind]
     data = ["QI", "ID", *(f"SD_{it}" for it in numbers if not kind.startswith("SUB"))]
     outputs = ["QO", "STATUS", *(f"RD_{it}" for it in numbers if not kind.startswith("PUB"))]

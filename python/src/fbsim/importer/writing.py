@@ -1,4 +1,4 @@
-"""Writes the texts of the profile, and keeps the place in the XML of what is written."""
+"""Writes the texts of the profile with the places in the XML of what is written, and the report."""
 
 from __future__ import annotations
 
@@ -127,17 +127,9 @@ class Types:
         """Write a basic type, a simple one, or a stub."""
         chart = chart_of(block, self.library)
         self.head(block, chart.variables)
-        rows = []
-        for name, actions, place in chart.states:
-            row = [(name, place)]
-            for number, (algorithm, event, at) in enumerate(actions):
-                arrow = f"{' ' if algorithm else ''}-> {event}" if event else ""
-                row.append((f"{', ' if number else ' : '}{algorithm}{arrow}", at))
-            rows.append(row)
-        self.text.rows("EC_STATES", "END_STATES", rows)
-        rows = [[(f"{source} TO {target} := ", place), *pieces] for source, target, pieces, place in chart.transitions]
-        self.text.rows("EC_TRANSITIONS", "END_TRANSITIONS", rows)
-        for name, pieces, place in chart.algorithms:
+        self.text.rows("EC_STATES", "END_STATES", chart.states)
+        self.text.rows("EC_TRANSITIONS", "END_TRANSITIONS", chart.transitions)
+        for (name, place), *pieces in chart.algorithms:
             for part, at in [(f"ALGORITHM {name} IN ST:", place), *pieces, ("\nEND_ALGORITHM\n", place)]:
                 self.text.add(part, at)
         self.text.add("END_FUNCTION_BLOCK\n\n")
@@ -192,3 +184,36 @@ def write_deployment(system: System, latency: int) -> Text:
         row = f'[[link]]\nfrom = "{source.out}"\nto = "{target.out}"\nlatency = {latency}\n\n'
         text.add(row, source.place)
     return text
+
+
+def section(title: str, rows: Iterable[str]) -> list[str]:
+    """Return the lines of a section, or none if it has no rows."""
+    found = [f"  {it}" for it in rows]
+    return [title, *found, ""] if found else []
+
+
+def stub_rows(system: System) -> Iterable[str]:
+    """Return the output events of stubs, with the stimuli that give them."""
+    for it in system.network.instances.values():
+        for port in it.block.side("event", True) if it.block.kind == "service" else ():
+            given = it.block.ports[f"GIVE_{port.name}"]
+            values = "".join(f" {it.block.ports[name].out}=.." for name, _ in given.withs)
+            yield f"{it.out}.{port.out}: the stimulus {it.out}.{given.out}{values}"
+
+
+def write_report(system: System, library: Library, types: Types, latency: int) -> str:
+    """Return the text of import.txt."""
+    instances = (f"{one.path.lstrip('.')} ({one.block.name}): {one.out} : {one.block.out} in {it.out}"
+                 for it in system.resources for one in it.instances)
+    return "\n".join([
+        f"Application {system.name}, from {system.place.source.path}", "",
+        *section("Types", (f"{it.place}: {it.kind} type {it.name}: {it.out}" for it in types.written)),
+        *section("Resources", (f"{it.device}.{it.name}: {it.out}, instances: {len(it.instances)}"
+                               for it in system.resources)),
+        *section("Links, with the latency to set in deploy.toml",
+                 (f"{source.out} to {target.out}: {latency} ms" for source, target in system.crossings())),
+        *section("Instances", instances),
+        *section("Renamed, assumed and replaced", dict.fromkeys([*library.notes, *system.notes])),
+        *section("Outputs of stubs, and what a stimulus or a session gives them by", stub_rows(system)),
+        *section("Ignored, since it means nothing here", (f"{it}: {n}" for it, n in sorted(library.ignored.items()))),
+    ])
