@@ -222,8 +222,11 @@ def cases():
     yield "own", OWN, OWN_PLAN
     yield "own alone", OWN, None
     for path in sorted(glob.glob(f"{TOP}/examples/**/*.iec", recursive=True)):
-        plan = f"{os.path.dirname(path)}/deploy.toml"
-        yield os.path.basename(path), content(path), content(plan) if os.path.exists(plan) else None
+        # An imported application has its types in a file beside it.
+        types, plan = (f"{os.path.dirname(path)}/{name}" for name in ("types.iec", "deploy.toml"))
+        if path != types:
+            declaration = (content(types) if os.path.exists(types) else b"") + content(path)
+            yield os.path.basename(path), declaration, content(plan) if os.path.exists(plan) else None
     for seed in range(RANDOM):
         declaration, plan, *_ = Writer(seed).system()
         yield f"random {seed}", declaration.encode(), plan.encode()
