@@ -55,6 +55,19 @@ impl Key {
         }
     }
 
+    /// The key of the stimulus that was given in this row, from 0.
+    pub fn given(tick: u64, resource: u32, row: u64) -> Key
+        ensures { result ≡ stimulus_key tick resource row }
+    {
+        Key {
+            tick,
+            resource,
+            class: STIMULUS,
+            a: u128::from(row),
+            b: 0,
+        }
+    }
+
     /// The key under which the timer of an instance goes off.
     #[inline(always)]
     pub fn timer(tick: u64, resource: u32, instance: u32) -> Key

@@ -5,6 +5,7 @@ ghost use Rattle.std.specs.Prelude.{◌≡◌};
 ghost use Rattle.fb_types.specs.declared.run.Halt.TheVariants.{Memory, Stop};
 
 use crate::few::Few;
+use crate::items::Items;
 use crate::key::Key;
 use crate::message_values::MessageValues;
 use crate::value::{Reason, Value};
@@ -99,9 +100,40 @@ impl Drop for Message {
     }
 }
 
+/// A value for the slot of the data input at an index.
+#[derive(Clone, Copy)]
+pub struct SlotValue {
+    /// The index among the data inputs of the type.
+    pub index: u32,
+    /// The value, which is one of the input's type.
+    pub value: Value,
+}
+
+/// A stimulus that a caller gave while the simulation went on, with all that its taking needs: it is in no list of
+/// stimuli, and its memory is freed when it is taken. It is not larger than a message, so that events that wait are as
+/// small as without it.
+pub struct GivenRow {
+    /// Its row, from 0: after all rows of the system and all that were given before.
+    pub row: u64,
+    /// The event input.
+    pub target: Target,
+    /// The slots that it sets before the event is taken, in the order of the row.
+    pub sets: Items<SlotValue>,
+}
+
+impl Drop for GivenRow {
+    fn drop(self) {
+        let GivenRow {
+            row: _,
+            target: _,
+            sets: _,
+        } = self;
+    }
+}
+
 /// An event that waits.
 pub enum Event {
-    /// A stimulus, by its row.
+    /// A stimulus of the system, by its row.
     Stimulus(u32),
     /// The timer of an instance.
     Timer(u32),
@@ -109,12 +141,18 @@ pub enum Event {
     Arrival(Message),
     /// A local event, at its target.
     Local(Target),
+    /// A stimulus that was given while the simulation went on.
+    Given(GivenRow),
 }
 
 impl Drop for Event {
     fn drop(self) {
         match self {
-            Event::Stimulus(_) | Event::Timer(_) | Event::Arrival(_) | Event::Local(_) => {}
+            Event::Stimulus(_)
+            | Event::Timer(_)
+            | Event::Arrival(_)
+            | Event::Local(_)
+            | Event::Given(_) => {}
         }
     }
 }
