@@ -2,9 +2,12 @@
 
 from __future__ import annotations
 
+import random
+import subprocess
 import tomllib
 
 import pytest
+from fbsim.program import find_program
 from importing import PARCELS, basic, connections, import_all, mappings, place_of, resource, system
 
 LINK = connections("Event", "A.EO B.S") + connections("Data", "A.Q C.D")
@@ -15,10 +18,22 @@ def deployment(done):
     return tomllib.loads(done.text("deploy.toml"))
 
 
-def test_thirty_instances_in_two_devices_have_the_trace_of_the_same_application_in_text(tmp_path):
+def import_parcels(folder):
     files = {"Parcels.sys": (PARCELS / "Parcels.sys").read_bytes()}
     files |= {f"lib/{it.name}": it.read_bytes() for it in (PARCELS / "lib").iterdir()}
-    done = import_all(tmp_path, files, "--latency", "5")
+    return import_all(folder, files, "--latency", "5")
+
+
+def answer(folder, *words):
+    """Returns what a run of 4,000 ms in a folder gives, which may end in a stop: its status and its trace."""
+    words = [find_program(), "run", *words, "--deploy", "deploy.toml", "--horizon", "4000"]
+    done = subprocess.run(words, cwd=folder, capture_output=True, text=True)
+    return done.returncode, done.stdout
+
+
+# `text/` was written from the XML by hand, by somebody who did not write the importer and had not seen what it writes.
+def test_thirty_instances_in_two_devices_have_the_trace_of_the_same_application_in_text(tmp_path):
+    done = import_parcels(tmp_path)
     assert done.status == 0, done.lines
     plan = deployment(done)
     assert sum(len(it["instances"]) for it in plan["resource"]) == 30
@@ -26,6 +41,30 @@ def test_thirty_instances_in_two_devices_have_the_trace_of_the_same_application_
     assert done.run(2500) == (PARCELS / "trace").read_text()
     for name in ("types.iec", "application.iec", "deploy.toml", "import.txt"):
         assert done.text(name) == (PARCELS / "imported" / name).read_text(), name
+
+
+# Events of the parcel line that stimuli may give, with the input that each may set.
+GIVEN = """CONTROL.ON BASE, CONTROL.OFF, BEAT.START DT, BEAT.STOP, FEEDER.NEXT, SCALE.REQ LIGHT, SCALE.REQ HEAVY, LONGS.EI,
+    LONG_COUNT.CU PV, LONG_COUNT.R, STOP_AT.EI, OVERS.REQ BY_1, FIRST_OVER.S, FIRST_OVER.R, LAMP__BLINK.START DT,
+    LAMP__BLINK.STOP, LAMP__FLIP.CLK, TOTALS.REQ, MOTOR.DRV__RUN, MOTOR.DRV__HALT, CONTROL.DRV__STARTED, SORTER__ROUTE.EI,
+    SORTER__LANE0__GATE.OPEN, SORTER__LANE0__GATE.CLOSE, SORTER__LANE0__PUSH.START DT, SORTER__LANE1__GATE.OPEN,
+    SORTER__LANE1__PUSH.STOP, SORTER__LANE2__COUNT.REQ BY_1, SORTER__ANY1.EI1, SORTER__ANY2.EI2, WATCH.START DT, WATCH.STOP,
+    IDLE.S, IDLE.R, PASSED.REQ BY_1""".split(",")
+
+
+@pytest.mark.parametrize("seed", range(8))
+def test_stimuli_give_the_same_trace_as_in_text(seed, tmp_path):
+    chance, rows = random.Random(seed), ["tick,event,values"]
+    for _ in range(150):
+        event, *names = chance.choice(GIVEN).split()
+        values = [f"{it}={chance.randrange(1, 60)}" for it in names if chance.random() < 0.5]
+        rows.append(f"{chance.randrange(4000)},{event},{' '.join(values)}")
+    done = import_parcels(tmp_path)
+    stimuli = done.out / "stimuli.csv"
+    stimuli.write_text("\n".join(rows) + "\n")
+    found = answer(done.out, "application.iec", "--types", "types.iec", "--stim", stimuli)
+    assert found == answer(PARCELS / "text", "parcels.iec", "--stim", stimuli)
+    assert len(found[1].splitlines()) > 800
 
 
 # ---- Subapplications
