@@ -34,7 +34,7 @@ pub fn exec_compiled(
     ensures fewer { meter.new.left ≤ meter.old.left }
 {
     match codes {
-        Some(codes) => frame.run(codes, layout, meter),
+        Some(codes) => frame.slots.run(codes, layout, meter),
         None => None,
     }
 }
@@ -53,7 +53,7 @@ pub fn holds_compiled(
     ensures { result ≡ truth_of (expr_of guard.now) (values_of frame.now) }
 {
     match compiled {
-        Some(compiled) => match frame.holds_condition(compiled, layout) {
+        Some(compiled) => match frame.slots.holds_condition(compiled, layout) {
             Some(result) => result,
             None => holds(guard, frame),
         },

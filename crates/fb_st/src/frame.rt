@@ -1,20 +1,13 @@
 //! Variables with their types and values, each with a name of its own.
 
-ghost use Rattle.std.specs.Prelude.{◌≡◌, ◌≤◌, true, false, None, slice_get, IfSome, IfErr, MatchOption, OnOk};
-ghost use Rattle.fb_types.specs.Bodies.{RunsAll};
+ghost use Rattle.std.specs.Prelude.{◌≡◌, true, false, slice_get, IfErr, MatchOption, OnOk};
 ghost use Rattle.fb_types.specs.Flat.{zero_value};
 ghost use Rattle.fb_types.specs.Names.{with_value};
 ghost use Rattle.fb_types.specs.Repeated.{Twice};
-ghost use Rattle.fb_types.specs.Values.{fits, truth_of, whole};
-ghost use Rattle.fb_st.specs.Compiled.{truth_said};
-ghost use Rattle.fb_st.specs.Flows.{end_of, point};
-ghost use Rattle.fb_st.specs.Fitting.{codes_right, codes_said, expr_of_truth, right_truth};
+ghost use Rattle.fb_types.specs.Values.{fits, whole};
 ghost use Rattle.fb_st.specs.Variables.{least_of, most_of};
 ghost use Rattle.fb_st.specs.Frames.{values_of, declared_in, is_declared, names_of, types_in};
 
-use crate::compiled::{CompiledStmt, TruthExpr};
-use crate::layout::Layout;
-use crate::meter::{Flow, Meter};
 use crate::operator::whole_of;
 use crate::slot_list::SlotList;
 use fb_types::{Name, Reason, Reference, Ty, Value};
@@ -70,7 +63,7 @@ pub(crate) fn most_of_type(ty: Ty) -> i64
 /// The variables of expressions and statements. No two have the same name.
 #[derive(Drop)]
 pub struct Frame {
-    slots: SlotList,
+    pub(crate) slots: SlotList,
 }
 
 impl Model for Frame {
@@ -178,37 +171,5 @@ impl Frame {
         }
         self.slots.set(index, &value);
         Ok(())
-    }
-
-    /// Runs compiled statements. `None` if a variable holds a value that its type does not hold: then nothing is run.
-    #[inline(always)]
-    pub(crate) fn run(
-        &mut self,
-        codes: &[CompiledStmt],
-        layout: &Layout,
-        meter: &mut Meter,
-    ) -> Option<Result<Flow, Reason>>
-        requires layout { layout.now ≡ declared_in self.old }
-        requires right { codes_right layout.now codes.now ≡ true }
-        ensures run { IfSome result (λ r. RunsAll (types_in layout.now) (codes_said layout.now codes.now) (point self.old meter.old) (end_of r) (point self.new meter.new)) }
-        ensures none { result ≡ None → (self.new ≡ self.old) × (meter.new ≡ meter.old) }
-        ensures declared { declared_in self.new ≡ declared_in self.old }
-        ensures fewer { meter.new.left ≤ meter.old.left }
-    {
-        self.slots.run(codes, layout, meter)
-    }
-
-    /// Whether a compiled condition is true. `None` as for `run`.
-    #[inline(always)]
-    pub(crate) fn holds_condition(
-        &self,
-        condition: &TruthExpr,
-        layout: &Layout,
-    ) -> Option<Result<bool, Reason>>
-        requires layout { layout.now ≡ declared_in self.now }
-        requires right { right_truth layout.now (truth_said condition.now) ≡ true }
-        ensures { IfSome result (λ r. r ≡ truth_of (expr_of_truth layout.now (truth_said condition.now)) (values_of self.now)) }
-    {
-        self.slots.holds_condition(condition, layout)
     }
 }

@@ -1,6 +1,8 @@
-use Rattle.std.proofs.Common.{List, Option, ap, subst}
+use Rattle.std.proofs.Common.{List, Option, map, sym, ◌∙◌, ap, subst}
 use Rattle.std.specs.Prelude.{IfSome}
 use Rattle.std.specs.Borrow.{Bor}
+use Rattle.fb_types.specs.Names.{Name}
+use Rattle.fb_types.specs.Repeated.{Twice}
 use Rattle.fb_types.specs.Syntax.{Stmt, Stmts, stmts}
 use Rattle.fb_types.specs.Bodies.{Point, RunsAll}
 use Rattle.fb_st.specs.Flows.{end_of, point}
@@ -8,13 +10,26 @@ use Rattle.fb_st.specs.Frames.{Declared, declared_in, types_in}
 use Rattle.fb_st.specs.Fitting.{codes_said}
 use Rattle.fb_st.specs.Made.{SaysAll}
 use Rattle.fb_st.specs.declared.compiled.CompiledStmt.{CompiledStmt}
+use Rattle.fb_st.specs.declared.frame.Slot.{Slot}
+use Rattle.fb_st.proofs.Slots.{names_declared}
 use Rattle.fb_st.proofs.algorithm.exec_compiled.Goals as goal
 
 pub run-requires : goal.run-requires
 run-requires c =
     let Says : Option (Bor (List CompiledStmt)) → Type 0 = λ o. IfSome o (λ codes. SaysAll c.args.layout.now c.requires.says.0 codes.now) in
     let says = subst Says c.in-Some.is c.requires.says.1 in
-    record { layout = c.requires.layout; right = says.right }
+    record {
+      layout = c.requires.layout ∙ ap declared_in (sym c.frame.view_is);
+      once = c.frame.invariant;
+      right = says.right;
+    }
+
+pub invariant_of-frame : goal.invariant_of-frame
+invariant_of-frame c =
+    let xs : List Slot = c.frame.inside.slots in
+    let ys : List Slot = c.run.new.self in
+    let P : List Name → Type 0 = λ ns. ¬ (Twice ns) in
+    subst P (sym (names_declared xs) ∙ ap (map (λ d. d.0)) (sym c.run.ensures.declared) ∙ names_declared ys) c.frame.invariant
 
 pub returns-in-Some-clause-run : goal.returns-in-Some-clause-run
 returns-in-Some-clause-run c = λ text given.
@@ -24,5 +39,6 @@ returns-in-Some-clause-run c = λ text given.
     let Says : Option (Bor (List CompiledStmt)) → Type 0 = λ o. IfSome o (λ codes. SaysAll ds text codes.now) in
     let Said : Stmts → Type 0 = λ b. IfSome c.run.result (λ r. RunsAll (types_in (declared_in c.args.frame.now)) b p (end_of r) q) in
     let Laid : List Declared → Type 0 = λ l. IfSome c.run.result (λ r. RunsAll (types_in l) (codes_said ds c.in-Some.codes.now) p (end_of r) q) in
+    let Held : List Slot → Type 0 = λ l. IfSome c.run.result (λ r. RunsAll (types_in ds) (codes_said ds c.in-Some.codes.now) (point l c.args.meter.now) (end_of r) q) in
     let says = subst Says c.in-Some.is given in
-    subst Said (ap stmts says.says) (subst Laid c.requires.layout c.run.ensures.run)
+    subst Said (ap stmts says.says) (subst Laid c.requires.layout (subst Held c.frame.view_is c.run.ensures.run))
