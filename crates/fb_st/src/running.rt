@@ -141,7 +141,7 @@ fn has_label(labels: &[Label], number: i128) -> bool
 /// Runs statements in order.
 #[cycle(running)]
 #[inline(never)]
-fn run_all(
+pub(crate) fn run_all(
     statements: &[CompiledStmt],
     layout: &Layout,
     words: &mut [i64],
@@ -356,50 +356,6 @@ fn run_choice(
         }
     }
     run_body(others, layout, words, meter)
-}
-
-/// Runs IF.
-#[inline(always)]
-fn run_if(
-    choices: &[CompiledChoice],
-    others: &[CompiledStmt],
-    layout: &Layout,
-    words: &mut [i64],
-    meter: &mut Meter,
-) -> Result<Flow, Reason>
-    requires fit { length words.old ≡ length layout.now }
-    requires once { ¬ (Twice (map (λ d. d.0) layout.now)) }
-    requires right { arms_right layout.now choices.now ≡ true }
-    requires others_right { codes_right layout.now others.now ≡ true }
-    ensures run { Runs (types_in layout.now) (If (arms_said layout.now choices.now) (codes_said layout.now others.now)) (spot layout.now words.old meter.old) (end_of result) (spot layout.now words.new meter.new) }
-    ensures length { length words.new ≡ length words.old }
-    ensures fewer { meter.new.left ≤ meter.old.left }
-{
-    meter.step()?;
-    run_choice(choices, others, layout, words, meter)
-}
-
-/// Runs the statements of an algorithm. A single IF, which many are, needs one call less.
-#[inline(always)]
-pub(crate) fn run_algorithm(
-    statements: &[CompiledStmt],
-    layout: &Layout,
-    words: &mut [i64],
-    meter: &mut Meter,
-) -> Result<Flow, Reason>
-    requires fit { length words.old ≡ length layout.now }
-    requires once { ¬ (Twice (map (λ d. d.0) layout.now)) }
-    requires right { codes_right layout.now statements.now ≡ true }
-    ensures run { RunsAll (types_in layout.now) (codes_said layout.now statements.now) (spot layout.now words.old meter.old) (end_of result) (spot layout.now words.new meter.new) }
-    ensures length { length words.new ≡ length words.old }
-    ensures fewer { meter.new.left ≤ meter.old.left }
-{
-    if let [statement] = statements {
-        if let CompiledStmt::If(choices, others) = statement {
-            return run_if(choices.as_slice(), others.as_slice(), layout, words, meter);
-        }
-    }
-    run_all(statements, layout, words, meter)
 }
 
 /// Runs the statements of the first label that fits, or those of ELSE.

@@ -17,7 +17,7 @@ use crate::exact;
 use crate::frame::Slot;
 use crate::layout::{self, Layout};
 use crate::meter::{Flow, Meter};
-use crate::running::{is_true, run_algorithm};
+use crate::running::{is_true, run_all};
 use fb_types::{Name, Reason, Reference, Ty, Value};
 use std::alloc::{AllocError, Global};
 use std::marker::Model;
@@ -288,7 +288,7 @@ impl SlotList {
             return None;
         }
         let words = self.words.as_mut_slice();
-        Some(run_algorithm(codes, layout, words, meter))
+        Some(run_all(codes, layout, words, meter))
     }
 
     /// Whether a compiled condition is true. `None` as for `run`.
