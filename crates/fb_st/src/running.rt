@@ -255,31 +255,6 @@ fn run_body(
     run_all(statements, layout, words, meter)
 }
 
-/// Runs the statements of a label. It looks only for a single assignment to a variable of 64 bits, since CASE gets
-/// slower with both.
-#[cycle(running)]
-#[inline(always)]
-fn run_labelled(
-    statements: &[CompiledStmt],
-    layout: &Layout,
-    words: &mut [i64],
-    meter: &mut Meter,
-) -> Result<Flow, Reason>
-    requires fit { length words.old ≡ length layout.now }
-    requires once { ¬ (Twice (map (λ d. d.0) layout.now)) }
-    requires right { codes_right layout.now statements.now ≡ true }
-    ensures run { RunsAll (types_in layout.now) (codes_said layout.now statements.now) (spot layout.now words.old meter.old) (end_of result) (spot layout.now words.new meter.new) }
-    ensures length { length words.new ≡ length words.old }
-    ensures fewer { meter.new.left ≤ meter.old.left }
-{
-    if let [statement] = statements {
-        if let CompiledStmt::AssignLong(slot, expr) = statement {
-            return assign(*slot, expr, layout, words, meter);
-        }
-    }
-    run_all(statements, layout, words, meter)
-}
-
 /// Runs one statement.
 #[cycle(running)]
 #[inline(always)]
@@ -379,10 +354,10 @@ fn run_branch(
 {
     for branch in branches {
         if has_label(branch.labels.as_slice(), number) {
-            return run_labelled(branch.body.as_slice(), layout, words, meter);
+            return run_all(branch.body.as_slice(), layout, words, meter);
         }
     }
-    run_labelled(others, layout, words, meter)
+    run_all(others, layout, words, meter)
 }
 
 /// An iteration of WHILE or REPEAT, which costs a step before its body.

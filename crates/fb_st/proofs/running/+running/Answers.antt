@@ -389,26 +389,6 @@ run_body-returns-in-AssignWithin-clause-run t c =
     one_code ds T c.args.statements.now s p q e one c.statement-item.is
     (subst (λ (u : Stmt). Runs T u p e q) (sym (ap (code_said ds) k.is ∙ within_says ds k.slot k.least k.most k.expr)) c.assign_short.ensures.run)
 
-pub run_labelled-assign-requires-clause-right : goal.run_labelled-assign-requires-clause-right
-run_labelled-assign-requires-clause-right t c =
-    let ds = c.args.layout.now in
-    let s : CompiledStmt = c.statement-item.result in
-    let one : length c.args.statements.now ≡ 1 = let least = c.in-len1.len_at_least in let below = c.in-len1.len_below in omega arith in
-    let within : 0 < length c.args.statements.now = omega arith in
-    let right = (one_right (code_right ds) c.args.statements.now 0 s within c.statement-item.is c.requires.right).0 in
-    sym (long_right ds c.in-AssignLong.slot c.in-AssignLong.expr) ∙ ap (code_right ds) (sym c.in-AssignLong.is) ∙ right
-
-pub run_labelled-returns-in-AssignLong-clause-run : goal.run_labelled-returns-in-AssignLong-clause-run
-run_labelled-returns-in-AssignLong-clause-run t c =
-    let ds = c.args.layout.now in
-    let T : Types = types_in ds in
-    let s : CompiledStmt = c.statement-item.result in
-    let p : Point = spot ds c.args.words.now c.args.meter.now in
-    let q : Point = spot ds c.assign.new.words c.assign.new.meter in
-    let one : length c.args.statements.now ≡ 1 = let least = c.in-len1.len_at_least in let below = c.in-len1.len_below in omega arith in
-    one_code ds T c.args.statements.now s p q (end_of c.assign.result) one c.statement-item.is
-    (subst (λ (u : Stmt). Runs T u p (end_of c.assign.result) q) (sym (ap (code_said ds) c.in-AssignLong.is ∙ long_says ds c.in-AssignLong.slot c.in-AssignLong.expr)) c.assign.ensures.run)
-
 -- ---- IF
 
 pub run_choice-run_body-requires : goal.run_choice-run_body-requires
@@ -525,12 +505,12 @@ run_branch-returns-then-has_label-clause-run t c =
     let wide : SFits w128 z = search rules in
     let inv = rw (to_z-of_z wide) at c.loop-branch.invariant in
     let one : CompiledBranch = c.branch-item.result in
-    let q : Point = spot ds c.run_labelled.new.words c.run_labelled.new.meter in
+    let q : Point = spot ds c.run_all.new.words c.run_all.new.meter in
     let fits = fork_fits ds one c.as_slice.result.now z c.has_label.result true c.as_slice.ensures (rw (to_z-of_z wide) at c.has_label.ensures) c.if-has_label.true in
-    let ran = fork_ran ds T one c.loop-branch.words c.args.words.now c.loop-branch.meter c.args.meter.now c.as_slice-then-has_label.result.now (end_of c.run_labelled.result) q
-    inv.same_words inv.same_meter c.as_slice-then-has_label.ensures c.run_labelled.ensures.run in
-    inv.run (end_of c.run_labelled.result) q
-    (fork_taken ds T bs c.loop-branch.branch-index one z others p c.loop-branch-test.true c.branch-item.is fits (end_of c.run_labelled.result) q ran)
+    let ran = fork_ran ds T one c.loop-branch.words c.args.words.now c.loop-branch.meter c.args.meter.now c.as_slice-then-has_label.result.now (end_of c.run_all.result) q
+    inv.same_words inv.same_meter c.as_slice-then-has_label.ensures c.run_all.ensures.run in
+    inv.run (end_of c.run_all.result) q
+    (fork_taken ds T bs c.loop-branch.branch-index one z others p c.loop-branch-test.true c.branch-item.is fits (end_of c.run_all.result) q ran)
 
 pub run_branch-returns-clause-run : goal.run_branch-returns-clause-run
 run_branch-returns-clause-run t c =
@@ -542,9 +522,9 @@ run_branch-returns-clause-run t c =
     let p : Point = spot ds c.args.words.now c.args.meter.now in
     let wide : SFits w128 z = search rules in
     let inv = rw (to_z-of_z wide) at c.loop-branch.invariant in
-    let q : Point = spot ds c.run_labelled-2.new.words c.run_labelled-2.new.meter in
-    let e : End = end_of c.run_labelled-2.result in
-    let ran = codes_as ds T c.loop-branch.words c.args.words.now c.loop-branch.meter c.args.meter.now c.args.others.now c.args.others.now e q inv.same_words inv.same_meter refl c.run_labelled-2.ensures.run in
+    let q : Point = spot ds c.run_all-2.new.words c.run_all-2.new.meter in
+    let e : End = end_of c.run_all-2.result in
+    let ran = codes_as ds T c.loop-branch.words c.args.words.now c.loop-branch.meter c.args.meter.now c.args.others.now c.args.others.now e q inv.same_words inv.same_meter refl c.run_all-2.ensures.run in
     inv.run e q
     (subst (λ (l : List CompiledBranch). RunsBranch T (forks_said ds l) z others p e q) (sym (nothing_left bs c.loop-branch.branch-index c.loop-branch-test.false)) ran)
 
