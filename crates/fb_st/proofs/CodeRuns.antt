@@ -1,12 +1,12 @@
 -- Runs of compiled statements and iterations, put together from their parts. The layout stays, so all is said of one list of variables.
-use Rattle.std.proofs.Common.{◌≡◌, ℕ, ℤ, suc, ◌+◌, ◌<◌, ◌&&◌, rules, Bool, true, false, List, [], ◌∷◌, drop, length, get_or, map, Option, Some, None, Result, Ok, Err, refl, sym, ◌∙◌, ap, subst, arith}
+use Rattle.std.proofs.Common.{◌≡◌, ℕ, ℤ, suc, ◌+◌, ◌<◌, ◌&&◌, rules, Bool, true, false, List, drop, length, get_or, map, Option, Some, None, Result, Ok, Err, refl, sym, ◌∙◌, ap, subst}
 use Rattle.std.specs.Prelude.{slice_get, slice_set}
 use Rattle.std.proofs.lemmas.Bool.{false≢true}
 use Rattle.fb_types.specs.Names.{with_value}
 use Rattle.fb_types.specs.Repeated.{Twice}
 use Rattle.fb_types.specs.Syntax.{Expr, Stmt, Stmts, Branches, Assign, If, Case, For, While, Repeat}
 use Rattle.fb_types.specs.Values.{Types, Values, truth_of, value_of, whole}
-use Rattle.fb_types.specs.Bodies.{Point, End, Went, Left, Returned, Stopped, Running, After, Runs, RunsAll, RunsChoice, RunsBranch, label_fits}
+use Rattle.fb_types.specs.Bodies.{Point, End, Went, Stopped, Running, After, Runs, RunsAll, RunsChoice, RunsBranch, label_fits}
 use Rattle.fb_types.specs.declared.text.Label.{Label}
 use Rattle.fb_types.specs.declared.value.Reason.{Reason}
 use Rattle.fb_types.specs.declared.value.Value.{Value}
@@ -21,7 +21,7 @@ use Rattle.fb_st.specs.declared.compiled.CompiledStmt.TheVariants as variants
 use Rattle.fb_st.specs.declared.compiled.CompiledChoice.{CompiledChoice, out-CompiledChoice, fold_out-CompiledChoice}
 use Rattle.fb_st.specs.declared.compiled.CompiledBranch.{CompiledBranch, out-CompiledBranch, fold_out-CompiledBranch}
 use Rattle.fb_st.specs.Compiled.{number_said, truth_said, truth_at, fits_truth, fits_number}
-use Rattle.fb_st.specs.Fitting.{spot, values_at, name_at, all_right, code_said, codes_said, arm_said, arms_said, fork_said, forks_said, expr_of_number, expr_of_truth, value_of_word, kinds_truth, kinds_number, right_truth, right_number, is_long_type, is_within_type, count_right, code_right, codes_right, arm_right, arms_right, forks_right}
+use Rattle.fb_st.specs.Fitting.{spot, values_at, name_at, all_right, code_said, codes_said, arm_said, arms_said, fork_said, forks_said, expr_of_number, expr_of_truth, value_of_word, kinds_truth, kinds_number, right_truth, right_number, is_within_type, count_right, code_right, codes_right, arm_right, arms_right, forks_right}
 use Rattle.fb_st.proofs.Comes.{both_true, condition_comes}
 use Rattle.fb_st.proofs.Runs.{Leads, cut_at, written}
 use Rattle.fb_st.proofs.Words.{word_written}
@@ -118,21 +118,6 @@ fork_ran ds T b ws vs m n xs e q same_words same_meter same run =
     subst (λ (x : List Label × Stmts). RunsAll T x.1 (spot ds vs n) e q) (sym (fork_says ds b))
     (codes_as ds T ws vs m n xs (out-CompiledBranch b).body e q same_words same_meter same run)
 
--- ---- One statement alone
-
-ends_there : (ds : List Declared) (T : Types) (e : End) (q : Point) → After e (RunsAll T (codes_said ds [])) q e q
-ends_there ds T Went q = (refl, refl)
-ends_there ds T Left q = (refl, refl)
-ends_there ds T Returned q = (refl, refl)
-ends_there ds T (Stopped r) q = (refl, refl)
-
-pub one_code : (ds : List Declared) (T : Types) (ss : List CompiledStmt) (s : CompiledStmt) (p q : Point) (e : End) → length ss ≡ 1 → s ≡ get_or ss 0 s → Runs T (code_said ds s) p e q
-    → RunsAll T (codes_said ds ss) p e q
-one_code ds T [] s p q e one is run = absurd (omega arith)
-one_code ds T (t ∷ []) s p q e one is run =
-    subst (λ (u : CompiledStmt). RunsAll T (codes_said ds (u ∷ [])) p e q) is (e, q, run, ends_there ds T e q)
-one_code ds T (t ∷ u ∷ ss) s p q e one is run = absurd (omega arith)
-
 -- ---- What each statement says
 
 pub long_says : (ds : List Declared) (i : ℕ) (e : NumberExpr) → code_said ds (variants.AssignLong i e) ≡ Assign (name_at ds i) (expr_of_number ds (number_said e))
@@ -170,13 +155,6 @@ arm_parts ds c right =
     let parts = both_true (right_truth ds (truth_said (out-CompiledChoice c).condition)) (codes_right ds (out-CompiledChoice c).body) (sym says ∙ right) in
     let condition = both_true (fits_truth (length ds) (truth_said (out-CompiledChoice c).condition)) (kinds_truth ds (truth_said (out-CompiledChoice c).condition)) parts.0 in
     (condition.0, condition.1, parts.1)
-
-pub long_right : (ds : List Declared) (i : ℕ) (e : NumberExpr) → code_right ds (variants.AssignLong i e) ≡ (is_long_type (slice_get ds i) && right_number ds (number_said e))
-long_right ds i e = rw (← variants.rolls-AssignLong i e) (rw fold-roll-CompiledStmt refl)
-
-pub within_right : (ds : List Declared) (i : ℕ) (least most : ℤ) (e : NumberExpr)
-    → code_right ds (variants.AssignWithin i least most e) ≡ (is_within_type least most (slice_get ds i) && right_number ds (number_said e))
-within_right ds i least most e = rw (← variants.rolls-AssignWithin i least most e) (rw fold-roll-CompiledStmt refl)
 
 pub if_right : (ds : List Declared) (cs : List CompiledChoice) (others : List CompiledStmt) → code_right ds (variants.If cs others) ≡ true → (arms_right ds cs ≡ true) × (codes_right ds others ≡ true)
 if_right ds cs others right =

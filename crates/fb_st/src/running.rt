@@ -183,78 +183,6 @@ fn run_each(
     Ok(Flow::Went)
 }
 
-/// An assignment to a variable whose type holds each number of 64 bits.
-#[inline(always)]
-fn assign(
-    slot: usize,
-    expr: &NumberExpr,
-    layout: &Layout,
-    words: &mut [i64],
-    meter: &mut Meter,
-) -> Result<Flow, Reason>
-    requires fit { length words.old ≡ length layout.now }
-    requires once { ¬ (Twice (map (λ d. d.0) layout.now)) }
-    requires right { (is_long_type (slice_get layout.now slot) && right_number layout.now (number_said expr.now)) ≡ true }
-    ensures run { Runs (types_in layout.now) (Assign (name_at layout.now slot) (expr_of_number layout.now (number_said expr.now))) (spot layout.now words.old meter.old) (end_of result) (spot layout.now words.new meter.new) }
-    ensures length { length words.new ≡ length words.old }
-    ensures fewer { meter.new.left ≤ meter.old.left }
-{
-    meter.step()?;
-    assign_long(slot, expr, layout, words)
-}
-
-/// An assignment to a variable whose type holds the numbers from the least to the most, and of 64 bits no others.
-#[inline(always)]
-fn assign_short(
-    slot: usize,
-    least: i64,
-    most: i64,
-    expr: &NumberExpr,
-    layout: &Layout,
-    words: &mut [i64],
-    meter: &mut Meter,
-) -> Result<Flow, Reason>
-    requires fit { length words.old ≡ length layout.now }
-    requires once { ¬ (Twice (map (λ d. d.0) layout.now)) }
-    requires right { (is_within_type least most (slice_get layout.now slot) && right_number layout.now (number_said expr.now)) ≡ true }
-    ensures run { Runs (types_in layout.now) (Assign (name_at layout.now slot) (expr_of_number layout.now (number_said expr.now))) (spot layout.now words.old meter.old) (end_of result) (spot layout.now words.new meter.new) }
-    ensures length { length words.new ≡ length words.old }
-    ensures fewer { meter.new.left ≤ meter.old.left }
-{
-    meter.step()?;
-    assign_within(slot, least, most, expr, layout, words)
-}
-
-/// Runs the statements of a condition. A single assignment, which many are, needs no call.
-#[cycle(running)]
-#[inline(always)]
-fn run_body(
-    statements: &[CompiledStmt],
-    layout: &Layout,
-    words: &mut [i64],
-    meter: &mut Meter,
-) -> Result<Flow, Reason>
-    requires fit { length words.old ≡ length layout.now }
-    requires once { ¬ (Twice (map (λ d. d.0) layout.now)) }
-    requires right { codes_right layout.now statements.now ≡ true }
-    ensures run { RunsAll (types_in layout.now) (codes_said layout.now statements.now) (spot layout.now words.old meter.old) (end_of result) (spot layout.now words.new meter.new) }
-    ensures length { length words.new ≡ length words.old }
-    ensures fewer { meter.new.left ≤ meter.old.left }
-{
-    if let [statement] = statements {
-        match statement {
-            CompiledStmt::AssignLong(slot, expr) => {
-                return assign(*slot, expr, layout, words, meter);
-            }
-            CompiledStmt::AssignWithin(slot, least, most, expr) => {
-                return assign_short(*slot, *least, *most, expr, layout, words, meter);
-            }
-            _ => {}
-        }
-    }
-    run_all(statements, layout, words, meter)
-}
-
 /// Runs one statement.
 #[cycle(running)]
 #[inline(always)]
@@ -327,10 +255,10 @@ fn run_choice(
 {
     for choice in choices {
         if is_true(&choice.condition, words)? {
-            return run_body(choice.body.as_slice(), layout, words, meter);
+            return run_all(choice.body.as_slice(), layout, words, meter);
         }
     }
-    run_body(others, layout, words, meter)
+    run_all(others, layout, words, meter)
 }
 
 /// Runs the statements of the first label that fits, or those of ELSE.

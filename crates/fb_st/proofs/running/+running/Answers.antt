@@ -1,10 +1,10 @@
-use Rattle.std.proofs.Common.{List, length, subst, ◌≡◌, ◌<◌, sym, ◌∙◌, ap, not, Bool, ℤ, refl, Result, Ok, Err, false, true, arith, rules, to_z-of_z}
+use Rattle.std.proofs.Common.{List, length, subst, ◌≡◌, sym, ◌∙◌, ap, not, Bool, ℤ, refl, Result, Ok, Err, false, true, arith, rules, to_z-of_z}
 use Rattle.std.specs.Prelude.{slice_get, slice_set}
 use mir.Syntax.{w64, w128}
 use mir.Val.{SFits}
 use Rattle.std.proofs.lemmas.Result.{err_from_is_err_and}
 use Rattle.fb_types.specs.Names.{Name}
-use Rattle.fb_types.specs.Syntax.{Stmt, Stmts, Assign, If, Case, While, Repeat}
+use Rattle.fb_types.specs.Syntax.{Stmts, Assign, If, Case, While, Repeat}
 use Rattle.fb_types.specs.Values.{Types, Values, truth_of, whole, fits}
 use Rattle.fb_types.specs.Bodies.{Point, End, Running, Went, Left, Returned, Stopped, Step, Then, RunsAll, RunsChoice, RunsBranch, Runs, Advances, passed}
 use Rattle.fb_types.specs.declared.value.Reason.{Reason}
@@ -23,7 +23,7 @@ use Rattle.fb_st.proofs.Assigning.{within_slot_there}
 use Rattle.fb_st.proofs.Comes.{both_true, condition_comes, number_comes}
 use Rattle.fb_st.proofs.Sizes.{statement_size, body_of_arm_size, body_of_for_size, body_of_repeat_size, body_of_while_size}
 use Rattle.fb_st.proofs.Words.{word_type}
-use Rattle.fb_st.proofs.CodeRuns.{one_right, codes_go_on, codes_end, codes_as, ends_here, one_code, long_right, within_right, long_says, within_says, truth_says, if_says, case_says, for_says, while_says, repeat_says, case_part, case_stops, count_parts, within_there, counted, for_no_start, for_no_end, for_no_step, first_set, first_read, arm_parts, for_right, while_right, repeat_right, arm_holds, arm_ran, arm_taken, arm_passed, arm_stops, fork_fits, fork_ran, fork_taken, fork_passed}
+use Rattle.fb_st.proofs.CodeRuns.{one_right, codes_go_on, codes_end, codes_as, ends_here, long_says, within_says, truth_says, if_says, case_says, for_says, while_says, repeat_says, case_part, case_stops, count_parts, within_there, counted, for_no_start, for_no_end, for_no_step, first_set, first_read, arm_parts, for_right, while_right, repeat_right, arm_holds, arm_ran, arm_taken, arm_passed, arm_stops, fork_fits, fork_ran, fork_taken, fork_passed}
 use Rattle.fb_st.proofs.Runs.{began, case_runs, for_counts, for_not_begun, stopped_by, ended_by, ok_by, ends_as, nothing_left, loop_over, loop_stops, loop_left, loop_returned, loop_stopped, loop_goes_on, repeat_goes_on, repeat_over, repeat_stops, repeat_left, repeat_returned, repeat_stopped}
 use Rattle.fb_st.proofs.running.+running.Goals as goal
 
@@ -342,57 +342,10 @@ run_each-returns-clause-run t c =
     c.loop-statement.invariant.run Went p
     (subst (λ (l : List CompiledStmt). RunsAll T (codes_said ds l) p Went p) (sym (nothing_left c.args.statements.now c.loop-statement.statement-index c.loop-statement-test.false)) (refl, refl))
 
--- ---- One assignment
-
-pub run_body-assign-requires-clause-right : goal.run_body-assign-requires-clause-right
-run_body-assign-requires-clause-right t c =
-    let ds = c.args.layout.now in
-    let s : CompiledStmt = c.statement-item.result in
-    let one : length c.args.statements.now ≡ 1 = let least = c.in-len1.len_at_least in let below = c.in-len1.len_below in omega arith in
-    let within : 0 < length c.args.statements.now = omega arith in
-    let right = (one_right (code_right ds) c.args.statements.now 0 s within c.statement-item.is c.requires.right).0 in
-    sym (long_right ds c.in-AssignLong.slot c.in-AssignLong.expr) ∙ ap (code_right ds) (sym c.in-AssignLong.is) ∙ right
-
-pub run_body-returns-in-AssignLong-clause-run : goal.run_body-returns-in-AssignLong-clause-run
-run_body-returns-in-AssignLong-clause-run t c =
-    let ds = c.args.layout.now in
-    let T : Types = types_in ds in
-    let s : CompiledStmt = c.statement-item.result in
-    let p : Point = spot ds c.args.words.now c.args.meter.now in
-    let q : Point = spot ds c.assign.new.words c.assign.new.meter in
-    let one : length c.args.statements.now ≡ 1 = let least = c.in-len1.len_at_least in let below = c.in-len1.len_below in omega arith in
-    one_code ds T c.args.statements.now s p q (end_of c.assign.result) one c.statement-item.is
-    (subst (λ (u : Stmt). Runs T u p (end_of c.assign.result) q) (sym (ap (code_said ds) c.in-AssignLong.is ∙ long_says ds c.in-AssignLong.slot c.in-AssignLong.expr)) c.assign.ensures.run)
-
-pub run_body-assign_short-requires-clause-right : goal.run_body-assign_short-requires-clause-right
-run_body-assign_short-requires-clause-right t c =
-    let ds = c.args.layout.now in
-    let s : CompiledStmt = c.statement-item.result in
-    let one : length c.args.statements.now ≡ 1 = let least = c.in-len1.len_at_least in let below = c.in-len1.len_below in omega arith in
-    let within : 0 < length c.args.statements.now = omega arith in
-    let right = (one_right (code_right ds) c.args.statements.now 0 s within c.statement-item.is c.requires.right).0 in
-    let k = c.in-AssignWithin in
-    let low : SFits w64 k.least = search rules in
-    let high : SFits w64 k.most = search rules in
-    rw (to_z-of_z low, to_z-of_z high) (sym (within_right ds k.slot k.least k.most k.expr) ∙ ap (code_right ds) (sym k.is) ∙ right)
-
-pub run_body-returns-in-AssignWithin-clause-run : goal.run_body-returns-in-AssignWithin-clause-run
-run_body-returns-in-AssignWithin-clause-run t c =
-    let ds = c.args.layout.now in
-    let T : Types = types_in ds in
-    let s : CompiledStmt = c.statement-item.result in
-    let p : Point = spot ds c.args.words.now c.args.meter.now in
-    let q : Point = spot ds c.assign_short.new.words c.assign_short.new.meter in
-    let e : End = end_of c.assign_short.result in
-    let one : length c.args.statements.now ≡ 1 = let least = c.in-len1.len_at_least in let below = c.in-len1.len_below in omega arith in
-    let k = c.in-AssignWithin in
-    one_code ds T c.args.statements.now s p q e one c.statement-item.is
-    (subst (λ (u : Stmt). Runs T u p e q) (sym (ap (code_said ds) k.is ∙ within_says ds k.slot k.least k.most k.expr)) c.assign_short.ensures.run)
-
 -- ---- IF
 
-pub run_choice-run_body-requires : goal.run_choice-run_body-requires
-run_choice-run_body-requires t c =
+pub run_choice-run_all-requires : goal.run_choice-run_all-requires
+run_choice-run_all-requires t c =
     let ds = c.args.layout.now in
     let inv = c.loop-choice.invariant in
     let one : CompiledChoice = c.choice-item.result in
@@ -452,12 +405,12 @@ run_choice-returns-then-branch-clause-run t c =
     let one : CompiledChoice = c.choice-item.result in
     let right = one_right (arm_right ds) cs c.loop-choice.choice-index one c.loop-choice-test.true c.choice-item.is inv.right in
     let kinds = (arm_parts ds one right.0).1 in
-    let q : Point = spot ds c.run_body.new.words c.run_body.new.meter in
+    let q : Point = spot ds c.run_all.new.words c.run_all.new.meter in
     let holds = arm_holds ds one c.loop-choice.words c.args.words.now c.is_true.result (Ok true) (ap length inv.same_words ∙ c.requires.fit) c.requires.once inv.same_words kinds c.is_true.ensures
     (ok_by c.is_true.result c.in_ok-is_true.field-0 true c.in_ok-is_true.was c.if-branch.true) in
-    let ran = arm_ran ds T one c.loop-choice.words c.args.words.now c.loop-choice.meter c.args.meter.now c.as_slice.result.now (end_of c.run_body.result) q
-    inv.same_words inv.same_meter c.as_slice.ensures c.run_body.ensures.run in
-    inv.run (end_of c.run_body.result) q (arm_taken ds T cs c.loop-choice.choice-index one others p c.loop-choice-test.true c.choice-item.is holds (end_of c.run_body.result) q ran)
+    let ran = arm_ran ds T one c.loop-choice.words c.args.words.now c.loop-choice.meter c.args.meter.now c.as_slice.result.now (end_of c.run_all.result) q
+    inv.same_words inv.same_meter c.as_slice.ensures c.run_all.ensures.run in
+    inv.run (end_of c.run_all.result) q (arm_taken ds T cs c.loop-choice.choice-index one others p c.loop-choice-test.true c.choice-item.is holds (end_of c.run_all.result) q ran)
 
 pub run_choice-returns-clause-run : goal.run_choice-returns-clause-run
 run_choice-returns-clause-run t c =
@@ -467,9 +420,9 @@ run_choice-returns-clause-run t c =
     let others : Running = RunsAll T (codes_said ds c.args.others.now) in
     let p : Point = spot ds c.args.words.now c.args.meter.now in
     let inv = c.loop-choice.invariant in
-    let q : Point = spot ds c.run_body-2.new.words c.run_body-2.new.meter in
-    let e : End = end_of c.run_body-2.result in
-    let ran = codes_as ds T c.loop-choice.words c.args.words.now c.loop-choice.meter c.args.meter.now c.args.others.now c.args.others.now e q inv.same_words inv.same_meter refl c.run_body-2.ensures.run in
+    let q : Point = spot ds c.run_all-2.new.words c.run_all-2.new.meter in
+    let e : End = end_of c.run_all-2.result in
+    let ran = codes_as ds T c.loop-choice.words c.args.words.now c.loop-choice.meter c.args.meter.now c.args.others.now c.args.others.now e q inv.same_words inv.same_meter refl c.run_all-2.ensures.run in
     inv.run e q
     (subst (λ (l : List CompiledChoice). RunsChoice T (arms_said ds l) others p e q) (sym (nothing_left cs c.loop-choice.choice-index c.loop-choice-test.false)) ran)
 

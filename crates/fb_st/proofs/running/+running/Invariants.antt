@@ -86,9 +86,6 @@ decreases-run_each l = 8 * most stmt.the_size l.statements.now + 1
 abbrev pub decreases-run_all : goal.decreases-run_all
 decreases-run_all l = 8 * most stmt.the_size l.statements.now + 2
 
-abbrev pub decreases-run_body : goal.decreases-run_body
-decreases-run_body l = 8 * most stmt.the_size l.statements.now + 3
-
 -- the depth of ELSE counts as well
 abbrev pub decreases-run_choice : goal.decreases-run_choice
 decreases-run_choice l = max (8 * most choice.the_size l.choices.now) (8 * most stmt.the_size l.others.now + 4)
