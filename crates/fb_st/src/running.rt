@@ -154,25 +154,6 @@ pub(crate) fn run_all(
     ensures length { length words.new ≡ length words.old }
     ensures fewer { meter.new.left ≤ meter.old.left }
 {
-    run_each(statements, layout, words, meter)
-}
-
-/// The same as `run_all`, inlined into the loops, so that an iteration has no call.
-#[cycle(running)]
-#[inline(always)]
-fn run_each(
-    statements: &[CompiledStmt],
-    layout: &Layout,
-    words: &mut [i64],
-    meter: &mut Meter,
-) -> Result<Flow, Reason>
-    requires fit { length words.old ≡ length layout.now }
-    requires once { ¬ (Twice (map (λ d. d.0) layout.now)) }
-    requires right { codes_right layout.now statements.now ≡ true }
-    ensures run { RunsAll (types_in layout.now) (codes_said layout.now statements.now) (spot layout.now words.old meter.old) (end_of result) (spot layout.now words.new meter.new) }
-    ensures length { length words.new ≡ length words.old }
-    ensures fewer { meter.new.left ≤ meter.old.left }
-{
     for statement in statements {
         match run(statement, layout, words, meter)? {
             Flow::Went => {}
@@ -306,7 +287,7 @@ fn turn(
     ensures less { OnOk result (meter.new.left < meter.old.left) }
 {
     meter.step()?;
-    run_each(body, layout, words, meter)
+    run_all(body, layout, words, meter)
 }
 
 /// Iterates while the condition is true.
@@ -536,7 +517,7 @@ fn turn_of_for(
     ensures within { IfOk result (λ flow. flow ≡ Flow.Went → passed span.now.end span.now.step (whole (values_at layout.now words.new (name_at layout.now count.now.slot))) ≡ false) }
 {
     meter.step()?;
-    match run_each(body, layout, words, meter)? {
+    match run_all(body, layout, words, meter)? {
         Flow::Went => advance(count, span, layout, words),
         Flow::Left => Ok(Flow::Left),
         Flow::Returned => Ok(Flow::Returned),

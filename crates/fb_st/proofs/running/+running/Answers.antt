@@ -271,8 +271,8 @@ run_counts-returns-in-Returned-clause-run t c =
     let ran = ends_as turn p m Returned (end_of c.turn_of_for.result) (sym (ended_by c.turn_of_for.result c.in_ok-turn_of_for.field-0 flow.Returned c.in_ok-turn_of_for.was c.in-Returned.is)) c.turn_of_for.ensures.run in
     c.loop.invariant.run Returned m (loop_returned test turn p m (ap (λ b. Ok (not b)) here) ran)
 
-pub run_each-run-requires : goal.run_each-run-requires
-run_each-run-requires t c = (
+pub run_all-run-requires : goal.run_all-run-requires
+run_all-run-requires t c = (
   omega (arith, statement_size c.args.statements.now c.loop-statement.statement-index c.statement-item.result c.loop-statement-test.true c.statement-item.is),
   (
     c.loop-statement.invariant.same_length ∙ c.requires.fit,
@@ -283,8 +283,8 @@ run_each-run-requires t c = (
   ),
 )
 
-pub run_each-loop-statement-preserved : goal.run_each-loop-statement-preserved
-run_each-loop-statement-preserved t c =
+pub run_all-loop-statement-preserved : goal.run_all-loop-statement-preserved
+run_all-loop-statement-preserved t c =
     let ds = c.args.layout.now in
     let T : Types = types_in ds in
     let s : CompiledStmt = c.statement-item.result in
@@ -299,8 +299,8 @@ run_each-loop-statement-preserved t c =
       fewer = let a = c.run.ensures.fewer in let b = c.loop-statement.invariant.fewer in omega arith;
     }
 
-pub run_each-returns-in_err-run-clause-run : goal.run_each-returns-in_err-run-clause-run
-run_each-returns-in_err-run-clause-run t c =
+pub run_all-returns-in_err-run-clause-run : goal.run_all-returns-in_err-run-clause-run
+run_all-returns-in_err-run-clause-run t c =
     let ds = c.args.layout.now in
     let T : Types = types_in ds in
     let s : CompiledStmt = c.statement-item.result in
@@ -312,8 +312,8 @@ run_each-returns-in_err-run-clause-run t c =
     rw (x.1, x.2) (c.loop-statement.invariant.run (Stopped r) m
     (codes_end ds T c.args.statements.now c.loop-statement.statement-index s p m (Stopped r) c.loop-statement-test.true c.statement-item.is ran (refl, refl)))
 
-pub run_each-returns-in-Left-clause-run : goal.run_each-returns-in-Left-clause-run
-run_each-returns-in-Left-clause-run t c =
+pub run_all-returns-in-Left-clause-run : goal.run_all-returns-in-Left-clause-run
+run_all-returns-in-Left-clause-run t c =
     let ds = c.args.layout.now in
     let T : Types = types_in ds in
     let s : CompiledStmt = c.statement-item.result in
@@ -323,8 +323,8 @@ run_each-returns-in-Left-clause-run t c =
     c.loop-statement.invariant.run Left m
     (codes_end ds T c.args.statements.now c.loop-statement.statement-index s p m Left c.loop-statement-test.true c.statement-item.is ran (refl, refl))
 
-pub run_each-returns-in-Returned-clause-run : goal.run_each-returns-in-Returned-clause-run
-run_each-returns-in-Returned-clause-run t c =
+pub run_all-returns-in-Returned-clause-run : goal.run_all-returns-in-Returned-clause-run
+run_all-returns-in-Returned-clause-run t c =
     let ds = c.args.layout.now in
     let T : Types = types_in ds in
     let s : CompiledStmt = c.statement-item.result in
@@ -334,8 +334,8 @@ run_each-returns-in-Returned-clause-run t c =
     c.loop-statement.invariant.run Returned m
     (codes_end ds T c.args.statements.now c.loop-statement.statement-index s p m Returned c.loop-statement-test.true c.statement-item.is ran (refl, refl))
 
-pub run_each-returns-clause-run : goal.run_each-returns-clause-run
-run_each-returns-clause-run t c =
+pub run_all-returns-clause-run : goal.run_all-returns-clause-run
+run_all-returns-clause-run t c =
     let ds = c.args.layout.now in
     let T : Types = types_in ds in
     let p : Point = spot ds c.loop-statement.words c.loop-statement.meter in

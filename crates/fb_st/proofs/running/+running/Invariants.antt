@@ -12,8 +12,8 @@ use Rattle.fb_st.proofs.Runs.{Leads, repeats}
 use Rattle.fb_st.proofs.running.+running.Given as goal
 
 -- what the rest runs to from here, all runs to from the start
-abbrev pub invariant-run_each-loop-statement : goal.invariant-run_each-loop-statement
-invariant-run_each-loop-statement l = record {
+abbrev pub invariant-run_all-loop-statement : goal.invariant-run_all-loop-statement
+invariant-run_all-loop-statement l = record {
   run : Leads (RunsAll (types_in l.layout) (codes_said l.layout (drop l.statement-index l.statements))) (spot l.layout l.words l.meter)
       (RunsAll (types_in l.layout) (codes_said l.layout l.statements)) (spot l.layout l.fn.words l.fn.meter);
   right : codes_right l.layout (drop l.statement-index l.statements) ≡ true;
@@ -80,11 +80,8 @@ decreases-run_counts-loop l = l.meter.left
 abbrev pub decreases-run : goal.decreases-run
 decreases-run l = 8 * stmt.the_size l.statement.now
 
-abbrev pub decreases-run_each : goal.decreases-run_each
-decreases-run_each l = 8 * most stmt.the_size l.statements.now + 1
-
 abbrev pub decreases-run_all : goal.decreases-run_all
-decreases-run_all l = 8 * most stmt.the_size l.statements.now + 2
+decreases-run_all l = 8 * most stmt.the_size l.statements.now + 1
 
 -- the depth of ELSE counts as well
 abbrev pub decreases-run_choice : goal.decreases-run_choice
