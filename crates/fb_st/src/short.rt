@@ -124,7 +124,7 @@ pub(crate) fn number(expr: &NumberExpr, words: &[i64]) -> Option<i64>
 {
     match leaf(expr, words) {
         Some(number) => Some(number),
-        // As in `truth_operand`.
+        // As in `truth`.
         None => Some(any_number(expr, words)?),
     }
 }
@@ -212,26 +212,10 @@ fn truth_leaf(expr: &TruthExpr, words: &[i64]) -> Option<bool>
     }
 }
 
-/// The truth value of any expression. Mostly there is no call, even if AND joins two leaves.
-#[inline(always)]
-pub(crate) fn truth(expr: &TruthExpr, words: &[i64]) -> Option<bool>
-    requires { fits_truth (length words.now) (truth_said expr.now) ≡ true }
-    ensures { IfSome result (λ b. truth_at (truth_said expr.now) words.now ≡ Ok b) }
-{
-    match expr {
-        TruthExpr::Both(left, right) => {
-            let a = truth_operand(left.get(), words)?;
-            let b = truth_operand(right.get(), words)?;
-            Some(a && b)
-        }
-        _ => truth_operand(expr, words),
-    }
-}
-
-/// The same as `truth`, for an operand.
+/// The truth value of any expression. One of variables and numbers needs no call.
 #[cycle(short_truth)]
 #[inline(always)]
-fn truth_operand(expr: &TruthExpr, words: &[i64]) -> Option<bool>
+pub(crate) fn truth(expr: &TruthExpr, words: &[i64]) -> Option<bool>
     requires { fits_truth (length words.now) (truth_said expr.now) ≡ true }
     ensures { IfSome result (λ b. truth_at (truth_said expr.now) words.now ≡ Ok b) }
 {
@@ -251,16 +235,16 @@ fn any_truth(expr: &TruthExpr, words: &[i64]) -> Option<bool>
 {
     match expr {
         TruthExpr::Both(left, right) => {
-            let a = truth_operand(left.get(), words)?;
-            let b = truth_operand(right.get(), words)?;
+            let a = truth(left.get(), words)?;
+            let b = truth(right.get(), words)?;
             Some(a && b)
         }
         TruthExpr::Joined(BinaryOperator::Or, left, right) => {
-            let a = truth_operand(left.get(), words)?;
-            let b = truth_operand(right.get(), words)?;
+            let a = truth(left.get(), words)?;
+            let b = truth(right.get(), words)?;
             Some(a || b)
         }
-        TruthExpr::Not(inner) => Some(!truth_operand(inner.get(), words)?),
+        TruthExpr::Not(inner) => Some(!truth(inner.get(), words)?),
         TruthExpr::Compared(operator, left, right) => {
             let x = number(left.get(), words)?;
             let y = number(right.get(), words)?;
