@@ -7,3 +7,4 @@ pub mod Compiled
 pub mod Fitting
 pub mod Made
 pub mod Kept
+pub mod WordRuns

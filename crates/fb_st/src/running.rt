@@ -1,14 +1,13 @@
 //! Runs compiled statements (IEC 61131-3, 7.3.3; the count of steps is this project's profile).
 
-ghost use Rattle.std.specs.Prelude.{◌≡◌, ◌≤◌, ◌<◌, ◌&&◌, ◌+ℤ◌, ◌≤ℤ◌, ℕ, suc, map, true, false, length, slice_get, None, IfOk, IfSome, OnOk};
-ghost use Rattle.fb_types.specs.Syntax.{Assign, Case, For, If, Repeat, While};
+ghost use Rattle.std.specs.Prelude.{◌≡◌, ◌≤◌, ◌<◌, ◌&&◌, ◌+ℤ◌, ◌≤ℤ◌, true, false, length, slice_get, None, IfOk, IfSome, OnOk};
+ghost use Rattle.fb_types.specs.Syntax.{Case, For, If, Repeat, While};
 ghost use Rattle.fb_types.specs.Bodies.{Runs, RunsAll, RunsBranch, Counts, Step, Then, Advances, passed, label_fits};
-ghost use Rattle.fb_types.specs.Values.{whole};
-ghost use Rattle.fb_types.specs.Repeated.{Twice};
 ghost use Rattle.fb_st.specs.Frames.{types_in};
+ghost use Rattle.fb_st.specs.WordRuns.{AreKept, AreWords, Assigns, CountsOn, IsCounter, has_passed};
 ghost use Rattle.fb_st.specs.Flows.{end_of};
 ghost use Rattle.fb_st.specs.Compiled.{number_said, truth_said, number_at, truth_at, fits_number, fits_truth, word_at};
-ghost use Rattle.fb_st.specs.Fitting.{spot, begun, values_at, name_at, expr_of_number, expr_of_truth, is_long_type, is_within_type, is_truth_type, right_number, right_truth, code_said, codes_said, arms_said, forks_said, code_right, codes_right, arms_right, forks_right, count_right};
+ghost use Rattle.fb_st.specs.Fitting.{spot, begun, name_at, expr_of_number, expr_of_truth, is_long_type, is_within_type, is_truth_type, right_number, right_truth, code_said, codes_said, arms_said, forks_said, code_right, codes_right, arms_right, forks_right, count_right};
 
 use crate::assign::{is_any_around, is_past};
 use crate::compiled::{
@@ -27,10 +26,9 @@ fn assign_long(
     layout: &Layout,
     words: &mut [i64],
 ) -> Result<Flow, Reason>
-    requires fit { length words.old ≡ length layout.now }
-    requires once { ¬ (Twice (map (λ d. d.0) layout.now)) }
+    requires frame { AreWords layout.now words.old }
     requires right { (is_long_type (slice_get layout.now slot) && right_number layout.now (number_said expr.now)) ≡ true }
-    ensures run { (left : ℕ) → Runs (types_in layout.now) (Assign (name_at layout.now slot) (expr_of_number layout.now (number_said expr.now))) (record { vars = values_at layout.now words.old; left = suc left }) (end_of result) (record { vars = values_at layout.now words.new; left = left }) }
+    ensures run { Assigns layout.now slot (expr_of_number layout.now (number_said expr.now)) words.old (end_of result) words.new }
     ensures length { length words.new ≡ length words.old }
 {
     match short::number(expr, words) {
@@ -52,10 +50,9 @@ fn assign_within(
     layout: &Layout,
     words: &mut [i64],
 ) -> Result<Flow, Reason>
-    requires fit { length words.old ≡ length layout.now }
-    requires once { ¬ (Twice (map (λ d. d.0) layout.now)) }
+    requires frame { AreWords layout.now words.old }
     requires right { (is_within_type least most (slice_get layout.now slot) && right_number layout.now (number_said expr.now)) ≡ true }
-    ensures run { (left : ℕ) → Runs (types_in layout.now) (Assign (name_at layout.now slot) (expr_of_number layout.now (number_said expr.now))) (record { vars = values_at layout.now words.old; left = suc left }) (end_of result) (record { vars = values_at layout.now words.new; left = left }) }
+    ensures run { Assigns layout.now slot (expr_of_number layout.now (number_said expr.now)) words.old (end_of result) words.new }
     ensures length { length words.new ≡ length words.old }
 {
     match short::number(expr, words) {
@@ -75,11 +72,10 @@ fn assign_exact(
     layout: &Layout,
     words: &mut [i64],
 ) -> Result<Flow, Reason>
-    requires fit { length words.old ≡ length layout.now }
-    requires once { ¬ (Twice (map (λ d. d.0) layout.now)) }
+    requires frame { AreWords layout.now words.old }
     requires slot { slot < length layout.now }
     requires right { right_number layout.now (number_said expr.now) ≡ true }
-    ensures run { (left : ℕ) → Runs (types_in layout.now) (Assign (name_at layout.now slot) (expr_of_number layout.now (number_said expr.now))) (record { vars = values_at layout.now words.old; left = suc left }) (end_of result) (record { vars = values_at layout.now words.new; left = left }) }
+    ensures run { Assigns layout.now slot (expr_of_number layout.now (number_said expr.now)) words.old (end_of result) words.new }
     ensures length { length words.new ≡ length words.old }
 {
     let number = exact::number(expr, words)?;
@@ -108,10 +104,9 @@ fn assign_truth(
     layout: &Layout,
     words: &mut [i64],
 ) -> Result<Flow, Reason>
-    requires fit { length words.old ≡ length layout.now }
-    requires once { ¬ (Twice (map (λ d. d.0) layout.now)) }
+    requires frame { AreWords layout.now words.old }
     requires right { (is_truth_type (slice_get layout.now slot) && right_truth layout.now (truth_said expr.now)) ≡ true }
-    ensures run { (left : ℕ) → Runs (types_in layout.now) (Assign (name_at layout.now slot) (expr_of_truth layout.now (truth_said expr.now))) (record { vars = values_at layout.now words.old; left = suc left }) (end_of result) (record { vars = values_at layout.now words.new; left = left }) }
+    ensures run { Assigns layout.now slot (expr_of_truth layout.now (truth_said expr.now)) words.old (end_of result) words.new }
     ensures length { length words.new ≡ length words.old }
 {
     words[slot] = i64::from(is_true(expr, words)?);
@@ -147,12 +142,10 @@ pub(crate) fn run_all(
     words: &mut [i64],
     meter: &mut Meter,
 ) -> Result<Flow, Reason>
-    requires fit { length words.old ≡ length layout.now }
-    requires once { ¬ (Twice (map (λ d. d.0) layout.now)) }
+    requires frame { AreWords layout.now words.old }
     requires right { codes_right layout.now statements.now ≡ true }
     ensures run { RunsAll (types_in layout.now) (codes_said layout.now statements.now) (spot layout.now words.old meter.old) (end_of result) (spot layout.now words.new meter.new) }
-    ensures length { length words.new ≡ length words.old }
-    ensures fewer { meter.new.left ≤ meter.old.left }
+    ensures kept { AreKept words.old meter.old words.new meter.new }
 {
     for statement in statements {
         match run(statement, layout, words, meter)? {
@@ -173,12 +166,10 @@ fn run(
     words: &mut [i64],
     meter: &mut Meter,
 ) -> Result<Flow, Reason>
-    requires fit { length words.old ≡ length layout.now }
-    requires once { ¬ (Twice (map (λ d. d.0) layout.now)) }
+    requires frame { AreWords layout.now words.old }
     requires right { code_right layout.now statement.now ≡ true }
     ensures run { Runs (types_in layout.now) (code_said layout.now statement.now) (spot layout.now words.old meter.old) (end_of result) (spot layout.now words.new meter.new) }
-    ensures length { length words.new ≡ length words.old }
-    ensures fewer { meter.new.left ≤ meter.old.left }
+    ensures kept { AreKept words.old meter.old words.new meter.new }
 {
     meter.step()?;
     match statement {
@@ -226,13 +217,11 @@ fn run_choice(
     words: &mut [i64],
     meter: &mut Meter,
 ) -> Result<Flow, Reason>
-    requires fit { length words.old ≡ length layout.now }
-    requires once { ¬ (Twice (map (λ d. d.0) layout.now)) }
+    requires frame { AreWords layout.now words.old }
     requires right { arms_right layout.now choices.now ≡ true }
     requires others_right { codes_right layout.now others.now ≡ true }
     ensures run { Runs (types_in layout.now) (If (arms_said layout.now choices.now) (codes_said layout.now others.now)) (begun layout.now words.old meter.old) (end_of result) (spot layout.now words.new meter.new) }
-    ensures length { length words.new ≡ length words.old }
-    ensures fewer { meter.new.left ≤ meter.old.left }
+    ensures kept { AreKept words.old meter.old words.new meter.new }
 {
     for choice in choices {
         if is_true(&choice.condition, words)? {
@@ -253,13 +242,11 @@ fn run_branch(
     words: &mut [i64],
     meter: &mut Meter,
 ) -> Result<Flow, Reason>
-    requires fit { length words.old ≡ length layout.now }
-    requires once { ¬ (Twice (map (λ d. d.0) layout.now)) }
+    requires frame { AreWords layout.now words.old }
     requires right { forks_right layout.now branches.now ≡ true }
     requires others_right { codes_right layout.now others.now ≡ true }
     ensures run { RunsBranch (types_in layout.now) (forks_said layout.now branches.now) number (RunsAll (types_in layout.now) (codes_said layout.now others.now)) (spot layout.now words.old meter.old) (end_of result) (spot layout.now words.new meter.new) }
-    ensures length { length words.new ≡ length words.old }
-    ensures fewer { meter.new.left ≤ meter.old.left }
+    ensures kept { AreKept words.old meter.old words.new meter.new }
 {
     for branch in branches {
         if has_label(branch.labels.as_slice(), number) {
@@ -278,12 +265,10 @@ fn turn(
     words: &mut [i64],
     meter: &mut Meter,
 ) -> Result<Flow, Reason>
-    requires fit { length words.old ≡ length layout.now }
-    requires once { ¬ (Twice (map (λ d. d.0) layout.now)) }
+    requires frame { AreWords layout.now words.old }
     requires right { codes_right layout.now body.now ≡ true }
     ensures run { Step (RunsAll (types_in layout.now) (codes_said layout.now body.now)) (spot layout.now words.old meter.old) (end_of result) (spot layout.now words.new meter.new) }
-    ensures length { length words.new ≡ length words.old }
-    ensures fewer { meter.new.left ≤ meter.old.left }
+    ensures kept { AreKept words.old meter.old words.new meter.new }
     ensures less { OnOk result (meter.new.left < meter.old.left) }
 {
     meter.step()?;
@@ -301,13 +286,11 @@ fn run_while(
     words: &mut [i64],
     meter: &mut Meter,
 ) -> Result<Flow, Reason>
-    requires fit { length words.old ≡ length layout.now }
-    requires once { ¬ (Twice (map (λ d. d.0) layout.now)) }
+    requires frame { AreWords layout.now words.old }
     requires right { codes_right layout.now body.now ≡ true }
     requires condition_right { right_truth layout.now (truth_said condition.now) ≡ true }
     ensures run { Runs (types_in layout.now) (While (expr_of_truth layout.now (truth_said condition.now)) (codes_said layout.now body.now)) (begun layout.now words.old meter.old) (end_of result) (spot layout.now words.new meter.new) }
-    ensures length { length words.new ≡ length words.old }
-    ensures fewer { meter.new.left ≤ meter.old.left }
+    ensures kept { AreKept words.old meter.old words.new meter.new }
 {
     while is_true(condition, words)? {
         match turn(body, layout, words, meter)? {
@@ -329,13 +312,11 @@ fn run_repeat(
     words: &mut [i64],
     meter: &mut Meter,
 ) -> Result<Flow, Reason>
-    requires fit { length words.old ≡ length layout.now }
-    requires once { ¬ (Twice (map (λ d. d.0) layout.now)) }
+    requires frame { AreWords layout.now words.old }
     requires right { codes_right layout.now body.now ≡ true }
     requires condition_right { right_truth layout.now (truth_said condition.now) ≡ true }
     ensures run { Runs (types_in layout.now) (Repeat (codes_said layout.now body.now) (expr_of_truth layout.now (truth_said condition.now))) (begun layout.now words.old meter.old) (end_of result) (spot layout.now words.new meter.new) }
-    ensures length { length words.new ≡ length words.old }
-    ensures fewer { meter.new.left ≤ meter.old.left }
+    ensures kept { AreKept words.old meter.old words.new meter.new }
 {
     loop {
         match turn(body, layout, words, meter)? {
@@ -366,13 +347,11 @@ fn run_for(
     words: &mut [i64],
     meter: &mut Meter,
 ) -> Result<Flow, Reason>
-    requires fit { length words.old ≡ length layout.now }
-    requires once { ¬ (Twice (map (λ d. d.0) layout.now)) }
+    requires frame { AreWords layout.now words.old }
     requires right { codes_right layout.now body.now ≡ true }
     requires count_right { count_right layout.now count.now ≡ true }
     ensures run { Runs (types_in layout.now) (For (name_at layout.now count.now.slot) (expr_of_number layout.now (number_said count.now.start)) (expr_of_number layout.now (number_said count.now.end)) (expr_of_number layout.now (number_said count.now.step)) (codes_said layout.now body.now)) (begun layout.now words.old meter.old) (end_of result) (spot layout.now words.new meter.new) }
-    ensures length { length words.new ≡ length words.old }
-    ensures fewer { meter.new.left ≤ meter.old.left }
+    ensures kept { AreKept words.old meter.old words.new meter.new }
 {
     let first = number(&count.start, words)?;
     let end = number(&count.end, words)?;
@@ -443,12 +422,11 @@ fn advance(
     layout: &Layout,
     words: &mut [i64],
 ) -> Result<Flow, Reason>
-    requires fit { length words.old ≡ length layout.now }
-    requires once { ¬ (Twice (map (λ d. d.0) layout.now)) }
-    requires slot { is_within_type count.now.least count.now.most (slice_get layout.now count.now.slot) ≡ true }
-    ensures run { (left : ℕ) → Advances (types_in layout.now) (name_at layout.now count.now.slot) span.now.end span.now.step (record { vars = values_at layout.now words.old; left = left }) (end_of result) (record { vars = values_at layout.now words.new; left = left }) }
+    requires frame { AreWords layout.now words.old }
+    requires slot { IsCounter layout.now count.now }
+    ensures run { CountsOn layout.now count.now span.now.end span.now.step words.old (end_of result) words.new }
     ensures length { length words.new ≡ length words.old }
-    ensures within { IfOk result (λ flow. flow ≡ Flow.Went → passed span.now.end span.now.step (whole (values_at layout.now words.new (name_at layout.now count.now.slot))) ≡ false) }
+    ensures within { IfOk result (λ flow. flow ≡ Flow.Went → has_passed layout.now count.now span.now.end span.now.step words.new ≡ false) }
 {
     match short_next(count, span, words) {
         Some(next) => {
@@ -480,12 +458,11 @@ fn advance_exact(
     layout: &Layout,
     words: &mut [i64],
 ) -> Result<Flow, Reason>
-    requires fit { length words.old ≡ length layout.now }
-    requires once { ¬ (Twice (map (λ d. d.0) layout.now)) }
-    requires slot { is_within_type count.now.least count.now.most (slice_get layout.now count.now.slot) ≡ true }
-    ensures run { (left : ℕ) → Advances (types_in layout.now) (name_at layout.now count.now.slot) span.now.end span.now.step (record { vars = values_at layout.now words.old; left = left }) (end_of result) (record { vars = values_at layout.now words.new; left = left }) }
+    requires frame { AreWords layout.now words.old }
+    requires slot { IsCounter layout.now count.now }
+    ensures run { CountsOn layout.now count.now span.now.end span.now.step words.old (end_of result) words.new }
     ensures length { length words.new ≡ length words.old }
-    ensures within { IfOk result (λ flow. flow ≡ Flow.Went → passed span.now.end span.now.step (whole (values_at layout.now words.new (name_at layout.now count.now.slot))) ≡ false) }
+    ensures within { IfOk result (λ flow. flow ≡ Flow.Went → has_passed layout.now count.now span.now.end span.now.step words.new ≡ false) }
 {
     let number = layout.number_of(count.slot, short::word(words, count.slot));
     let Some(next) = next_of(*span, number) else {
@@ -506,15 +483,13 @@ fn turn_of_for(
     words: &mut [i64],
     meter: &mut Meter,
 ) -> Result<Flow, Reason>
-    requires fit { length words.old ≡ length layout.now }
-    requires once { ¬ (Twice (map (λ d. d.0) layout.now)) }
+    requires frame { AreWords layout.now words.old }
     requires right { codes_right layout.now body.now ≡ true }
-    requires slot { is_within_type count.now.least count.now.most (slice_get layout.now count.now.slot) ≡ true }
+    requires slot { IsCounter layout.now count.now }
     ensures run { Step (Then (RunsAll (types_in layout.now) (codes_said layout.now body.now)) (Advances (types_in layout.now) (name_at layout.now count.now.slot) span.now.end span.now.step)) (spot layout.now words.old meter.old) (end_of result) (spot layout.now words.new meter.new) }
-    ensures length { length words.new ≡ length words.old }
-    ensures fewer { meter.new.left ≤ meter.old.left }
+    ensures kept { AreKept words.old meter.old words.new meter.new }
     ensures less { OnOk result (meter.new.left < meter.old.left) }
-    ensures within { IfOk result (λ flow. flow ≡ Flow.Went → passed span.now.end span.now.step (whole (values_at layout.now words.new (name_at layout.now count.now.slot))) ≡ false) }
+    ensures within { IfOk result (λ flow. flow ≡ Flow.Went → has_passed layout.now count.now span.now.end span.now.step words.new ≡ false) }
 {
     meter.step()?;
     match run_all(body, layout, words, meter)? {
@@ -535,14 +510,12 @@ fn run_counts(
     words: &mut [i64],
     meter: &mut Meter,
 ) -> Result<Flow, Reason>
-    requires fit { length words.old ≡ length layout.now }
-    requires once { ¬ (Twice (map (λ d. d.0) layout.now)) }
+    requires frame { AreWords layout.now words.old }
     requires right { codes_right layout.now body.now ≡ true }
-    requires slot { is_within_type count.now.least count.now.most (slice_get layout.now count.now.slot) ≡ true }
-    requires within { passed span.end span.step (whole (values_at layout.now words.old (name_at layout.now count.now.slot))) ≡ false }
+    requires slot { IsCounter layout.now count.now }
+    requires within { has_passed layout.now count.now span.end span.step words.old ≡ false }
     ensures run { Counts (types_in layout.now) (name_at layout.now count.now.slot) span.end span.step (RunsAll (types_in layout.now) (codes_said layout.now body.now)) (spot layout.now words.old meter.old) (end_of result) (spot layout.now words.new meter.new) }
-    ensures length { length words.new ≡ length words.old }
-    ensures fewer { meter.new.left ≤ meter.old.left }
+    ensures kept { AreKept words.old meter.old words.new meter.new }
 {
     loop {
         match turn_of_for(count, &span, body, layout, words, meter)? {

@@ -63,7 +63,7 @@ pub run_repeat-returns-in_err-is_true-clause-run : goal.run_repeat-returns-in_er
 run_repeat-returns-in_err-is_true-clause-run t c =
     let ds = c.args.layout.now in
     let kinds = (both_true (fits_truth (length ds) (truth_said c.args.condition.now)) (kinds_truth ds (truth_said c.args.condition.now)) c.requires.condition_right).1 in
-    let here = condition_comes ds c.turn.new.words (c.turn.ensures.length ∙ c.loop-words.invariant.same_length ∙ c.requires.fit) c.requires.once (truth_said c.args.condition.now) kinds in
+    let here = condition_comes ds c.turn.new.words (c.turn.ensures.kept.same_length ∙ c.loop-words.invariant.same_length ∙ c.requires.frame.fit) c.requires.frame.once (truth_said c.args.condition.now) kinds in
     let body : Stmts = codes_said ds c.args.body.now in
     let turn : Running = Step (RunsAll (types_in ds) body) in
     let p : Point = spot ds c.loop-words.words c.loop-words.meter in
@@ -77,7 +77,7 @@ pub run_repeat-returns-then-branch-clause-run : goal.run_repeat-returns-then-bra
 run_repeat-returns-then-branch-clause-run t c =
     let ds = c.args.layout.now in
     let kinds = (both_true (fits_truth (length ds) (truth_said c.args.condition.now)) (kinds_truth ds (truth_said c.args.condition.now)) c.requires.condition_right).1 in
-    let here = condition_comes ds c.turn.new.words (c.turn.ensures.length ∙ c.loop-words.invariant.same_length ∙ c.requires.fit) c.requires.once (truth_said c.args.condition.now) kinds in
+    let here = condition_comes ds c.turn.new.words (c.turn.ensures.kept.same_length ∙ c.loop-words.invariant.same_length ∙ c.requires.frame.fit) c.requires.frame.once (truth_said c.args.condition.now) kinds in
     let body : Stmts = codes_said ds c.args.body.now in
     let turn : Running = Step (RunsAll (types_in ds) body) in
     let p : Point = spot ds c.loop-words.words c.loop-words.meter in
@@ -90,7 +90,7 @@ pub run_repeat-loop-words-preserved : goal.run_repeat-loop-words-preserved
 run_repeat-loop-words-preserved t c =
     let ds = c.args.layout.now in
     let kinds = (both_true (fits_truth (length ds) (truth_said c.args.condition.now)) (kinds_truth ds (truth_said c.args.condition.now)) c.requires.condition_right).1 in
-    let here = condition_comes ds c.turn.new.words (c.turn.ensures.length ∙ c.loop-words.invariant.same_length ∙ c.requires.fit) c.requires.once (truth_said c.args.condition.now) kinds in
+    let here = condition_comes ds c.turn.new.words (c.turn.ensures.kept.same_length ∙ c.loop-words.invariant.same_length ∙ c.requires.frame.fit) c.requires.frame.once (truth_said c.args.condition.now) kinds in
     let body : Stmts = codes_said ds c.args.body.now in
     let turn : Running = Step (RunsAll (types_in ds) body) in
     let p : Point = spot ds c.loop-words.words c.loop-words.meter in
@@ -99,15 +99,15 @@ run_repeat-loop-words-preserved t c =
     let fails = here ∙ sym c.is_true.ensures ∙ ok_by c.is_true.result c.in_ok-is_true.field-0 false c.in_ok-is_true.was c.if-branch.false in
     record {
       run = λ e q rest. c.loop-words.invariant.run e q (repeat_goes_on (expr_of_truth ds (truth_said c.args.condition.now)) turn p m ran fails e q rest);
-      same_length = c.turn.ensures.length ∙ c.loop-words.invariant.same_length;
-      fewer = let a = c.turn.ensures.fewer in let b = c.loop-words.invariant.fewer in omega arith;
+      same_length = c.turn.ensures.kept.same_length ∙ c.loop-words.invariant.same_length;
+      fewer = let a = c.turn.ensures.kept.fewer in let b = c.loop-words.invariant.fewer in omega arith;
     }
 
 pub run_while-loop-words-preserved : goal.run_while-loop-words-preserved
 run_while-loop-words-preserved t c =
     let ds = c.args.layout.now in
     let kinds = (both_true (fits_truth (length ds) (truth_said c.args.condition.now)) (kinds_truth ds (truth_said c.args.condition.now)) c.requires.condition_right).1 in
-    let here = condition_comes ds c.loop-words.words (c.loop-words.invariant.same_length ∙ c.requires.fit) c.requires.once (truth_said c.args.condition.now) kinds in
+    let here = condition_comes ds c.loop-words.words (c.loop-words.invariant.same_length ∙ c.requires.frame.fit) c.requires.frame.once (truth_said c.args.condition.now) kinds in
     let body : Stmts = codes_said ds c.args.body.now in
     let turn : Running = Step (RunsAll (types_in ds) body) in
     let test : Values → Result Bool Reason = truth_of (expr_of_truth ds (truth_said c.args.condition.now)) in
@@ -117,15 +117,15 @@ run_while-loop-words-preserved t c =
     let holds = here ∙ sym c.is_true.ensures ∙ ok_by c.is_true.result c.in_ok-is_true.field-0 true c.in_ok-is_true.was c.if-branch.true in
     record {
       run = λ e q rest. c.loop-words.invariant.run e q (loop_goes_on test turn p m holds ran e q rest);
-      same_length = c.turn.ensures.length ∙ c.loop-words.invariant.same_length;
-      fewer = let a = c.turn.ensures.fewer in let b = c.loop-words.invariant.fewer in omega arith;
+      same_length = c.turn.ensures.kept.same_length ∙ c.loop-words.invariant.same_length;
+      fewer = let a = c.turn.ensures.kept.fewer in let b = c.loop-words.invariant.fewer in omega arith;
     }
 
 pub run_while-returns-in_err-is_true-clause-run : goal.run_while-returns-in_err-is_true-clause-run
 run_while-returns-in_err-is_true-clause-run t c =
     let ds = c.args.layout.now in
     let kinds = (both_true (fits_truth (length ds) (truth_said c.args.condition.now)) (kinds_truth ds (truth_said c.args.condition.now)) c.requires.condition_right).1 in
-    let here = condition_comes ds c.loop-words.words (c.loop-words.invariant.same_length ∙ c.requires.fit) c.requires.once (truth_said c.args.condition.now) kinds in
+    let here = condition_comes ds c.loop-words.words (c.loop-words.invariant.same_length ∙ c.requires.frame.fit) c.requires.frame.once (truth_said c.args.condition.now) kinds in
     let turn : Running = Step (RunsAll (types_in ds) (codes_said ds c.args.body.now)) in
     let test : Values → Result Bool Reason = truth_of (expr_of_truth ds (truth_said c.args.condition.now)) in
     let p : Point = spot ds c.loop-words.words c.loop-words.meter in
@@ -137,7 +137,7 @@ pub run_while-returns-in_err-turn-clause-run : goal.run_while-returns-in_err-tur
 run_while-returns-in_err-turn-clause-run t c =
     let ds = c.args.layout.now in
     let kinds = (both_true (fits_truth (length ds) (truth_said c.args.condition.now)) (kinds_truth ds (truth_said c.args.condition.now)) c.requires.condition_right).1 in
-    let here = condition_comes ds c.loop-words.words (c.loop-words.invariant.same_length ∙ c.requires.fit) c.requires.once (truth_said c.args.condition.now) kinds in
+    let here = condition_comes ds c.loop-words.words (c.loop-words.invariant.same_length ∙ c.requires.frame.fit) c.requires.frame.once (truth_said c.args.condition.now) kinds in
     let body : Stmts = codes_said ds c.args.body.now in
     let turn : Running = Step (RunsAll (types_in ds) body) in
     let test : Values → Result Bool Reason = truth_of (expr_of_truth ds (truth_said c.args.condition.now)) in
@@ -153,7 +153,7 @@ pub run_while-returns-in-Left-clause-run : goal.run_while-returns-in-Left-clause
 run_while-returns-in-Left-clause-run t c =
     let ds = c.args.layout.now in
     let kinds = (both_true (fits_truth (length ds) (truth_said c.args.condition.now)) (kinds_truth ds (truth_said c.args.condition.now)) c.requires.condition_right).1 in
-    let here = condition_comes ds c.loop-words.words (c.loop-words.invariant.same_length ∙ c.requires.fit) c.requires.once (truth_said c.args.condition.now) kinds in
+    let here = condition_comes ds c.loop-words.words (c.loop-words.invariant.same_length ∙ c.requires.frame.fit) c.requires.frame.once (truth_said c.args.condition.now) kinds in
     let body : Stmts = codes_said ds c.args.body.now in
     let turn : Running = Step (RunsAll (types_in ds) body) in
     let test : Values → Result Bool Reason = truth_of (expr_of_truth ds (truth_said c.args.condition.now)) in
@@ -167,7 +167,7 @@ pub run_while-returns-in-Returned-clause-run : goal.run_while-returns-in-Returne
 run_while-returns-in-Returned-clause-run t c =
     let ds = c.args.layout.now in
     let kinds = (both_true (fits_truth (length ds) (truth_said c.args.condition.now)) (kinds_truth ds (truth_said c.args.condition.now)) c.requires.condition_right).1 in
-    let here = condition_comes ds c.loop-words.words (c.loop-words.invariant.same_length ∙ c.requires.fit) c.requires.once (truth_said c.args.condition.now) kinds in
+    let here = condition_comes ds c.loop-words.words (c.loop-words.invariant.same_length ∙ c.requires.frame.fit) c.requires.frame.once (truth_said c.args.condition.now) kinds in
     let body : Stmts = codes_said ds c.args.body.now in
     let turn : Running = Step (RunsAll (types_in ds) body) in
     let test : Values → Result Bool Reason = truth_of (expr_of_truth ds (truth_said c.args.condition.now)) in
@@ -181,7 +181,7 @@ pub run_while-returns-clause-run : goal.run_while-returns-clause-run
 run_while-returns-clause-run t c =
     let ds = c.args.layout.now in
     let kinds = (both_true (fits_truth (length ds) (truth_said c.args.condition.now)) (kinds_truth ds (truth_said c.args.condition.now)) c.requires.condition_right).1 in
-    let here = condition_comes ds c.loop-words.words (c.loop-words.invariant.same_length ∙ c.requires.fit) c.requires.once (truth_said c.args.condition.now) kinds in
+    let here = condition_comes ds c.loop-words.words (c.loop-words.invariant.same_length ∙ c.requires.frame.fit) c.requires.frame.once (truth_said c.args.condition.now) kinds in
     let turn : Running = Step (RunsAll (types_in ds) (codes_said ds c.args.body.now)) in
     let test : Values → Result Bool Reason = truth_of (expr_of_truth ds (truth_said c.args.condition.now)) in
     let p : Point = spot ds c.loop-words.words c.loop-words.meter in
@@ -216,8 +216,8 @@ run_counts-loop-preserved t c =
     let here : passed end step (whole (values_at ds c.loop.words n)) ≡ false = c.loop.invariant.within in
     record {
       run = λ e q rest. c.loop.invariant.run e q (loop_goes_on test turn p m (ap (λ b. Ok (not b)) here) ran e q rest);
-      same_length = c.turn_of_for.ensures.length ∙ c.loop.invariant.same_length;
-      fewer = let a = c.turn_of_for.ensures.fewer in let b = c.loop.invariant.fewer in omega arith;
+      same_length = c.turn_of_for.ensures.kept.same_length ∙ c.loop.invariant.same_length;
+      fewer = let a = c.turn_of_for.ensures.kept.fewer in let b = c.loop.invariant.fewer in omega arith;
       within = c.in_ok-turn_of_for.ensures.within c.in-Went.is;
     }
 
@@ -275,11 +275,8 @@ pub run_all-run-requires : goal.run_all-run-requires
 run_all-run-requires t c = (
   omega (arith, statement_size c.args.statements.now c.loop-statement.statement-index c.statement-item.result c.loop-statement-test.true c.statement-item.is),
   (
-    c.loop-statement.invariant.same_length ∙ c.requires.fit,
-    (
-      c.requires.once,
-      (one_right (code_right c.args.layout.now) c.args.statements.now c.loop-statement.statement-index c.statement-item.result c.loop-statement-test.true c.statement-item.is c.loop-statement.invariant.right).0,
-    ),
+    record { fit = c.loop-statement.invariant.same_length ∙ c.requires.frame.fit; once = c.requires.frame.once },
+    (one_right (code_right c.args.layout.now) c.args.statements.now c.loop-statement.statement-index c.statement-item.result c.loop-statement-test.true c.statement-item.is c.loop-statement.invariant.right).0,
   ),
 )
 
@@ -295,8 +292,8 @@ run_all-loop-statement-preserved t c =
       run = λ e q rest. c.loop-statement.invariant.run e q
           (codes_go_on ds T c.args.statements.now c.loop-statement.statement-index s p m c.loop-statement-test.true c.statement-item.is ran e q rest);
       right = (one_right (code_right ds) c.args.statements.now c.loop-statement.statement-index s c.loop-statement-test.true c.statement-item.is c.loop-statement.invariant.right).1;
-      same_length = c.run.ensures.length ∙ c.loop-statement.invariant.same_length;
-      fewer = let a = c.run.ensures.fewer in let b = c.loop-statement.invariant.fewer in omega arith;
+      same_length = c.run.ensures.kept.same_length ∙ c.loop-statement.invariant.same_length;
+      fewer = let a = c.run.ensures.kept.fewer in let b = c.loop-statement.invariant.fewer in omega arith;
     }
 
 pub run_all-returns-in_err-run-clause-run : goal.run_all-returns-in_err-run-clause-run
@@ -351,7 +348,7 @@ run_choice-run_all-requires t c =
     let one : CompiledChoice = c.choice-item.result in
     let right = (arm_parts ds one (one_right (arm_right ds) c.args.choices.now c.loop-choice.choice-index one c.loop-choice-test.true c.choice-item.is inv.right).0).2 in (
       omega (arith, body_of_arm_size c.args.choices.now c.loop-choice.choice-index one c.as_slice.result.now c.loop-choice-test.true c.choice-item.is c.as_slice.ensures),
-      (ap length inv.same_words ∙ c.requires.fit, (c.requires.once, ap (codes_right ds) c.as_slice.ensures ∙ right)),
+      (record { fit = ap length inv.same_words ∙ c.requires.frame.fit; once = c.requires.frame.once }, ap (codes_right ds) c.as_slice.ensures ∙ right),
     )
 
 pub run_choice-loop-choice-preserved : goal.run_choice-loop-choice-preserved
@@ -365,7 +362,7 @@ run_choice-loop-choice-preserved t c =
     let one : CompiledChoice = c.choice-item.result in
     let right = one_right (arm_right ds) cs c.loop-choice.choice-index one c.loop-choice-test.true c.choice-item.is inv.right in
     let kinds = (arm_parts ds one right.0).1 in
-    let fails = arm_holds ds one c.loop-choice.words c.args.words.now c.is_true.result (Ok false) (ap length inv.same_words ∙ c.requires.fit) c.requires.once inv.same_words kinds c.is_true.ensures
+    let fails = arm_holds ds one c.loop-choice.words c.args.words.now c.is_true.result (Ok false) (ap length inv.same_words ∙ c.requires.frame.fit) c.requires.frame.once inv.same_words kinds c.is_true.ensures
     (ok_by c.is_true.result c.in_ok-is_true.field-0 false c.in_ok-is_true.was c.if-branch.false) in
     record {
       run = λ e q rest. inv.run e q (arm_passed ds T cs c.loop-choice.choice-index one others p c.loop-choice-test.true c.choice-item.is fails e q rest);
@@ -386,7 +383,7 @@ run_choice-returns-in_err-is_true-clause-run t c =
     let right = one_right (arm_right ds) cs c.loop-choice.choice-index one c.loop-choice-test.true c.choice-item.is inv.right in
     let kinds = (arm_parts ds one right.0).1 in
     let r : Reason = c.in_err-is_true.field-0.0 in
-    let stops = arm_holds ds one c.loop-choice.words c.args.words.now c.is_true.result (Err r) (ap length inv.same_words ∙ c.requires.fit) c.requires.once inv.same_words kinds c.is_true.ensures
+    let stops = arm_holds ds one c.loop-choice.words c.args.words.now c.is_true.result (Err r) (ap length inv.same_words ∙ c.requires.frame.fit) c.requires.frame.once inv.same_words kinds c.is_true.ensures
     c.in_err-is_true.was in
     let x = err_from_is_err_and c.from_residual.result c.from_residual.ensures.1 in
     rw (x.1, x.2)
@@ -406,7 +403,7 @@ run_choice-returns-then-branch-clause-run t c =
     let right = one_right (arm_right ds) cs c.loop-choice.choice-index one c.loop-choice-test.true c.choice-item.is inv.right in
     let kinds = (arm_parts ds one right.0).1 in
     let q : Point = spot ds c.run_all.new.words c.run_all.new.meter in
-    let holds = arm_holds ds one c.loop-choice.words c.args.words.now c.is_true.result (Ok true) (ap length inv.same_words ∙ c.requires.fit) c.requires.once inv.same_words kinds c.is_true.ensures
+    let holds = arm_holds ds one c.loop-choice.words c.args.words.now c.is_true.result (Ok true) (ap length inv.same_words ∙ c.requires.frame.fit) c.requires.frame.once inv.same_words kinds c.is_true.ensures
     (ok_by c.is_true.result c.in_ok-is_true.field-0 true c.in_ok-is_true.was c.if-branch.true) in
     let ran = arm_ran ds T one c.loop-choice.words c.args.words.now c.loop-choice.meter c.args.meter.now c.as_slice.result.now (end_of c.run_all.result) q
     inv.same_words inv.same_meter c.as_slice.ensures c.run_all.ensures.run in
@@ -525,7 +522,7 @@ run-returns-in_err-number-in-Case-clause-run t c =
     let e = expr_of_number ds (number_said c.in-Case.selector) in
     let kinds = (both_true (fits_number (length ds) (number_said c.in-Case.selector)) (kinds_number ds (number_said c.in-Case.selector)) (case_part ds c.in-Case.selector c.in-Case.branches c.in-Case.others
     (ap (code_right ds) (sym c.in-Case.is) ∙ c.requires.right))).1 in
-    let comes = number_comes ds c.args.words.now c.requires.fit c.requires.once (number_said c.in-Case.selector) kinds ∙ ap as_whole (sym c.number.ensures ∙ c.in_err-number-in-Case.was) in
+    let comes = number_comes ds c.args.words.now c.requires.frame.fit c.requires.frame.once (number_said c.in-Case.selector) kinds ∙ ap as_whole (sym c.number.ensures ∙ c.in_err-number-in-Case.was) in
     let x = err_from_is_err_and c.from_residual-in_err-number-in-Case.result c.from_residual-in_err-number-in-Case.ensures.1 in
     let said = ap (code_said ds) c.in-Case.is ∙ case_says ds c.in-Case.selector c.in-Case.branches c.in-Case.others in
     rw (x.1, x.2)
@@ -544,7 +541,7 @@ run-returns-in_ok-number-in-Case-clause-run t c =
     let wide : SFits w128 c.in_ok-number-in-Case.number = search rules in
     let kinds = (both_true (fits_number (length ds) (number_said c.in-Case.selector)) (kinds_number ds (number_said c.in-Case.selector)) (case_part ds c.in-Case.selector c.in-Case.branches c.in-Case.others
     (ap (code_right ds) (sym c.in-Case.is) ∙ c.requires.right))).1 in
-    let comes = number_comes ds c.args.words.now c.requires.fit c.requires.once (number_said c.in-Case.selector) kinds ∙ ap as_whole (sym c.number.ensures ∙ c.in_ok-number-in-Case.was) in
+    let comes = number_comes ds c.args.words.now c.requires.frame.fit c.requires.frame.once (number_said c.in-Case.selector) kinds ∙ ap as_whole (sym c.number.ensures ∙ c.in_ok-number-in-Case.was) in
     let said : code_said ds c.args.statement.now ≡ Case e (forks_said ds bs) (codes_said ds others) =
     ap (code_said ds) c.in-Case.is ∙ case_says ds c.in-Case.selector c.in-Case.branches c.in-Case.others
     ∙ ap (λ (l : List CompiledBranch). Case e (forks_said ds l) (codes_said ds c.in-Case.others)) (sym c.as_slice-in-Case.ensures)
@@ -560,7 +557,7 @@ run-run_for-requires t c =
     let ds = c.args.layout.now in
     let right = for_right ds c.in-For.count c.in-For.body (ap (code_right ds) (sym c.in-For.is) ∙ c.requires.right) in (
       omega (arith, body_of_for_size c.args.statement.now c.in-For.count c.in-For.body c.as_slice-in-For.result.now c.in-For.is c.as_slice-in-For.ensures),
-      (c.requires.fit, (c.requires.once, (ap (codes_right ds) c.as_slice-in-For.ensures ∙ right.1, ap (count_right ds) c.get.ensures ∙ right.0))),
+      (c.requires.frame, (ap (codes_right ds) c.as_slice-in-For.ensures ∙ right.1, ap (count_right ds) c.get.ensures ∙ right.0)),
     )
 
 pub run-returns-in-For-clause-run : goal.run-returns-in-For-clause-run
@@ -607,7 +604,7 @@ run_for-returns-in_err-first-clause-run t c =
     let ws = c.args.words.now in
     let k = c.args.count.now in
     let parts = count_parts ds k c.requires.count_right in
-    let ha = number_comes ds ws c.requires.fit c.requires.once (number_said k.start) parts.start ∙ ap as_whole (sym c.number.ensures ∙ c.in_err-first.was) in
+    let ha = number_comes ds ws c.requires.frame.fit c.requires.frame.once (number_said k.start) parts.start ∙ ap as_whole (sym c.number.ensures ∙ c.in_err-first.was) in
     let x = err_from_is_err_and c.from_residual.result c.from_residual.ensures.1 in
     rw (x.1, x.2) (for_no_start (types_in ds) ds k (codes_said ds c.args.body.now) (values_at ds ws) c.args.meter.now.left c.in_err-first.field-0.0 ha)
 
@@ -617,8 +614,8 @@ run_for-returns-in_err-end-clause-run t c =
     let ws = c.args.words.now in
     let k = c.args.count.now in
     let parts = count_parts ds k c.requires.count_right in
-    let ha = number_comes ds ws c.requires.fit c.requires.once (number_said k.start) parts.start ∙ ap as_whole (sym c.number.ensures ∙ c.in_ok-first.was) in
-    let hb = number_comes ds ws c.requires.fit c.requires.once (number_said k.end) parts.end ∙ ap as_whole (sym c.number-2.ensures ∙ c.in_err-end.was) in
+    let ha = number_comes ds ws c.requires.frame.fit c.requires.frame.once (number_said k.start) parts.start ∙ ap as_whole (sym c.number.ensures ∙ c.in_ok-first.was) in
+    let hb = number_comes ds ws c.requires.frame.fit c.requires.frame.once (number_said k.end) parts.end ∙ ap as_whole (sym c.number-2.ensures ∙ c.in_err-end.was) in
     let x = err_from_is_err_and c.from_residual-in_err-end.result c.from_residual-in_err-end.ensures.1 in
     rw (x.1, x.2) (for_no_end (types_in ds) ds k (codes_said ds c.args.body.now) (values_at ds ws) c.args.meter.now.left (value.Whole c.in_ok-first.first) c.in_err-end.field-0.0 ha hb)
 
@@ -628,9 +625,9 @@ run_for-returns-in_err-step-clause-run t c =
     let ws = c.args.words.now in
     let k = c.args.count.now in
     let parts = count_parts ds k c.requires.count_right in
-    let ha = number_comes ds ws c.requires.fit c.requires.once (number_said k.start) parts.start ∙ ap as_whole (sym c.number.ensures ∙ c.in_ok-first.was) in
-    let hb = number_comes ds ws c.requires.fit c.requires.once (number_said k.end) parts.end ∙ ap as_whole (sym c.number-2.ensures ∙ c.in_ok-end.was) in
-    let hc = number_comes ds ws c.requires.fit c.requires.once (number_said k.step) parts.step ∙ ap as_whole (sym c.number-3.ensures ∙ c.in_err-step.was) in
+    let ha = number_comes ds ws c.requires.frame.fit c.requires.frame.once (number_said k.start) parts.start ∙ ap as_whole (sym c.number.ensures ∙ c.in_ok-first.was) in
+    let hb = number_comes ds ws c.requires.frame.fit c.requires.frame.once (number_said k.end) parts.end ∙ ap as_whole (sym c.number-2.ensures ∙ c.in_ok-end.was) in
+    let hc = number_comes ds ws c.requires.frame.fit c.requires.frame.once (number_said k.step) parts.step ∙ ap as_whole (sym c.number-3.ensures ∙ c.in_err-step.was) in
     let x = err_from_is_err_and c.from_residual-in_err-step.result c.from_residual-in_err-step.ensures.1 in
     rw (x.1, x.2)
     (for_no_step (types_in ds) ds k (codes_said ds c.args.body.now) (values_at ds ws) c.args.meter.now.left (value.Whole c.in_ok-first.first) (value.Whole c.in_ok-end.end) c.in_err-step.field-0.0 ha hb hc)
@@ -642,9 +639,9 @@ run_for-returns-in_err-words-clause-run t c =
     let k = c.args.count.now in
     let parts = count_parts ds k c.requires.count_right in
     let at = within_there k.least k.most (slice_get ds k.slot) parts.within in
-    let ha = number_comes ds ws c.requires.fit c.requires.once (number_said k.start) parts.start ∙ ap as_whole (sym c.number.ensures ∙ c.in_ok-first.was) in
-    let hb = number_comes ds ws c.requires.fit c.requires.once (number_said k.end) parts.end ∙ ap as_whole (sym c.number-2.ensures ∙ c.in_ok-end.was) in
-    let hc = number_comes ds ws c.requires.fit c.requires.once (number_said k.step) parts.step ∙ ap as_whole (sym c.number-3.ensures ∙ c.in_ok-step.was) in
+    let ha = number_comes ds ws c.requires.frame.fit c.requires.frame.once (number_said k.start) parts.start ∙ ap as_whole (sym c.number.ensures ∙ c.in_ok-first.was) in
+    let hb = number_comes ds ws c.requires.frame.fit c.requires.frame.once (number_said k.end) parts.end ∙ ap as_whole (sym c.number-2.ensures ∙ c.in_ok-end.was) in
+    let hc = number_comes ds ws c.requires.frame.fit c.requires.frame.once (number_said k.step) parts.step ∙ ap as_whole (sym c.number-3.ensures ∙ c.in_ok-step.was) in
     let wide : SFits w128 c.in_ok-first.first = search rules in
     let no = rw (to_z-of_z wide) at c.in_err-words.ensures.err in
     let unfit : fits at.0.1 (value.Whole c.in_ok-first.first) ≡ false = ap (λ o. fits (ty_or o) (value.Whole c.in_ok-first.first)) (sym at.1) ∙ no.1 in
@@ -652,7 +649,7 @@ run_for-returns-in_err-words-clause-run t c =
     rw (x.1, x.2, no.0)
     (for_not_begun (types_in ds) (name_at ds k.slot) (expr_of_number ds (number_said k.start)) (expr_of_number ds (number_said k.end)) (expr_of_number ds (number_said k.step))
     (codes_said ds c.args.body.now) (values_at ds ws) c.args.meter.now.left (value.Whole c.in_ok-first.first) (value.Whole c.in_ok-end.end) (value.Whole c.in_ok-step.step) ha hb hc
-    (ap (λ t. fits t (value.Whole c.in_ok-first.first)) (word_type ds ws c.requires.fit c.requires.once k.slot at.0 at.1) ∙ unfit))
+    (ap (λ t. fits t (value.Whole c.in_ok-first.first)) (word_type ds ws c.requires.frame.fit c.requires.frame.once k.slot at.0 at.1) ∙ unfit))
 
 pub run_for-run_counts-requires : goal.run_for-run_counts-requires
 run_for-run_counts-requires t c =
@@ -670,17 +667,14 @@ run_for-run_counts-requires t c =
     let past = rw (to_z-of_z wide_end, to_z-of_z wide_step, to_z-of_z wide) at c.is_past.ensures in (
       search rules,
       (
-        search rules,
+        record { fit = search rules; once = c.requires.frame.once },
         (
-          c.requires.once,
+          c.requires.right,
           (
-            c.requires.right,
-            (
-              parts.within,
-              rw (to_z-of_z fit, to_z-of_z wide_end, to_z-of_z wide_step)
-                  (ap (passed c.in_ok-end.end c.in_ok-step.step) (first_read ds c.args.words.now c.requires.fit c.requires.once k.slot at.0 at.1 z c.in_ok-first.first stands)
-                  ∙ sym past ∙ c.if-is_past.false),
-            ),
+            parts.within,
+            rw (to_z-of_z fit, to_z-of_z wide_end, to_z-of_z wide_step)
+                (ap (passed c.in_ok-end.end c.in_ok-step.step) (first_read ds c.args.words.now c.requires.frame.fit c.requires.frame.once k.slot at.0 at.1 z c.in_ok-first.first stands)
+                ∙ sym past ∙ c.if-is_past.false),
           ),
         ),
       ),
@@ -707,21 +701,21 @@ run_for-returns-then-is_past-clause-run t c =
     let wide_step : SFits w128 c.in_ok-step.step = search rules in
     let past = rw (to_z-of_z wide_end, to_z-of_z wide_step, to_z-of_z wide) at c.is_past.ensures in
     let stands = ap (λ o. value_of_word (ty_or o) z) (sym at.1) ∙ yes.1 in
-    let ha = number_comes ds ws c.requires.fit c.requires.once (number_said k.start) parts.start ∙ ap as_whole (sym c.number.ensures ∙ c.in_ok-first.was) in
-    let hb = number_comes ds ws c.requires.fit c.requires.once (number_said k.end) parts.end ∙ ap as_whole (sym c.number-2.ensures ∙ c.in_ok-end.was) in
-    let hc = number_comes ds ws c.requires.fit c.requires.once (number_said k.step) parts.step ∙ ap as_whole (sym c.number-3.ensures ∙ c.in_ok-step.was) in
-    let fit_type : fits (T n) (value.Whole first) ≡ true = ap (λ t. fits t (value.Whole first)) (word_type ds ws c.requires.fit c.requires.once k.slot at.0 at.1) ∙ ap (λ o. fits (ty_or o) (value.Whole first)) (sym at.1) ∙ yes.0 in
+    let ha = number_comes ds ws c.requires.frame.fit c.requires.frame.once (number_said k.start) parts.start ∙ ap as_whole (sym c.number.ensures ∙ c.in_ok-first.was) in
+    let hb = number_comes ds ws c.requires.frame.fit c.requires.frame.once (number_said k.end) parts.end ∙ ap as_whole (sym c.number-2.ensures ∙ c.in_ok-end.was) in
+    let hc = number_comes ds ws c.requires.frame.fit c.requires.frame.once (number_said k.step) parts.step ∙ ap as_whole (sym c.number-3.ensures ∙ c.in_ok-step.was) in
+    let fit_type : fits (T n) (value.Whole first) ≡ true = ap (λ t. fits t (value.Whole first)) (word_type ds ws c.requires.frame.fit c.requires.frame.once k.slot at.0 at.1) ∙ ap (λ o. fits (ty_or o) (value.Whole first)) (sym at.1) ∙ yes.0 in
     let after : Values = values_at ds (slice_set ws k.slot z) in
     let q : Point = record { vars = after; left = c.args.meter.now.left } in
     let turn : Running = Step (Then (RunsAll T body) (Advances T n end step)) in
     let test : Values → Result Bool Reason = λ vars. Ok (not (passed end step (whole (vars n)))) in
     let over : test after ≡ Ok false =
-    ap (λ x. Ok (not (passed end step x))) (first_read ds ws c.requires.fit c.requires.once k.slot at.0 at.1 z first stands)
+    ap (λ x. Ok (not (passed end step x))) (first_read ds ws c.requires.frame.fit c.requires.frame.once k.slot at.0 at.1 z first stands)
     ∙ ap (λ b. Ok (not b)) (sym past ∙ c.if-is_past.true) in
     rw (to_z-of_z fit)
     (for_counts T n (expr_of_number ds (number_said k.start)) (expr_of_number ds (number_said k.end)) (expr_of_number ds (number_said k.step)) body (values_at ds ws) after c.args.meter.now.left
     (value.Whole first) (value.Whole end) (value.Whole step) end step Went q ha hb hc refl refl fit_type
-    (first_set ds ws c.requires.fit c.requires.once k.slot at.0 at.1 z first stands) (loop_over test turn q over))
+    (first_set ds ws c.requires.frame.fit c.requires.frame.once k.slot at.0 at.1 z first stands) (loop_over test turn q over))
 
 pub run_for-returns-clause-run : goal.run_for-returns-clause-run
 run_for-returns-clause-run t c =
@@ -743,26 +737,26 @@ run_for-returns-clause-run t c =
     let wide_end : SFits w128 c.in_ok-end.end = search rules in
     let wide_step : SFits w128 c.in_ok-step.step = search rules in
     let stands = ap (λ o. value_of_word (ty_or o) z) (sym at.1) ∙ yes.1 in
-    let ha = number_comes ds ws c.requires.fit c.requires.once (number_said k.start) parts.start ∙ ap as_whole (sym c.number.ensures ∙ c.in_ok-first.was) in
-    let hb = number_comes ds ws c.requires.fit c.requires.once (number_said k.end) parts.end ∙ ap as_whole (sym c.number-2.ensures ∙ c.in_ok-end.was) in
-    let hc = number_comes ds ws c.requires.fit c.requires.once (number_said k.step) parts.step ∙ ap as_whole (sym c.number-3.ensures ∙ c.in_ok-step.was) in
-    let fit_type : fits (T n) (value.Whole first) ≡ true = ap (λ t. fits t (value.Whole first)) (word_type ds ws c.requires.fit c.requires.once k.slot at.0 at.1) ∙ ap (λ o. fits (ty_or o) (value.Whole first)) (sym at.1) ∙ yes.0 in
+    let ha = number_comes ds ws c.requires.frame.fit c.requires.frame.once (number_said k.start) parts.start ∙ ap as_whole (sym c.number.ensures ∙ c.in_ok-first.was) in
+    let hb = number_comes ds ws c.requires.frame.fit c.requires.frame.once (number_said k.end) parts.end ∙ ap as_whole (sym c.number-2.ensures ∙ c.in_ok-end.was) in
+    let hc = number_comes ds ws c.requires.frame.fit c.requires.frame.once (number_said k.step) parts.step ∙ ap as_whole (sym c.number-3.ensures ∙ c.in_ok-step.was) in
+    let fit_type : fits (T n) (value.Whole first) ≡ true = ap (λ t. fits t (value.Whole first)) (word_type ds ws c.requires.frame.fit c.requires.frame.once k.slot at.0 at.1) ∙ ap (λ o. fits (ty_or o) (value.Whole first)) (sym at.1) ∙ yes.0 in
     let after : Values = values_at ds (slice_set ws k.slot z) in
     let ran = rw (to_z-of_z fit, to_z-of_z wide_end, to_z-of_z wide_step) at c.run_counts.ensures.run in
     for_counts T n (expr_of_number ds (number_said k.start)) (expr_of_number ds (number_said k.end)) (expr_of_number ds (number_said k.step)) body (values_at ds ws) after c.args.meter.now.left
     (value.Whole first) (value.Whole end) (value.Whole step) end step (end_of c.run_counts.result) (spot ds c.run_counts.new.words c.run_counts.new.meter) ha hb hc refl refl fit_type
-    (first_set ds ws c.requires.fit c.requires.once k.slot at.0 at.1 z first stands) ran
+    (first_set ds ws c.requires.frame.fit c.requires.frame.once k.slot at.0 at.1 z first stands) ran
 
 -- ---- Expressions and slots fit the words
 
 pub run_for-number-requires : goal.run_for-number-requires
-run_for-number-requires t c = rw (c.requires.fit) (count_parts c.args.layout.now c.args.count.now c.requires.count_right).start_fits
+run_for-number-requires t c = rw (c.requires.frame.fit) (count_parts c.args.layout.now c.args.count.now c.requires.count_right).start_fits
 
 pub run_for-number-requires-2 : goal.run_for-number-requires-2
-run_for-number-requires-2 t c = rw (c.requires.fit) (count_parts c.args.layout.now c.args.count.now c.requires.count_right).end_fits
+run_for-number-requires-2 t c = rw (c.requires.frame.fit) (count_parts c.args.layout.now c.args.count.now c.requires.count_right).end_fits
 
 pub run_for-number-requires-3 : goal.run_for-number-requires-3
-run_for-number-requires-3 t c = rw (c.requires.fit) (count_parts c.args.layout.now c.args.count.now c.requires.count_right).step_fits
+run_for-number-requires-3 t c = rw (c.requires.frame.fit) (count_parts c.args.layout.now c.args.count.now c.requires.count_right).step_fits
 
 pub run_for-word_of-requires : goal.run_for-word_of-requires
 run_for-word_of-requires t c =
@@ -772,19 +766,19 @@ run_for-word_of-requires t c =
 pub run_for-bounds-words-count : goal.run_for-bounds-words-count
 run_for-bounds-words-count t c =
     let k = c.args.count.now in
-    rw (c.requires.fit) (within_slot_there c.args.layout.now k.slot k.least k.most (count_parts c.args.layout.now k c.requires.count_right).within)
+    rw (c.requires.frame.fit) (within_slot_there c.args.layout.now k.slot k.least k.most (count_parts c.args.layout.now k c.requires.count_right).within)
 
 pub run_while-is_true-requires : goal.run_while-is_true-requires
 run_while-is_true-requires t c =
     let ds = c.args.layout.now in
     let e = truth_said c.args.condition.now in
-    rw (c.loop-words.invariant.same_length ∙ c.requires.fit) (both_true (fits_truth (length ds) e) (kinds_truth ds e) c.requires.condition_right).0
+    rw (c.loop-words.invariant.same_length ∙ c.requires.frame.fit) (both_true (fits_truth (length ds) e) (kinds_truth ds e) c.requires.condition_right).0
 
 pub run_repeat-is_true-requires : goal.run_repeat-is_true-requires
 run_repeat-is_true-requires t c =
     let ds = c.args.layout.now in
     let e = truth_said c.args.condition.now in
-    rw (c.turn.ensures.length ∙ c.loop-words.invariant.same_length ∙ c.requires.fit) (both_true (fits_truth (length ds) e) (kinds_truth ds e) c.requires.condition_right).0
+    rw (c.turn.ensures.kept.same_length ∙ c.loop-words.invariant.same_length ∙ c.requires.frame.fit) (both_true (fits_truth (length ds) e) (kinds_truth ds e) c.requires.condition_right).0
 
 pub run_choice-is_true-requires : goal.run_choice-is_true-requires
 run_choice-is_true-requires t c =
@@ -792,21 +786,21 @@ run_choice-is_true-requires t c =
     let inv = c.loop-choice.invariant in
     let one : CompiledChoice = c.choice-item.result in
     let right = one_right (arm_right ds) c.args.choices.now c.loop-choice.choice-index one c.loop-choice-test.true c.choice-item.is inv.right in
-    rw (ap length inv.same_words ∙ c.requires.fit) (arm_parts ds one right.0).0
+    rw (ap length inv.same_words ∙ c.requires.frame.fit) (arm_parts ds one right.0).0
 
 pub run-number-requires : goal.run-number-requires
 run-number-requires t c =
     let ds = c.args.layout.now in
     let e = number_said c.in-Case.selector in
     let right = case_part ds c.in-Case.selector c.in-Case.branches c.in-Case.others (ap (code_right ds) (sym c.in-Case.is) ∙ c.requires.right) in
-    rw (c.requires.fit) (both_true (fits_number (length ds) e) (kinds_number ds e) right).0
+    rw (c.requires.frame.fit) (both_true (fits_number (length ds) e) (kinds_number ds e) right).0
 
 pub run-run_while-requires : goal.run-run_while-requires
 run-run_while-requires t c =
     let ds = c.args.layout.now in
     let right = while_right ds c.in-While.condition c.in-While.body (ap (code_right ds) (sym c.in-While.is) ∙ c.requires.right) in (
       omega (arith, body_of_while_size c.args.statement.now c.in-While.condition c.in-While.body c.as_slice-in-While.result.now c.in-While.is c.as_slice-in-While.ensures),
-      (c.requires.fit, (c.requires.once, (ap (codes_right ds) c.as_slice-in-While.ensures ∙ right.1, right.0))),
+      (c.requires.frame, (ap (codes_right ds) c.as_slice-in-While.ensures ∙ right.1, right.0)),
     )
 
 pub run-run_repeat-requires : goal.run-run_repeat-requires
@@ -814,5 +808,5 @@ run-run_repeat-requires t c =
     let ds = c.args.layout.now in
     let right = repeat_right ds c.in-Repeat.body c.in-Repeat.condition (ap (code_right ds) (sym c.in-Repeat.is) ∙ c.requires.right) in (
       omega (arith, body_of_repeat_size c.args.statement.now c.in-Repeat.condition c.in-Repeat.body c.as_slice-in-Repeat.result.now c.in-Repeat.is c.as_slice-in-Repeat.ensures),
-      (c.requires.fit, (c.requires.once, (ap (codes_right ds) c.as_slice-in-Repeat.ensures ∙ right.0, right.1))),
+      (c.requires.frame, (ap (codes_right ds) c.as_slice-in-Repeat.ensures ∙ right.0, right.1)),
     )

@@ -22,12 +22,12 @@ returns-in-Some-clause-run c = λ left.
     let fit : SFits w64 z = search rules in
     let here = low_word (slice_get ds k.slot) k.least k.most c.requires.slot (word_at ws k.slot) c.in-Some.ensures.from in
     let there = within_slot (slice_get ds k.slot) k.least k.most c.requires.slot z c.in-Some.ensures.low c.in-Some.ensures.high in
-    let read : whole (values_at ds ws (name_at ds k.slot)) ≡ word_at ws k.slot = ap whole (word_read ds ws c.requires.fit c.requires.once k.slot here.0 here.1 ∙ here.2) in
+    let read : whole (values_at ds ws (name_at ds k.slot)) ≡ word_at ws k.slot = ap whole (word_read ds ws c.requires.frame.fit c.requires.frame.once k.slot here.0 here.1 ∙ here.2) in
     rw (to_z-of_z fit)
     (advances_to (types_in ds) (name_at ds k.slot) c.args.span.now.end c.args.span.now.step (values_at ds ws) left z
     (ap (λ x. x +ℤ c.args.span.now.step) read ∙ c.in-Some.ensures.next) (values_at ds (slice_set ws k.slot z)) c.in-Some.ensures.goes_on
-    (ap (λ t. fits t (value.Whole z)) (word_type ds ws c.requires.fit c.requires.once k.slot there.0 there.1) ∙ there.2)
-    (first_set ds ws c.requires.fit c.requires.once k.slot there.0 there.1 z z there.3))
+    (ap (λ t. fits t (value.Whole z)) (word_type ds ws c.requires.frame.fit c.requires.frame.once k.slot there.0 there.1) ∙ there.2)
+    (first_set ds ws c.requires.frame.fit c.requires.frame.once k.slot there.0 there.1 z z there.3))
 
 pub returns-in-Some-clause-within : goal.returns-in-Some-clause-within
 returns-in-Some-clause-within c = λ went.
@@ -38,4 +38,4 @@ returns-in-Some-clause-within c = λ went.
     let fit : SFits w64 z = search rules in
     let there = within_slot (slice_get ds k.slot) k.least k.most c.requires.slot z c.in-Some.ensures.low c.in-Some.ensures.high in
     rw (to_z-of_z fit)
-    (ap (passed c.args.span.now.end c.args.span.now.step) (first_read ds ws c.requires.fit c.requires.once k.slot there.0 there.1 z z there.3) ∙ c.in-Some.ensures.goes_on)
+    (ap (passed c.args.span.now.end c.args.span.now.step) (first_read ds ws c.requires.frame.fit c.requires.frame.once k.slot there.0 there.1 z z there.3) ∙ c.in-Some.ensures.goes_on)

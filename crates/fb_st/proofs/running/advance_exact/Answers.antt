@@ -18,7 +18,7 @@ use Rattle.fb_st.proofs.running.advance_exact.Goals as goal
 pub word-requires : goal.word-requires
 word-requires c =
     let k = c.args.count.now in
-    rw (c.requires.fit) (within_slot_there c.args.layout.now k.slot k.least k.most c.requires.slot)
+    rw (c.requires.frame.fit) (within_slot_there c.args.layout.now k.slot k.least k.most c.requires.slot)
 
 pub number_of-number-requires : goal.number_of-number-requires
 number_of-number-requires c =
@@ -33,7 +33,7 @@ word_of-requires c =
 pub bounds-words-count : goal.bounds-words-count
 bounds-words-count c =
     let k = c.args.count.now in
-    rw (c.requires.fit) (within_slot_there c.args.layout.now k.slot k.least k.most c.requires.slot)
+    rw (c.requires.frame.fit) (within_slot_there c.args.layout.now k.slot k.least k.most c.requires.slot)
 
 pub returns-in_default-clause-run : goal.returns-in_default-clause-run
 returns-in_default-clause-run c = λ left.
@@ -43,7 +43,7 @@ returns-in_default-clause-run c = λ left.
     let there = within_there k.least k.most (slice_get ds k.slot) c.requires.slot in
     let short : SFits w64 c.word.result = search rules in
     let number_is = rw (to_z-of_z short) at c.number_of-number.ensures in
-    let read = whole_read ds ws c.requires.fit c.requires.once k.slot there.0 there.1 c.word.result c.number_of-number.result c.word.ensures number_is in
+    let read = whole_read ds ws c.requires.frame.fit c.requires.frame.once k.slot there.0 there.1 c.word.result c.number_of-number.result c.word.ensures number_is in
     let own : SFits w128 c.number_of-number.result = search rules in
     let past = rw (to_z-of_z own) at c.next_of.ensures.past in
     advances_past (types_in ds) (name_at ds k.slot) c.args.span.now.end c.args.span.now.step (values_at ds ws) left _
@@ -57,7 +57,7 @@ returns-in_err-words-clause-run c = λ left.
     let there = within_there k.least k.most (slice_get ds k.slot) c.requires.slot in
     let short : SFits w64 c.word.result = search rules in
     let number_is = rw (to_z-of_z short) at c.number_of-number.ensures in
-    let read = whole_read ds ws c.requires.fit c.requires.once k.slot there.0 there.1 c.word.result c.number_of-number.result c.word.ensures number_is in
+    let read = whole_read ds ws c.requires.frame.fit c.requires.frame.once k.slot there.0 there.1 c.word.result c.number_of-number.result c.word.ensures number_is in
     let wide : SFits w128 c.in-Some.next = search rules in
     let own : SFits w128 c.number_of-number.result = search rules in
     let next = rw (to_z-of_z own) at c.in-Some.ensures.next in
@@ -66,7 +66,7 @@ returns-in_err-words-clause-run c = λ left.
     rw (x.1, x.2, no.0)
     (advances_not (types_in ds) (name_at ds k.slot) c.args.span.now.end c.args.span.now.step (values_at ds ws) left _
     (ap (λ x. x +ℤ c.args.span.now.step) read ∙ next.0) next.1
-    (ap (λ t. fits t (value.Whole c.in-Some.next)) (word_type ds ws c.requires.fit c.requires.once k.slot there.0 there.1 ∙ sym (ap ty_or there.1)) ∙ no.1))
+    (ap (λ t. fits t (value.Whole c.in-Some.next)) (word_type ds ws c.requires.frame.fit c.requires.frame.once k.slot there.0 there.1 ∙ sym (ap ty_or there.1)) ∙ no.1))
 
 pub returns-clause-run : goal.returns-clause-run
 returns-clause-run c = λ left.
@@ -80,14 +80,14 @@ returns-clause-run c = λ left.
     let there = within_there k.least k.most (slice_get ds k.slot) c.requires.slot in
     let short : SFits w64 c.word.result = search rules in
     let number_is = rw (to_z-of_z short) at c.number_of-number.ensures in
-    let read = whole_read ds ws c.requires.fit c.requires.once k.slot there.0 there.1 c.word.result c.number_of-number.result c.word.ensures number_is in
+    let read = whole_read ds ws c.requires.frame.fit c.requires.frame.once k.slot there.0 there.1 c.word.result c.number_of-number.result c.word.ensures number_is in
     let own : SFits w128 c.number_of-number.result = search rules in
     let next = rw (to_z-of_z own) at c.in-Some.ensures.next in
     rw (to_z-of_z fit)
     (advances_to (types_in ds) (name_at ds k.slot) c.args.span.now.end c.args.span.now.step (values_at ds ws) left c.in-Some.next
     (ap (λ x. x +ℤ c.args.span.now.step) read ∙ next.0) (values_at ds (slice_set ws k.slot z)) next.1
-    (ap (λ t. fits t (value.Whole c.in-Some.next)) (word_type ds ws c.requires.fit c.requires.once k.slot there.0 there.1 ∙ sym (ap ty_or there.1)) ∙ yes.0)
-    (first_set ds ws c.requires.fit c.requires.once k.slot there.0 there.1 z c.in-Some.next (ap (λ t. value_of_word t z) (sym (ap ty_or there.1)) ∙ yes.1)))
+    (ap (λ t. fits t (value.Whole c.in-Some.next)) (word_type ds ws c.requires.frame.fit c.requires.frame.once k.slot there.0 there.1 ∙ sym (ap ty_or there.1)) ∙ yes.0)
+    (first_set ds ws c.requires.frame.fit c.requires.frame.once k.slot there.0 there.1 z c.in-Some.next (ap (λ t. value_of_word t z) (sym (ap ty_or there.1)) ∙ yes.1)))
 
 pub returns-clause-within : goal.returns-clause-within
 returns-clause-within c = λ went.
@@ -101,5 +101,5 @@ returns-clause-within c = λ went.
     let there = within_there k.least k.most (slice_get ds k.slot) c.requires.slot in
     rw (to_z-of_z fit)
     (ap (passed c.args.span.now.end c.args.span.now.step)
-    (first_read ds ws c.requires.fit c.requires.once k.slot there.0 there.1 z c.in-Some.next (ap (λ t. value_of_word t z) (sym (ap ty_or there.1)) ∙ yes.1))
+    (first_read ds ws c.requires.frame.fit c.requires.frame.once k.slot there.0 there.1 z c.in-Some.next (ap (λ t. value_of_word t z) (sym (ap ty_or there.1)) ∙ yes.1))
     ∙ c.in-Some.ensures.next.1)

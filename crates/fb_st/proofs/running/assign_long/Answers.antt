@@ -18,8 +18,8 @@ returns-in-Some-clause-run c = λ left.
     let right = both_true (fits_number (length ds) e) (kinds_number ds e) parts.1 in
     let fit : SFits w64 c.in-Some.number = search rules in
     let at = long_slot (slice_get ds c.args.slot) parts.0 c.in-Some.number fit in
-    let comes = number_comes ds ws c.requires.fit c.requires.once e right.1 ∙ ap as_whole c.in-Some.ensures in
-    rw (to_z-of_z fit) (assign_writes ds ws c.requires.fit c.requires.once c.args.slot at.0 at.1 (expr_of_number ds e) c.in-Some.number _ comes at.2 at.3 left)
+    let comes = number_comes ds ws c.requires.frame.fit c.requires.frame.once e right.1 ∙ ap as_whole c.in-Some.ensures in
+    rw (to_z-of_z fit) (assign_writes ds ws c.requires.frame.fit c.requires.frame.once c.args.slot at.0 at.1 (expr_of_number ds e) c.in-Some.number _ comes at.2 at.3 left)
 
 -- The expression and the slot fit the words.
 
@@ -28,14 +28,14 @@ number-requires c =
     let ds = c.args.layout.now in
     let e = number_said c.args.expr.now in
     let parts = both_true (is_long_type (slice_get ds c.args.slot)) (right_number ds e) c.requires.right in
-    rw (c.requires.fit) (both_true (fits_number (length ds) e) (kinds_number ds e) parts.1).0
+    rw (c.requires.frame.fit) (both_true (fits_number (length ds) e) (kinds_number ds e) parts.1).0
 
 pub bounds-words-slot : goal.bounds-words-slot
 bounds-words-slot c =
     let ds = c.args.layout.now in
     let e = number_said c.args.expr.now in
     let parts = both_true (is_long_type (slice_get ds c.args.slot)) (right_number ds e) c.requires.right in
-    rw (c.requires.fit) (long_slot_there ds c.args.slot parts.0)
+    rw (c.requires.frame.fit) (long_slot_there ds c.args.slot parts.0)
 
 pub assign_exact-requires-clause-slot : goal.assign_exact-requires-clause-slot
 assign_exact-requires-clause-slot c =

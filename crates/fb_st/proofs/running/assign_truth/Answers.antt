@@ -19,7 +19,7 @@ returns-in_err-is_true-clause-run c = λ left.
     let parts = both_true (is_truth_type (slice_get ds c.args.slot)) (right_truth ds e) c.requires.right in
     let right = both_true (fits_truth (length ds) e) (kinds_truth ds e) parts.1 in
     let x = err_from_is_err_and c.from_residual.result c.from_residual.ensures.1 in
-    let comes = truth_comes ds ws c.requires.fit c.requires.once e right.1 ∙ ap as_bool (sym c.is_true.ensures ∙ c.in_err-is_true.was) in
+    let comes = truth_comes ds ws c.requires.frame.fit c.requires.frame.once e right.1 ∙ ap as_bool (sym c.is_true.ensures ∙ c.in_err-is_true.was) in
     rw (x.1, x.2) (assign_stops (types_in ds) (name_at ds c.args.slot) (expr_of_truth ds e) (values_at ds ws) _ comes left)
 
 pub returns-clause-run : goal.returns-clause-run
@@ -31,8 +31,8 @@ returns-clause-run c = λ left.
     let right = both_true (fits_truth (length ds) e) (kinds_truth ds e) parts.1 in
     let fit : SFits w64 c.from.result = search rules in
     let at = truth_slot (slice_get ds c.args.slot) parts.0 c.in_ok-is_true.field-0 c.from.result (search (rules, c.from.ensures)) in
-    let comes = truth_comes ds ws c.requires.fit c.requires.once e right.1 ∙ ap as_bool (sym c.is_true.ensures ∙ c.in_ok-is_true.was) in
-    rw (to_z-of_z fit) (assign_writes ds ws c.requires.fit c.requires.once c.args.slot at.0 at.1 (expr_of_truth ds e) c.from.result _ comes at.2 at.3 left)
+    let comes = truth_comes ds ws c.requires.frame.fit c.requires.frame.once e right.1 ∙ ap as_bool (sym c.is_true.ensures ∙ c.in_ok-is_true.was) in
+    rw (to_z-of_z fit) (assign_writes ds ws c.requires.frame.fit c.requires.frame.once c.args.slot at.0 at.1 (expr_of_truth ds e) c.from.result _ comes at.2 at.3 left)
 
 -- The expression and the slot fit the words.
 
@@ -41,10 +41,10 @@ is_true-requires c =
     let ds = c.args.layout.now in
     let e = truth_said c.args.expr.now in
     let parts = both_true (is_truth_type (slice_get ds c.args.slot)) (right_truth ds e) c.requires.right in
-    rw (c.requires.fit) (both_true (fits_truth (length ds) e) (kinds_truth ds e) parts.1).0
+    rw (c.requires.frame.fit) (both_true (fits_truth (length ds) e) (kinds_truth ds e) parts.1).0
 
 pub bounds-words-slot : goal.bounds-words-slot
 bounds-words-slot c =
     let ds = c.args.layout.now in
     let parts = both_true (is_truth_type (slice_get ds c.args.slot)) (right_truth ds (truth_said c.args.expr.now)) c.requires.right in
-    rw (c.requires.fit) (truth_slot_within ds c.args.slot parts.0)
+    rw (c.requires.frame.fit) (truth_slot_within ds c.args.slot parts.0)

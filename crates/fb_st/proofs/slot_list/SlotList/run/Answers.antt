@@ -17,8 +17,10 @@ run_all-requires c =
     let known_so = plain_layout ds c.self.inside.kept.items c.self.inside.words.items c.args.self.now (c.self.invariant.1 c.if-not-self.false) c.self.invariant.0 c.self.view_is c.requires.layout in
     let P : List Name → Type 0 = λ ns. ¬ (Twice ns) in
     record {
-      fit = ap (λ (l : List ℤ). length l) c.as_mut_slice-words.ensures.value ∙ known_so.1;
-      once = subst P (sym (names_declared c.args.self.now) ∙ ap (map (λ d. d.0)) (sym c.requires.layout)) c.requires.once;
+      frame = record {
+          fit = ap (λ (l : List ℤ). length l) c.as_mut_slice-words.ensures.value ∙ known_so.1;
+          once = subst P (sym (names_declared c.args.self.now) ∙ ap (map (λ d. d.0)) (sym c.requires.layout)) c.requires.once;
+        };
       right = c.requires.right;
     }
 
@@ -27,7 +29,7 @@ invariant_of-self c =
     let ks : List Kept = c.self.inside.kept.items in
     let zs : List ℤ = c.self.inside.words.items in
     let ys : List ℤ = c.run_all.new.words in
-    let same : length ys ≡ length zs = c.run_all.ensures.length ∙ ap (λ (l : List ℤ). length l) c.as_mut_slice-words.ensures.value in
+    let same : length ys ≡ length zs = c.run_all.ensures.kept.same_length ∙ ap (λ (l : List ℤ). length l) c.as_mut_slice-words.ensures.value in
     let is = written_back ys (drop (length ys) zs) c.self.inside.words.len (same ∙ sym c.self.inside.words.ok.0) in
     rw is (same ∙ c.self.invariant.0, c.self.invariant.1)
 
@@ -38,7 +40,7 @@ returns-clause-run c =
     let zs : List ℤ = c.self.inside.words.items in
     let ys : List ℤ = c.run_all.new.words in
     let value = c.as_mut_slice-words.ensures.value in
-    let same : length ys ≡ length zs = c.run_all.ensures.length ∙ ap (λ (l : List ℤ). length l) value in
+    let same : length ys ≡ length zs = c.run_all.ensures.kept.same_length ∙ ap (λ (l : List ℤ). length l) value in
     let is = written_back ys (drop (length ys) zs) c.self.inside.words.len (same ∙ sym c.self.inside.words.ok.0) in
     let plain = c.self.invariant.1 c.if-not-self.false in
     let known_so = plain_layout ds ks zs c.args.self.now plain c.self.invariant.0 c.self.view_is c.requires.layout in
@@ -55,7 +57,7 @@ returns-clause-declared c =
     let ks : List Kept = c.self.inside.kept.items in
     let zs : List ℤ = c.self.inside.words.items in
     let ys : List ℤ = c.run_all.new.words in
-    let same : length ys ≡ length zs = c.run_all.ensures.length ∙ ap (λ (l : List ℤ). length l) c.as_mut_slice-words.ensures.value in
+    let same : length ys ≡ length zs = c.run_all.ensures.kept.same_length ∙ ap (λ (l : List ℤ). length l) c.as_mut_slice-words.ensures.value in
     let is = written_back ys (drop (length ys) zs) c.self.inside.words.len (same ∙ sym c.self.inside.words.ok.0) in
     let plain = c.self.invariant.1 c.if-not-self.false in
     let after = plain_after ds ks zs ys plain c.self.invariant.0 same (c.requires.layout ∙ ap declared_in (sym c.self.view_is)) in
