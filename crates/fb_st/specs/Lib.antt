@@ -8,3 +8,4 @@ pub mod Fitting
 pub mod Made
 pub mod Kept
 pub mod WordRuns
+pub mod FrameRuns

@@ -4,6 +4,7 @@ ghost use Rattle.std.specs.Prelude.{◌≡◌, ◌≤◌, ◌<◌, true, false, 
 ghost use Rattle.fb_types.specs.Syntax.{body_of, expr_of, stmt_of, step_of, If, For, While, Repeat};
 ghost use Rattle.fb_types.specs.Values.{whole};
 ghost use Rattle.fb_types.specs.Bodies.{Runs, RunsAll, RunsBranch, Counts, Step, Then, Advances, passed};
+ghost use Rattle.fb_st.specs.FrameRuns.{IsKept};
 ghost use Rattle.fb_st.specs.Frames.{declared_in, types_in, values_of, is_declared};
 ghost use Rattle.fb_st.specs.Flows.{end_of, point, before_step, all_of, choices_of, branches_of};
 ghost use Rattle.fb_st.specs.Known.{AssignsKnown, AllKnown, ChoicesKnown, BranchesKnown};
@@ -33,8 +34,7 @@ pub fn exec(body: &Body, frame: &mut Frame, meter: &mut Meter) -> Result<Flow, R
 fn run(statement: &Stmt, frame: &mut Frame, meter: &mut Meter) -> Result<Flow, Reason>
     requires known { AssignsKnown (declared_in frame.old) (stmt_of statement.now) }
     ensures run { Runs (types_in (declared_in frame.old)) (stmt_of statement.now) (point frame.old meter.old) (end_of result) (point frame.new meter.new) }
-    ensures declared { declared_in frame.new ≡ declared_in frame.old }
-    ensures fewer { meter.new.left ≤ meter.old.left }
+    ensures kept { IsKept frame.old meter.old frame.new meter.new }
 {
     meter.step()?;
     match statement {
@@ -62,8 +62,7 @@ fn run(statement: &Stmt, frame: &mut Frame, meter: &mut Meter) -> Result<Flow, R
 fn run_all(statements: &[Stmt], frame: &mut Frame, meter: &mut Meter) -> Result<Flow, Reason>
     requires known { AllKnown (declared_in frame.old) (all_of statements.now) }
     ensures run { RunsAll (types_in (declared_in frame.old)) (all_of statements.now) (point frame.old meter.old) (end_of result) (point frame.new meter.new) }
-    ensures declared { declared_in frame.new ≡ declared_in frame.old }
-    ensures fewer { meter.new.left ≤ meter.old.left }
+    ensures kept { IsKept frame.old meter.old frame.new meter.new }
 {
     for statement in statements {
         match run(statement, frame, meter)? {
@@ -87,8 +86,7 @@ fn run_choice(
     requires known { ChoicesKnown (declared_in frame.old) (choices_of choices.now) }
     requires others_known { AllKnown (declared_in frame.old) (all_of others.now) }
     ensures run { Runs (types_in (declared_in frame.old)) (If (choices_of choices.now) (all_of others.now)) (before_step frame.old meter.old) (end_of result) (point frame.new meter.new) }
-    ensures declared { declared_in frame.new ≡ declared_in frame.old }
-    ensures fewer { meter.new.left ≤ meter.old.left }
+    ensures kept { IsKept frame.old meter.old frame.new meter.new }
 {
     for choice in choices {
         if holds(&choice.condition, frame)? {
@@ -110,8 +108,7 @@ fn run_branch(
     requires known { BranchesKnown (declared_in frame.old) (branches_of branches.now) }
     requires others_known { AllKnown (declared_in frame.old) (all_of others.now) }
     ensures run { RunsBranch (types_in (declared_in frame.old)) (branches_of branches.now) (whole value) (RunsAll (types_in (declared_in frame.old)) (all_of others.now)) (point frame.old meter.old) (end_of result) (point frame.new meter.new) }
-    ensures declared { declared_in frame.new ≡ declared_in frame.old }
-    ensures fewer { meter.new.left ≤ meter.old.left }
+    ensures kept { IsKept frame.old meter.old frame.new meter.new }
 {
     for branch in branches {
         if has_label(branch.labels.as_slice(), value) {
@@ -127,8 +124,7 @@ fn run_branch(
 fn turn(body: &[Stmt], frame: &mut Frame, meter: &mut Meter) -> Result<Flow, Reason>
     requires known { AllKnown (declared_in frame.old) (all_of body.now) }
     ensures run { Step (RunsAll (types_in (declared_in frame.old)) (all_of body.now)) (point frame.old meter.old) (end_of result) (point frame.new meter.new) }
-    ensures declared { declared_in frame.new ≡ declared_in frame.old }
-    ensures fewer { meter.new.left ≤ meter.old.left }
+    ensures kept { IsKept frame.old meter.old frame.new meter.new }
     ensures less { OnOk result (meter.new.left < meter.old.left) }
 {
     meter.step()?;
@@ -145,8 +141,7 @@ fn run_while(
 ) -> Result<Flow, Reason>
     requires known { AllKnown (declared_in frame.old) (all_of body.now) }
     ensures run { Runs (types_in (declared_in frame.old)) (While (expr_of condition.now) (all_of body.now)) (before_step frame.old meter.old) (end_of result) (point frame.new meter.new) }
-    ensures declared { declared_in frame.new ≡ declared_in frame.old }
-    ensures fewer { meter.new.left ≤ meter.old.left }
+    ensures kept { IsKept frame.old meter.old frame.new meter.new }
 {
     while holds(condition, frame)? {
         match turn(body, frame, meter)? {
@@ -168,8 +163,7 @@ fn run_repeat(
 ) -> Result<Flow, Reason>
     requires known { AllKnown (declared_in frame.old) (all_of body.now) }
     ensures run { Runs (types_in (declared_in frame.old)) (Repeat (all_of body.now) (expr_of condition.now)) (before_step frame.old meter.old) (end_of result) (point frame.new meter.new) }
-    ensures declared { declared_in frame.new ≡ declared_in frame.old }
-    ensures fewer { meter.new.left ≤ meter.old.left }
+    ensures kept { IsKept frame.old meter.old frame.new meter.new }
 {
     loop {
         match turn(body, frame, meter)? {
@@ -199,8 +193,7 @@ fn run_for(
     requires known { AllKnown (declared_in frame.old) (all_of body.now) }
     requires variable_known { is_declared (declared_in frame.old) variable.now ≡ true }
     ensures run { Runs (types_in (declared_in frame.old)) (For variable.now (expr_of start.now) (expr_of end.now) (step_of step.now) (all_of body.now)) (before_step frame.old meter.old) (end_of result) (point frame.new meter.new) }
-    ensures declared { declared_in frame.new ≡ declared_in frame.old }
-    ensures fewer { meter.new.left ≤ meter.old.left }
+    ensures kept { IsKept frame.old meter.old frame.new meter.new }
 {
     let first = eval(start, frame)?;
     let last = eval(end, frame)?;
@@ -226,8 +219,7 @@ fn turn_of_for(
     requires known { AllKnown (declared_in frame.old) (all_of body.now) }
     requires variable_known { is_declared (declared_in frame.old) variable.now ≡ true }
     ensures run { Step (Then (RunsAll (types_in (declared_in frame.old)) (all_of body.now)) (Advances (types_in (declared_in frame.old)) variable.now (whole count.end) (whole count.step))) (point frame.old meter.old) (end_of result) (point frame.new meter.new) }
-    ensures declared { declared_in frame.new ≡ declared_in frame.old }
-    ensures fewer { meter.new.left ≤ meter.old.left }
+    ensures kept { IsKept frame.old meter.old frame.new meter.new }
     ensures less { OnOk result (meter.new.left < meter.old.left) }
     ensures within { IfOk result (λ flow. flow ≡ Flow.Went → passed (whole count.end) (whole count.step) (whole (values_of frame.new variable.now)) ≡ false) }
 {
@@ -251,8 +243,7 @@ fn run_counts(
     requires known { AllKnown (declared_in frame.old) (all_of body.now) }
     requires variable_known { is_declared (declared_in frame.old) variable.now ≡ true }
     ensures run { Counts (types_in (declared_in frame.old)) variable.now (whole count.end) (whole count.step) (RunsAll (types_in (declared_in frame.old)) (all_of body.now)) (point frame.old meter.old) (end_of result) (point frame.new meter.new) }
-    ensures declared { declared_in frame.new ≡ declared_in frame.old }
-    ensures fewer { meter.new.left ≤ meter.old.left }
+    ensures kept { IsKept frame.old meter.old frame.new meter.new }
 {
     if has_passed(count, frame.value(variable)) {
         return Ok(Flow::Went);

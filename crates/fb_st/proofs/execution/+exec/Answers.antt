@@ -180,8 +180,8 @@ run_repeat-loop-frame-preserved t c =
     let fails = sym c.holds.ensures ∙ ok_by c.holds.result c.in_ok-holds.field-0 false c.in_ok-holds.was c.if-branch.false in
     record {
       run = λ e q rest. c.loop-frame.invariant.run e q (repeat_goes_on (expr_of c.args.condition.now) turn p m ran fails e q rest);
-      declared = c.turn.ensures.declared ∙ c.loop-frame.invariant.declared;
-      fewer = let a = c.turn.ensures.fewer in let b = c.loop-frame.invariant.fewer in omega arith;
+      declared = c.turn.ensures.kept.declared ∙ c.loop-frame.invariant.declared;
+      fewer = let a = c.turn.ensures.kept.fewer in let b = c.loop-frame.invariant.fewer in omega arith;
     }
 
 -- ---- WHILE
@@ -198,8 +198,8 @@ run_while-loop-frame-preserved t c =
     let holds = sym c.holds.ensures ∙ ok_by c.holds.result c.in_ok-holds.field-0 true c.in_ok-holds.was c.if-branch.true in
     record {
       run = λ e q rest. c.loop-frame.invariant.run e q (loop_goes_on test turn p m holds ran e q rest);
-      declared = c.turn.ensures.declared ∙ c.loop-frame.invariant.declared;
-      fewer = let a = c.turn.ensures.fewer in let b = c.loop-frame.invariant.fewer in omega arith;
+      declared = c.turn.ensures.kept.declared ∙ c.loop-frame.invariant.declared;
+      fewer = let a = c.turn.ensures.kept.fewer in let b = c.loop-frame.invariant.fewer in omega arith;
     }
 
 pub run_while-returns-in_err-holds-clause-run : goal.run_while-returns-in_err-holds-clause-run
@@ -298,8 +298,8 @@ run_counts-loop-preserved t c =
     let here : passed end step (whole (values_of c.loop.frame n)) ≡ false = c.loop.invariant.within in
     record {
       run = λ e q rest. c.loop.invariant.run e q (loop_goes_on test turn p m (ap (λ b. Ok (not b)) here) ran e q rest);
-      declared = c.turn_of_for.ensures.declared ∙ c.loop.invariant.declared;
-      fewer = let a = c.turn_of_for.ensures.fewer in let b = c.loop.invariant.fewer in omega arith;
+      declared = c.turn_of_for.ensures.kept.declared ∙ c.loop.invariant.declared;
+      fewer = let a = c.turn_of_for.ensures.kept.fewer in let b = c.loop.invariant.fewer in omega arith;
       within = c.in_ok-turn_of_for.ensures.within c.in-Went.is;
     }
 
@@ -367,8 +367,8 @@ run_all-loop-statement-preserved t c =
       run = λ e q rest. c.loop-statement.invariant.run e q
           (all_goes_on T c.args.statements.now c.loop-statement.statement-index s p m c.loop-statement-test.true c.statement-item.is ran e q rest);
       known = (all_known (declared_in c.args.frame.now) c.args.statements.now c.loop-statement.statement-index s c.loop-statement-test.true c.statement-item.is c.loop-statement.invariant.known).1;
-      declared = c.run.ensures.declared ∙ c.loop-statement.invariant.declared;
-      fewer = let a = c.run.ensures.fewer in let b = c.loop-statement.invariant.fewer in omega arith;
+      declared = c.run.ensures.kept.declared ∙ c.loop-statement.invariant.declared;
+      fewer = let a = c.run.ensures.kept.fewer in let b = c.loop-statement.invariant.fewer in omega arith;
     }
 
 pub run_all-returns-in_err-run-clause-run : goal.run_all-returns-in_err-run-clause-run

@@ -12,7 +12,7 @@ returns-clause-run c =
     c.as_slice.ensures c.run_all.ensures.run
 
 pub returns-clause-declared : goal.returns-clause-declared
-returns-clause-declared c = c.run_all.ensures.declared
+returns-clause-declared c = c.run_all.ensures.kept.declared
 
 pub returns-clause-fewer : goal.returns-clause-fewer
-returns-clause-fewer c = c.run_all.ensures.fewer
+returns-clause-fewer c = c.run_all.ensures.kept.fewer

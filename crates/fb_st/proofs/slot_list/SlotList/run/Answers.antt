@@ -18,9 +18,9 @@ run_all-requires c =
     let P : List Name → Type 0 = λ ns. ¬ (Twice ns) in
     record {
       frame = record {
-          fit = ap (λ (l : List ℤ). length l) c.as_mut_slice-words.ensures.value ∙ known_so.1;
-          once = subst P (sym (names_declared c.args.self.now) ∙ ap (map (λ d. d.0)) (sym c.requires.layout)) c.requires.once;
-        };
+        fit = ap (λ (l : List ℤ). length l) c.as_mut_slice-words.ensures.value ∙ known_so.1;
+        once = subst P (sym (names_declared c.args.self.now) ∙ ap (map (λ d. d.0)) (sym c.requires.layout)) c.requires.once;
+      };
       right = c.requires.right;
     }
 
