@@ -24,7 +24,7 @@ use Rattle.fb_types.specs.declared.deploy.Plan.{Plan}
 use Rattle.fb_types.proofs.NameLaws.{same_name-itself}
 use Rattle.fb_st.specs.Frames.{Declared, is_declared}
 use Rattle.fb_st.specs.Known.{AssignsKnown, AllKnown, ChoicesKnown, BranchesKnown}
-use Rattle.fb_st.proofs.Indexes.{index_of_once}
+use Rattle.fb_st.proofs.lemmas.Indexes.{index_of_once}
 use Rattle.fb_ecc.specs.Opened.{IsOfDeclaration}
 use Rattle.fb_ecc.specs.Sound.{Each, IsSound, AreFirst, action_known, actions_known, declared_by, is_named}
 use Rattle.fb_types.proofs.ListTests.{passes_from}

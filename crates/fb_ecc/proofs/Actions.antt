@@ -27,7 +27,7 @@ use Rattle.fb_types.specs.declared.value.Ty.TheVariants.{Bool as Boolean}
 use Rattle.fb_types.proofs.NameLaws.{same_from_same_name}
 use Rattle.fb_st.specs.Frames.{Declared, types_in, values_of}
 use Rattle.fb_st.specs.declared.frame.Slot.{Slot}
-use Rattle.fb_st.proofs.Indexes.{named_at_index}
+use Rattle.fb_st.proofs.lemmas.Indexes.{named_at_index}
 use Rattle.fb_st.specs.Flows.{end_of}
 use Rattle.fb_st.specs.declared.meter.Flow.{Flow}
 use Rattle.fb_st.specs.declared.meter.Flow.TheVariants as flow

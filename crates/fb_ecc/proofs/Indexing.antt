@@ -16,7 +16,7 @@ use Rattle.fb_types.proofs.NameLaws.{any_from_contains, same_from_same_name, sam
 use Rattle.fb_check_names.specs.Indexes.{IsIndex, index_in}
 use Rattle.fb_types.proofs.Elements.{Contains-cons_cases, Contains-here, Contains-there}
 use Rattle.fb_types.proofs.Positions.{is_some-position, position-cons, position-first}
-use Rattle.fb_st.proofs.Indexes.{position-later}
+use Rattle.fb_st.proofs.lemmas.Indexes.{position-later}
 use Rattle.fb_ecc.specs.Numbered.{number_in}
 use Rattle.fb_ecc.specs.Indexed.{entry_of, picked}
 use Rattle.fb_ecc.specs.Located.{slots_among}

@@ -22,7 +22,7 @@ use Rattle.fb_types.specs.declared.library.State.{State}
 use Rattle.fb_types.specs.declared.library.Transition.{Transition}
 use Rattle.fb_types.specs.declared.value.Reason.{Reason}
 use Rattle.fb_st.specs.Frames.{Declared}
-use Rattle.fb_st.proofs.Indexes.{named_at_index}
+use Rattle.fb_st.proofs.lemmas.Indexes.{named_at_index}
 use Rattle.fb_ecc.specs.Actions.{AreActions}
 use Rattle.fb_ecc.specs.Links.{Chain, Linked}
 use Rattle.fb_ecc.specs.Located.{AreAt, slots_with, slots_with_each}

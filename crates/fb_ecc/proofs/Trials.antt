@@ -14,7 +14,7 @@ use Rattle.fb_types.specs.declared.library.State.{State}
 use Rattle.fb_types.specs.declared.text.Expr.{Expr}
 use Rattle.fb_types.specs.declared.value.Reason.TheVariants.{Steps}
 use Rattle.fb_types.proofs.Positions.{position-first}
-use Rattle.fb_st.proofs.Indexes.{position-later}
+use Rattle.fb_st.proofs.lemmas.Indexes.{position-later}
 use Rattle.fb_ecc.specs.Indexes.{state_at}
 use Rattle.fb_types.specs.Values.{Values}
 use Rattle.fb_types.specs.Charts.{Fails, NoneClears, is_present, is_true, guard_value, trial_of, by_condition}

@@ -27,7 +27,7 @@ pub fn run_assignment(variable: &Reference, expr: &Expr, frame: &mut Frame) -> R
 }
 
 /// Whether one of the labels fits. A range whose first bound is greater than its last fits nothing.
-#[tactic(auto, using(crate::proofs::Runs::labels_any))]
+#[tactic(auto, using(crate::proofs::lemmas::Runs::labels_any))]
 pub fn has_label(labels: &[Label], value: Value) -> bool
     ensures { result ≡ label_fits labels.now (whole value) }
 {

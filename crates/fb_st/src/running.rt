@@ -126,7 +126,7 @@ fn number(expr: &NumberExpr, words: &[i64]) -> Result<i128, Reason>
 }
 
 /// Whether one of the labels fits. A range whose first bound is greater than its last fits nothing.
-#[tactic(auto, using(crate::proofs::Runs::labels_any))]
+#[tactic(auto, using(crate::proofs::lemmas::Runs::labels_any))]
 fn has_label(labels: &[Label], number: i128) -> bool
     ensures { result ≡ label_fits labels.now number }
 {
@@ -414,7 +414,7 @@ fn short_next(count: &CountExpr, span: &Span, words: &[i64]) -> Option<i64>
 
 /// Gives the variable of FOR its next value, or ends the loop and keeps the value. The next value has not passed the
 /// end.
-#[tactic(auto, using(crate::proofs::Assigning::within_slot_there))]
+#[tactic(auto, using(crate::proofs::lemmas::Assigning::within_slot_there))]
 #[inline(always)]
 fn advance(
     count: &CountExpr,
@@ -450,7 +450,7 @@ fn next_of(span: Span, number: i128) -> Option<i128>
 }
 
 /// The same as `advance`, for any numbers.
-#[tactic(auto, using(crate::proofs::Assigning::within_slot_there))]
+#[tactic(auto, using(crate::proofs::lemmas::Assigning::within_slot_there))]
 #[inline(never)]
 fn advance_exact(
     count: &CountExpr,

@@ -8,7 +8,7 @@ use Rattle.fb_types.specs.declared.text.Choice.{Choice}
 use Rattle.fb_types.specs.declared.text.Label.{Label}
 use Rattle.fb_types.specs.declared.text.Stmt as read
 use Rattle.fb_st.specs.Flows.{all_of, branch_of, branches_of, choice_of, choices_of}
-use Rattle.fb_st.proofs.Runs.{branch_says, case_says, choice_says, for_says, if_says, repeat_says, while_says}
+use Rattle.fb_st.proofs.lemmas.Runs.{branch_says, case_says, choice_says, for_says, if_says, repeat_says, while_says}
 use Rattle.fb_stop.specs.Numbers.{IsReached, next, after, after_all, after_branches, after_choices}
 use Rattle.fb_stop.specs.Statements.{IsAmong, IsInside, IsNumbered, IsOfCase, IsOfIf}
 use Rattle.fb_stop.specs.Statements as spec

@@ -19,7 +19,7 @@ use Rattle.fb_types.specs.declared.value.Value.{Value}
 use Rattle.fb_types.proofs.NameLaws.{same_from_same_name}
 use Rattle.fb_st.specs.Frames.{Declared, declared_in, names_of, values_of}
 use Rattle.fb_st.specs.declared.frame.Slot.{Slot}
-use Rattle.fb_st.proofs.Indexes.{named_at_index}
+use Rattle.fb_st.proofs.lemmas.Indexes.{named_at_index}
 use Rattle.fb_ecc.specs.Indexes.{state_at}
 use Rattle.fb_ecc.specs.Sound.{IsSound, declared_as}
 use Rattle.fb_stop.specs.Sites.{slot_in}

@@ -15,7 +15,7 @@ use Rattle.fb_types.specs.declared.text.Stmt.TheVariants as variants
 use Rattle.fb_types.specs.declared.text.Stmt.TheViews.{out-Stmt, out-roll-Stmt}
 use Rattle.fb_types.specs.declared.value.Reason.{Reason}
 use Rattle.fb_st.specs.Flows.{all_of, branch_of, branches_of, choice_of, choices_of}
-use Rattle.fb_st.proofs.Runs.{branch_says, choice_says}
+use Rattle.fb_st.proofs.lemmas.Runs.{branch_says, choice_says}
 use Rattle.fb_stop.specs.Numbers.{IsReached, next, after, after_all, after_branches, after_choices}
 use Rattle.fb_stop.specs.Operations.{IsOtherwise}
 use Rattle.fb_stop.specs.Statements.{AreBranchesOtherwise, AreChoicesOtherwise, IsAmong, IsExpression, IsInside, IsListOtherwise, IsNumbered, IsOfCase, IsOfIf, IsOwnOtherwise, IsStatementOtherwise}

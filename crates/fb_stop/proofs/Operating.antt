@@ -5,7 +5,7 @@ use Rattle.fb_types.specs.declared.text.BinaryOperator.{BinaryOperator}
 use Rattle.fb_types.specs.declared.text.Expr as read
 use Rattle.fb_types.specs.declared.text.UnaryOperator.{UnaryOperator}
 use Rattle.fb_types.specs.declared.value.Reason.{Reason}
-use Rattle.fb_st.proofs.Runs.{cut_at}
+use Rattle.fb_st.proofs.lemmas.Runs.{cut_at}
 use Rattle.fb_stop.specs.Numbers.{next}
 use Rattle.fb_stop.specs.Operations.{FaultIn, HasValue, IsFirstWithout, IsOfCall, IsWithout}
 use Rattle.fb_stop.specs.Operations as spec

@@ -12,7 +12,7 @@ use Rattle.fb_types.specs.declared.text.UnaryOperator.{UnaryOperator}
 use Rattle.fb_types.specs.declared.value.Reason.{Reason}
 use Rattle.fb_types.specs.declared.value.Value.{Value}
 use Rattle.fb_types.specs.declared.value.Value.TheVariants as value
-use Rattle.fb_st.proofs.Says.{binary_is, call_comes, group_comes, truth_comes, variable_comes, whole_comes}
+use Rattle.fb_st.proofs.lemmas.Says.{binary_is, call_comes, group_comes, truth_comes, variable_comes, whole_comes}
 use Rattle.fb_stop.specs.Operations.{HasNoValue, HasValue, IsCallOtherwise, IsFirstWithout, IsOtherwise, IsWithout}
 
 pub if_none_map : {A P Q : Type 0} (o : Option A) → (P → Q) → IfNone o P → IfNone o Q

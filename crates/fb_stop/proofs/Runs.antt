@@ -16,7 +16,7 @@ use Rattle.fb_st.specs.Flows.{point, all_of, choices_of, branches_of, choice_of,
 use Rattle.fb_st.specs.declared.frame.Slot.{Slot}
 use Rattle.fb_st.specs.declared.meter.Meter.{Meter}
 use Rattle.fb_st.specs.declared.meter.Flow.{Flow}
-use Rattle.fb_st.proofs.Runs.{cut_at, choice_says, branch_says}
+use Rattle.fb_st.proofs.lemmas.Runs.{cut_at, choice_says, branch_says}
 use Rattle.fb_stop.specs.Numbers.{next, after, after_all, after_choices, after_branches}
 use Rattle.fb_stop.specs.Blamed.{End, Went, Left, Returned, Stopped, Running, After, Then, Step, TurnThen, Loop, Runs, RunsAll, RunsChoice, RunsBranch, Assigns, Advances, Counts, placed, until, holds_in}
 use Rattle.fb_stop.specs.Ends.{end_of}

@@ -42,7 +42,7 @@ fn whole_of(value: Value) -> i128
 }
 
 /// Whether one of the labels fits. A range whose first bound is greater than its last fits nothing.
-#[tactic(auto, using(fb_st::proofs::Runs::labels_any))]
+#[tactic(auto, using(fb_st::proofs::lemmas::Runs::labels_any))]
 pub(crate) fn has_label(labels: &[Label], value: Value) -> bool
     ensures { result ≡ label_fits labels.now (whole value) }
 {

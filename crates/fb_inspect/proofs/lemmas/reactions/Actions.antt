@@ -6,7 +6,7 @@ use Rattle.fb_types.specs.Charts.{actions_of}
 use Rattle.fb_types.specs.declared.library.Action.{Action}
 use Rattle.fb_types.specs.declared.library.BasicType.{BasicType}
 use Rattle.fb_types.specs.declared.library.State.{State}
-use Rattle.fb_st.proofs.Indexes.{named_at_index}
+use Rattle.fb_st.proofs.lemmas.Indexes.{named_at_index}
 use Rattle.fb_ecc.specs.Indexes.{state_at}
 use Rattle.fb_ecc.specs.Sound.{IsSound}
 use Rattle.fb_ecc.proofs.Trials.{state_here}

@@ -11,7 +11,7 @@ use Rattle.fb_st.specs.Fitting.{codes_said}
 use Rattle.fb_st.specs.Made.{SaysAll}
 use Rattle.fb_st.specs.declared.compiled.CompiledStmt.{CompiledStmt}
 use Rattle.fb_st.specs.declared.frame.Slot.{Slot}
-use Rattle.fb_st.proofs.Slots.{names_declared}
+use Rattle.fb_st.proofs.lemmas.Slots.{names_declared}
 use Rattle.fb_st.proofs.algorithm.exec_compiled.Goals as goal
 
 pub run-requires : goal.run-requires

@@ -1,5 +1,5 @@
 use Rattle.std.proofs.Common.{rules}
-use Rattle.fb_st.proofs.Runs.{written}
+use Rattle.fb_st.proofs.lemmas.Runs.{written}
 use Rattle.fb_st.proofs.assign.advance.Goals as goal
 
 pub returns-in_ok-assign-in-Some-clause-within : goal.returns-in_ok-assign-in-Some-clause-within

@@ -12,8 +12,8 @@ use Rattle.fb_st.specs.Compiled.{Compared, Joined, number_said, truth_said}
 use Rattle.fb_st.specs.Made.{SaysNumber, SaysTruth}
 use Rattle.fb_st.specs.declared.compiled.TruthExpr.{fold-roll-TruthExpr}
 use Rattle.fb_st.specs.declared.compiled.TruthExpr.TheVariants as truth
-use Rattle.fb_st.proofs.Making.{binary_says, compared_says, constant_says, greater_says, joined_says, known_says, lesser_says, magnitude_says, picked_says}
-use Rattle.fb_st.proofs.Says.{binary_is, call_is, group_is, truth_is, variable_is, whole_is}
+use Rattle.fb_st.proofs.lemmas.Making.{binary_says, compared_says, constant_says, greater_says, joined_says, known_says, lesser_says, magnitude_says, picked_says}
+use Rattle.fb_st.proofs.lemmas.Says.{binary_is, call_is, group_is, truth_is, variable_is, whole_is}
 use Rattle.fb_st.proofs.compile_expr.+compile_expr.Goals as goal
 
 pub arithmetic-returns : goal.arithmetic-returns

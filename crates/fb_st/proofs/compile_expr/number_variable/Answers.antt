@@ -1,6 +1,6 @@
 use Rattle.std.proofs.Common.{sym, ◌∙◌, ap}
 use Rattle.fb_st.specs.Fitting.{is_plain, is_unsigned}
-use Rattle.fb_st.proofs.Making.{slot_says, unsigned_says}
+use Rattle.fb_st.proofs.lemmas.Making.{slot_says, unsigned_says}
 use Rattle.fb_st.proofs.compile_expr.number_variable.Goals as goal
 
 pub returns-then-is_plain : goal.returns-then-is_plain

@@ -1,6 +1,6 @@
 use Rattle.std.proofs.Common.{sym, ◌∙◌, ap}
 use Rattle.fb_st.specs.Fitting.{is_truth}
-use Rattle.fb_st.proofs.Making.{flag_says}
+use Rattle.fb_st.proofs.lemmas.Making.{flag_says}
 use Rattle.fb_st.proofs.compile_expr.truth_variable.Goals as goal
 
 pub returns-then-is_bool : goal.returns-then-is_bool

@@ -8,8 +8,8 @@ use Rattle.fb_st.specs.Flows.{all_of, branch_of, branches_of, choice_of, choices
 use Rattle.fb_st.specs.Made.{SaysAll, SaysBranches, SaysChoices, SaysCount, SaysStmt}
 use Rattle.fb_st.specs.Fitting.{arm_right, arm_said, code_right, code_said, fork_right, fork_said}
 use Rattle.fb_st.specs.declared.compiled.CompiledStmt.TheVariants as code
-use Rattle.fb_st.proofs.MakingCode.{arm_made, case_made, for_made, fork_made, if_made, one_more, repeat_made, taken_all, while_made}
-use Rattle.fb_st.proofs.Runs.{assign_says, branch_says, case_says, choice_says, for_says, if_says, repeat_says, while_says}
+use Rattle.fb_st.proofs.lemmas.MakingCode.{arm_made, case_made, for_made, fork_made, if_made, one_more, repeat_made, taken_all, while_made}
+use Rattle.fb_st.proofs.lemmas.Runs.{assign_says, branch_says, case_says, choice_says, for_says, if_says, repeat_says, while_says}
 use Rattle.fb_st.proofs.compile_stmt.+compile_stmt.Goals as goal
 
 pub compile_all-loop-statement-preserved : goal.compile_all-loop-statement-preserved

@@ -2,7 +2,7 @@ use Rattle.std.proofs.Common.{sym, ◌∙◌, rules, to_z-of_z}
 use mir.Syntax.{w64}
 use mir.Val.{SFits}
 use Rattle.fb_types.specs.Syntax.{expr_of}
-use Rattle.fb_st.proofs.MakingCode.{long_made, truth_made, within_made}
+use Rattle.fb_st.proofs.lemmas.MakingCode.{long_made, truth_made, within_made}
 use Rattle.fb_st.proofs.compile_stmt.assignment.Goals as goal
 
 pub returns-then-is_bool : goal.returns-then-is_bool

@@ -7,8 +7,8 @@ use Rattle.fb_types.specs.declared.value.Reason.{Reason}
 use Rattle.fb_types.specs.declared.value.Value.{Value}
 use Rattle.fb_st.specs.Required.{both}
 use Rattle.fb_st.specs.Frames.{values_of}
-use Rattle.fb_st.proofs.Arguments.{argument_done, with_one, one_stops, with_two, two_stop, with_three, three_stop, third_stops}
-use Rattle.fb_st.proofs.Says.{truth_comes, variable_comes, group_comes, unary_comes, binary_comes, call_comes}
+use Rattle.fb_st.proofs.lemmas.Arguments.{argument_done, with_one, one_stops, with_two, two_stop, with_three, three_stop, third_stops}
+use Rattle.fb_st.proofs.lemmas.Says.{truth_comes, variable_comes, group_comes, unary_comes, binary_comes, call_comes}
 use Rattle.fb_st.proofs.evaluation.+eval.Goals as goal
 
 pub call-loop-argument-preserved : goal.call-loop-argument-preserved

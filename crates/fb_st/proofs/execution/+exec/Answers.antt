@@ -13,7 +13,7 @@ use Rattle.fb_st.specs.declared.frame.Slot.{Slot}
 use Rattle.fb_st.specs.declared.meter.Flow.TheVariants as flow
 use Rattle.fb_st.specs.Frames.{declared_in, types_in, values_of}
 use Rattle.fb_st.specs.Flows.{end_of, point, before_step, all_of, branches_of, choices_of}
-use Rattle.fb_st.proofs.Runs.{assign_says, if_says, case_says, for_says, while_says, case_runs, began, for_counts, for_not_begun, stopped_by, ended_by, ok_by, turn_as, whole_as, counts_as, all_goes_on, all_ends, all_known, all_as, nothing_left, runs_as, ends_at, choice_holds, choice_ran, choice_taken, choice_passed, choice_stops, choices_known, branch_fits, branch_ran, branch_taken, branch_passed, branches_known, loop_over, loop_stops, loop_left, loop_returned, loop_stopped, loop_goes_on, repeat_says, repeat_goes_on, repeat_over, repeat_stops, repeat_left, repeat_returned, repeat_stopped}
+use Rattle.fb_st.proofs.lemmas.Runs.{assign_says, if_says, case_says, for_says, while_says, case_runs, began, for_counts, for_not_begun, stopped_by, ended_by, ok_by, turn_as, whole_as, counts_as, all_goes_on, all_ends, all_known, all_as, nothing_left, runs_as, ends_at, choice_holds, choice_ran, choice_taken, choice_passed, choice_stops, choices_known, branch_fits, branch_ran, branch_taken, branch_passed, branches_known, loop_over, loop_stops, loop_left, loop_returned, loop_stopped, loop_goes_on, repeat_says, repeat_goes_on, repeat_over, repeat_stops, repeat_left, repeat_returned, repeat_stopped}
 use Rattle.fb_st.proofs.execution.+exec.Goals as goal
 
 -- ---- FOR

@@ -9,7 +9,7 @@ use Rattle.fb_types.specs.Bodies.{RunsAll, RunsChoice, RunsBranch, Counts, Loop,
 use Rattle.fb_st.specs.Frames.{declared_in, types_in, values_of}
 use Rattle.fb_st.specs.Flows.{point, all_of, choices_of, branches_of}
 use Rattle.fb_st.specs.Known.{AllKnown, ChoicesKnown, BranchesKnown}
-use Rattle.fb_st.proofs.Runs.{Leads, repeats}
+use Rattle.fb_st.proofs.lemmas.Runs.{Leads, repeats}
 use Rattle.fb_st.proofs.execution.+exec.Given as goal
 
 -- what the rest runs to from here, all runs to from the start

@@ -4,7 +4,7 @@ use mir.Val.{SFits}
 use Rattle.fb_types.specs.Values.{binary_value}
 use Rattle.fb_types.specs.declared.value.Value.TheVariants as value
 use Rattle.fb_st.specs.Required.{as_whole, wholes}
-use Rattle.fb_st.proofs.Comes.{again_two}
+use Rattle.fb_st.proofs.lemmas.Comes.{again_two}
 use Rattle.fb_st.proofs.operator.binary.Goals as goal
 
 pub returns-then-is_arithmetic : goal.returns-then-is_arithmetic

@@ -1,7 +1,7 @@
 use Rattle.std.proofs.Common.{ap, rules, to_z-of_z}
 use mir.Syntax.{w128}
 use mir.Val.{SFits, of_z}
-use Rattle.fb_st.proofs.Divided.{modulus_is}
+use Rattle.fb_st.proofs.lemmas.Divided.{modulus_is}
 use Rattle.fb_st.proofs.operator.remainder.Goals as goal
 
 pub returns-in-Some : goal.returns-in-Some

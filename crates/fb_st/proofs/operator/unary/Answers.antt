@@ -4,7 +4,7 @@ use mir.Syntax.{w128}
 use mir.Val.{SFits}
 use Rattle.fb_types.specs.Values.{judged, whole}
 use Rattle.fb_st.specs.Required.{as_whole, wholes}
-use Rattle.fb_st.proofs.Comes.{again_judged}
+use Rattle.fb_st.proofs.lemmas.Comes.{again_judged}
 use Rattle.fb_st.proofs.operator.unary.Goals as goal
 
 pub returns-in-Negate : goal.returns-in-Negate

@@ -19,12 +19,12 @@ use Rattle.fb_st.specs.Frames.{types_in}
 use Rattle.fb_st.specs.Flows.{end_of}
 use Rattle.fb_st.specs.Compiled.{number_said, truth_said, fits_truth, fits_number}
 use Rattle.fb_st.specs.Fitting.{spot, begun, values_at, name_at, expr_of_number, expr_of_truth, code_said, codes_said, arms_said, forks_said, code_right, codes_right, count_right, arm_right, fork_right, kinds_truth, kinds_number, ty_or, value_of_word}
-use Rattle.fb_st.proofs.Assigning.{within_slot_there}
-use Rattle.fb_st.proofs.Comes.{both_true, condition_comes, number_comes}
-use Rattle.fb_st.proofs.Sizes.{statement_size, body_of_arm_size, body_of_for_size, body_of_repeat_size, body_of_while_size}
-use Rattle.fb_st.proofs.Words.{word_type}
-use Rattle.fb_st.proofs.CodeRuns.{one_right, codes_go_on, codes_end, codes_as, ends_here, long_says, within_says, truth_says, if_says, case_says, for_says, while_says, repeat_says, case_part, case_stops, count_parts, within_there, counted, for_no_start, for_no_end, for_no_step, first_set, first_read, arm_parts, for_right, while_right, repeat_right, arm_holds, arm_ran, arm_taken, arm_passed, arm_stops, fork_fits, fork_ran, fork_taken, fork_passed}
-use Rattle.fb_st.proofs.Runs.{began, case_runs, for_counts, for_not_begun, stopped_by, ended_by, ok_by, ends_as, nothing_left, loop_over, loop_stops, loop_left, loop_returned, loop_stopped, loop_goes_on, repeat_goes_on, repeat_over, repeat_stops, repeat_left, repeat_returned, repeat_stopped}
+use Rattle.fb_st.proofs.lemmas.Assigning.{within_slot_there}
+use Rattle.fb_st.proofs.lemmas.Comes.{both_true, condition_comes, number_comes}
+use Rattle.fb_st.proofs.lemmas.Sizes.{statement_size, body_of_arm_size, body_of_for_size, body_of_repeat_size, body_of_while_size}
+use Rattle.fb_st.proofs.lemmas.Words.{word_type}
+use Rattle.fb_st.proofs.lemmas.CodeRuns.{one_right, codes_go_on, codes_end, codes_as, ends_here, long_says, within_says, truth_says, if_says, case_says, for_says, while_says, repeat_says, case_part, case_stops, count_parts, within_there, counted, for_no_start, for_no_end, for_no_step, first_set, first_read, arm_parts, for_right, while_right, repeat_right, arm_holds, arm_ran, arm_taken, arm_passed, arm_stops, fork_fits, fork_ran, fork_taken, fork_passed}
+use Rattle.fb_st.proofs.lemmas.Runs.{began, case_runs, for_counts, for_not_begun, stopped_by, ended_by, ok_by, ends_as, nothing_left, loop_over, loop_stops, loop_left, loop_returned, loop_stopped, loop_goes_on, repeat_goes_on, repeat_over, repeat_stops, repeat_left, repeat_returned, repeat_stopped}
 use Rattle.fb_st.proofs.running.+running.Goals as goal
 
 pub run_repeat-returns-in_err-turn-clause-run : goal.run_repeat-returns-in_err-turn-clause-run

@@ -8,7 +8,7 @@ use Rattle.fb_st.specs.Fitting.{spot, codes_said, arms_said, forks_said, codes_r
 use Rattle.fb_st.proofs.compiled.CompiledStmt.TheLaws as stmt
 use Rattle.fb_st.proofs.compiled.CompiledChoice.TheLaws as choice
 use Rattle.fb_st.proofs.compiled.CompiledBranch.TheLaws as branch
-use Rattle.fb_st.proofs.Runs.{Leads, repeats}
+use Rattle.fb_st.proofs.lemmas.Runs.{Leads, repeats}
 use Rattle.fb_st.proofs.running.+running.Given as goal
 
 -- what the rest runs to from here, all runs to from the start

@@ -8,9 +8,9 @@ use Rattle.fb_types.specs.declared.value.Value.TheVariants as value
 use Rattle.fb_st.specs.Frames.{types_in}
 use Rattle.fb_st.specs.Compiled.{word_at}
 use Rattle.fb_st.specs.Fitting.{name_at, values_at}
-use Rattle.fb_st.proofs.Assigning.{advances_to, low_word, within_slot}
-use Rattle.fb_st.proofs.CodeRuns.{first_read, first_set}
-use Rattle.fb_st.proofs.Words.{word_read, word_type}
+use Rattle.fb_st.proofs.lemmas.Assigning.{advances_to, low_word, within_slot}
+use Rattle.fb_st.proofs.lemmas.CodeRuns.{first_read, first_set}
+use Rattle.fb_st.proofs.lemmas.Words.{word_read, word_type}
 use Rattle.fb_st.proofs.running.advance.Goals as goal
 
 pub returns-in-Some-clause-run : goal.returns-in-Some-clause-run

@@ -8,9 +8,9 @@ use Rattle.fb_types.specs.Bodies.{passed}
 use Rattle.fb_types.specs.declared.value.Value.TheVariants as value
 use Rattle.fb_st.specs.Frames.{types_in}
 use Rattle.fb_st.specs.Fitting.{name_at, ty_or, value_of_word, values_at}
-use Rattle.fb_st.proofs.Assigning.{advances_not, advances_past, advances_to, whole_read, within_slot_there}
-use Rattle.fb_st.proofs.CodeRuns.{first_read, first_set, within_there}
-use Rattle.fb_st.proofs.Words.{word_type}
+use Rattle.fb_st.proofs.lemmas.Assigning.{advances_not, advances_past, advances_to, whole_read, within_slot_there}
+use Rattle.fb_st.proofs.lemmas.CodeRuns.{first_read, first_set, within_there}
+use Rattle.fb_st.proofs.lemmas.Words.{word_type}
 use Rattle.fb_st.proofs.running.advance_exact.Goals as goal
 
 -- The slot is one of the layout, and of the words.

@@ -8,8 +8,8 @@ use Rattle.fb_st.specs.Required.{as_whole}
 use Rattle.fb_st.specs.Frames.{types_in}
 use Rattle.fb_st.specs.Compiled.{number_said, fits_number}
 use Rattle.fb_st.specs.Fitting.{values_at, name_at, ty_or, value_of_word, kinds_number, expr_of_number}
-use Rattle.fb_st.proofs.Comes.{both_true, number_comes}
-use Rattle.fb_st.proofs.Assigning.{assign_writes, assign_refused, assign_stops, there}
+use Rattle.fb_st.proofs.lemmas.Comes.{both_true, number_comes}
+use Rattle.fb_st.proofs.lemmas.Assigning.{assign_writes, assign_refused, assign_stops, there}
 use Rattle.fb_st.proofs.running.assign_exact.Goals as goal
 
 pub returns-in_err-number-clause-run : goal.returns-in_err-number-clause-run

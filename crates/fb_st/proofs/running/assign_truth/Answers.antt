@@ -7,8 +7,8 @@ use Rattle.fb_st.specs.Required.{as_bool}
 use Rattle.fb_st.specs.Frames.{types_in}
 use Rattle.fb_st.specs.Compiled.{truth_said, fits_truth}
 use Rattle.fb_st.specs.Fitting.{values_at, name_at, is_truth_type, right_truth, kinds_truth, expr_of_truth}
-use Rattle.fb_st.proofs.Comes.{both_true, truth_comes}
-use Rattle.fb_st.proofs.Assigning.{assign_writes, assign_stops, truth_slot, truth_slot_within}
+use Rattle.fb_st.proofs.lemmas.Comes.{both_true, truth_comes}
+use Rattle.fb_st.proofs.lemmas.Assigning.{assign_writes, assign_stops, truth_slot, truth_slot_within}
 use Rattle.fb_st.proofs.running.assign_truth.Goals as goal
 
 pub returns-in_err-is_true-clause-run : goal.returns-in_err-is_true-clause-run

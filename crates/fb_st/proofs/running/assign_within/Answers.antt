@@ -6,8 +6,8 @@ use mir.Val.{SFits}
 use Rattle.fb_st.specs.Required.{as_whole}
 use Rattle.fb_st.specs.Compiled.{number_said, fits_number}
 use Rattle.fb_st.specs.Fitting.{is_within_type, right_number, kinds_number, expr_of_number}
-use Rattle.fb_st.proofs.Comes.{both_true, number_comes}
-use Rattle.fb_st.proofs.Assigning.{assign_writes, within_slot, within_slot_there}
+use Rattle.fb_st.proofs.lemmas.Comes.{both_true, number_comes}
+use Rattle.fb_st.proofs.lemmas.Assigning.{assign_writes, within_slot, within_slot_there}
 use Rattle.fb_st.proofs.running.assign_within.Goals as goal
 
 pub returns-in-Some-clause-run : goal.returns-in-Some-clause-run

@@ -1,5 +1,5 @@
 use Rattle.std.proofs.Common.{[], ◌∷◌, take, sym, ◌∙◌, ap, to_z-of_z}
-use Rattle.fb_st.proofs.KeptAs.{written_back}
+use Rattle.fb_st.proofs.lemmas.KeptAs.{written_back}
 use Rattle.fb_st.proofs.slot_list.push_both.Goals as goal
 
 pub returns-in-Err-clause-err : goal.returns-in-Err-clause-err

@@ -1,6 +1,6 @@
 use Rattle.std.proofs.Common.{◌≡◌, ◌∙◌, List, ap, map, subst}
 use Rattle.fb_types.specs.declared.text.Expr.{Expr}
-use Rattle.fb_st.proofs.Runs.{nothing_left}
+use Rattle.fb_st.proofs.lemmas.Runs.{nothing_left}
 use Rattle.fb_stop.specs.Numbers.{next}
 use Rattle.fb_stop.specs.Tokens.{past, past_each}
 use Rattle.fb_stop.proofs.Operating.{each_more}

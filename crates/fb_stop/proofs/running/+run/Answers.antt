@@ -10,7 +10,7 @@ use Rattle.fb_types.specs.declared.text.Stmt as read
 use Rattle.fb_st.specs.declared.meter.Flow.TheVariants as flow
 use Rattle.fb_st.specs.Frames.{Declared, declared_in, types_in, values_of}
 use Rattle.fb_st.specs.Flows.{point, before_step, all_of, branches_of, choices_of}
-use Rattle.fb_st.proofs.Runs.{assign_says, if_says, case_says, for_says, while_says, repeat_says, all_known, nothing_left, choices_known, branches_known}
+use Rattle.fb_st.proofs.lemmas.Runs.{assign_says, if_says, case_says, for_says, while_says, repeat_says, all_known, nothing_left, choices_known, branches_known}
 use Rattle.fb_stop.specs.Numbers.{next, after_branches, after_choices}
 use Rattle.fb_stop.specs.Blamed.{End, Running, Went, Left, Returned, Stopped, RunsAll, RunsChoice, RunsBranch, Runs, Advances, holds_in, counts_on}
 use Rattle.fb_stop.specs.Ends.{end_of}

@@ -4,7 +4,7 @@ use Rattle.fb_types.specs.Values.{fits}
 use Rattle.fb_types.specs.Repeated.{Twice}
 use Rattle.fb_st.specs.declared.frame.Slot.{Slot}
 use Rattle.fb_st.specs.Frames.{values_of, index_of, types_in, declared_in}
-use Rattle.fb_st.proofs.Slots.{declared_somewhere, index_within, set_declared, set_names, slot_there, type_here, written}
+use Rattle.fb_st.proofs.lemmas.Slots.{declared_somewhere, index_within, set_declared, set_names, slot_there, type_here, written}
 use Rattle.fb_st.proofs.frame.Frame.assign.Goals as goal
 
 pub unreachable-requires : goal.unreachable-requires

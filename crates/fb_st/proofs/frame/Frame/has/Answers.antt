@@ -1,7 +1,7 @@
 use Rattle.std.proofs.Common.{sym, ◌∙◌, ap}
 use Rattle.std.specs.List.{list_any}
 use Rattle.fb_types.specs.Names.{same_name}
-use Rattle.fb_st.proofs.Once.{tested}
+use Rattle.fb_st.proofs.lemmas.Once.{tested}
 use Rattle.fb_st.proofs.frame.Frame.has.Goals as goal
 
 pub returns : goal.returns

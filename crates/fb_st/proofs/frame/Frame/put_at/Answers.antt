@@ -4,7 +4,7 @@ use Rattle.fb_types.specs.Names.{Name, with_value}
 use Rattle.fb_types.specs.Repeated.{Twice}
 use Rattle.fb_st.specs.declared.frame.Slot.{Slot}
 use Rattle.fb_st.specs.Frames.{declared_in, values_of}
-use Rattle.fb_st.proofs.Slots.{set_declared, set_names, slot_there, write_at, write_past}
+use Rattle.fb_st.proofs.lemmas.Slots.{set_declared, set_names, slot_there, write_at, write_past}
 use Rattle.fb_st.proofs.frame.Frame.put_at.Goals as goal
 
 pub invariant_of-self : goal.invariant_of-self

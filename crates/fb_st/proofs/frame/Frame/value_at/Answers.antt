@@ -4,7 +4,7 @@ use Rattle.fb_types.specs.Flat.{zero_value}
 use Rattle.fb_types.specs.declared.value.Value.{Value}
 use Rattle.fb_st.specs.declared.frame.Slot.{Slot}
 use Rattle.fb_st.specs.Frames.{declared_in, values_of}
-use Rattle.fb_st.proofs.Slots.{read_at, read_past}
+use Rattle.fb_st.proofs.lemmas.Slots.{read_at, read_past}
 use Rattle.fb_st.proofs.frame.Frame.value_at.Goals as goal
 
 pub returns-then-has_index : goal.returns-then-has_index

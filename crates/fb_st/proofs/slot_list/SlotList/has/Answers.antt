@@ -1,7 +1,7 @@
 use Rattle.std.proofs.Common.{◌∙◌, ap}
 use Rattle.std.specs.List.{list_any}
 use Rattle.fb_types.specs.Names.{same_name}
-use Rattle.fb_st.proofs.KeptAs.{kept_any}
+use Rattle.fb_st.proofs.lemmas.KeptAs.{kept_any}
 use Rattle.fb_st.proofs.slot_list.SlotList.has.Goals as goal
 
 pub returns : goal.returns

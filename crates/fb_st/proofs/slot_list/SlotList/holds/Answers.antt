@@ -4,7 +4,7 @@ use Rattle.std.proofs.lemmas.Option.{slice_get_read}
 use Rattle.fb_types.specs.Values.{fits}
 use Rattle.fb_st.specs.declared.frame.Slot.{Slot}
 use Rattle.fb_st.specs.declared.slot_list.Kept.{Kept}
-use Rattle.fb_st.proofs.KeptAs.{kept_is, kept_within}
+use Rattle.fb_st.proofs.lemmas.KeptAs.{kept_is, kept_within}
 use Rattle.fb_st.proofs.slot_list.SlotList.holds.Goals as goal
 
 pub index-requires : goal.index-requires

@@ -6,9 +6,9 @@ use Rattle.fb_st.specs.Compiled.{fits_truth, truth_at, truth_said}
 use Rattle.fb_st.specs.Frames.{Declared, values_of}
 use Rattle.fb_st.specs.Fitting.{expr_of_truth, kinds_truth}
 use Rattle.fb_st.specs.declared.slot_list.Kept.{Kept}
-use Rattle.fb_st.proofs.Comes.{both_true, condition_comes}
-use Rattle.fb_st.proofs.KeptAs.{plain_layout}
-use Rattle.fb_st.proofs.Slots.{names_declared}
+use Rattle.fb_st.proofs.lemmas.Comes.{both_true, condition_comes}
+use Rattle.fb_st.proofs.lemmas.KeptAs.{plain_layout}
+use Rattle.fb_st.proofs.lemmas.Slots.{names_declared}
 use Rattle.fb_st.proofs.slot_list.SlotList.holds_condition.Goals as goal
 
 pub is_true-requires : goal.is_true-requires

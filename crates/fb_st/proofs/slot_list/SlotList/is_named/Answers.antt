@@ -5,7 +5,7 @@ use Rattle.fb_types.specs.Repeated.{Twice}
 use Rattle.fb_st.specs.declared.frame.Slot.{Slot}
 use Rattle.fb_st.specs.declared.slot_list.Kept.{Kept}
 use Rattle.fb_st.specs.Frames.{index_of, names_of}
-use Rattle.fb_st.proofs.KeptAs.{kept_named}
+use Rattle.fb_st.proofs.lemmas.KeptAs.{kept_named}
 use Rattle.fb_st.proofs.slot_list.SlotList.is_named.Goals as goal
 
 pub returns-in-Some : goal.returns-in-Some

@@ -5,8 +5,8 @@ use Rattle.fb_types.specs.declared.value.Value.{Value}
 use Rattle.fb_st.specs.Kept.{kept_as}
 use Rattle.fb_st.specs.declared.frame.Slot.{Slot}
 use Rattle.fb_st.specs.declared.slot_list.Kept.{Kept}
-use Rattle.fb_st.proofs.Comes.{both_true}
-use Rattle.fb_st.proofs.KeptAs.{kept_push, none_so, plain_push}
+use Rattle.fb_st.proofs.lemmas.Comes.{both_true}
+use Rattle.fb_st.proofs.lemmas.KeptAs.{kept_push, none_so, plain_push}
 use Rattle.fb_st.proofs.slot_list.SlotList.push.Goals as goal
 
 pub invariant_of-self : goal.invariant_of-self

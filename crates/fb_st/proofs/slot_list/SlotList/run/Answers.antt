@@ -7,8 +7,8 @@ use Rattle.fb_st.specs.Frames.{Declared, declared_in, types_in}
 use Rattle.fb_st.specs.Kept.{kept_as}
 use Rattle.fb_st.specs.Fitting.{codes_said, held, spot}
 use Rattle.fb_st.specs.declared.slot_list.Kept.{Kept}
-use Rattle.fb_st.proofs.KeptAs.{plain_after, plain_layout, ran_there, written_back}
-use Rattle.fb_st.proofs.Slots.{names_declared}
+use Rattle.fb_st.proofs.lemmas.KeptAs.{plain_after, plain_layout, ran_there, written_back}
+use Rattle.fb_st.proofs.lemmas.Slots.{names_declared}
 use Rattle.fb_st.proofs.slot_list.SlotList.run.Goals as goal
 
 pub run_all-requires : goal.run_all-requires

@@ -5,7 +5,7 @@ use mir.Val.{SFits}
 use Rattle.std.proofs.lemmas.Option.{slice_get_read}
 use Rattle.fb_st.specs.declared.frame.Slot.{Slot}
 use Rattle.fb_st.specs.declared.slot_list.Kept.{Kept}
-use Rattle.fb_st.proofs.KeptAs.{kept_within, set_word}
+use Rattle.fb_st.proofs.lemmas.KeptAs.{kept_within, set_word}
 use Rattle.fb_st.proofs.slot_list.SlotList.set.Goals as goal
 
 pub index-requires : goal.index-requires

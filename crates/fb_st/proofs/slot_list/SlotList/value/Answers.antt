@@ -8,7 +8,7 @@ use Rattle.fb_st.specs.declared.frame.Slot.{Slot}
 use Rattle.fb_st.specs.declared.slot_list.Kept.{Kept}
 use Rattle.fb_st.specs.Compiled.{word_at}
 use Rattle.fb_st.specs.Fitting.{value_of_word}
-use Rattle.fb_st.proofs.KeptAs.{kept_is, kept_within}
+use Rattle.fb_st.proofs.lemmas.KeptAs.{kept_is, kept_within}
 use Rattle.fb_st.proofs.slot_list.SlotList.value.Goals as goal
 
 pub index-kept-requires : goal.index-kept-requires

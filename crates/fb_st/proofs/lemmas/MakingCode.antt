@@ -20,10 +20,10 @@ use Rattle.fb_st.specs.declared.compiled.CompiledBranch.{CompiledBranch, out-Com
 use Rattle.fb_st.specs.Compiled.{number_said, truth_said}
 use Rattle.fb_st.specs.Fitting.{all_right, arm_right, arm_said, arms_right, code_right, codes_right, count_right, fork_right, fork_said, forks_right, is_long, is_long_type, is_truth, is_truth_type, is_within, is_within_type, name_at, right_number, right_truth, ty_at, ty_or}
 use Rattle.fb_st.specs.Made.{SaysAll, SaysBranches, SaysChoices, SaysCount, SaysNumber, SaysStmt, SaysTruth}
-use Rattle.fb_st.proofs.Comes.{both_true}
-use Rattle.fb_st.proofs.Assigning.{there}
-use Rattle.fb_st.proofs.CodeRuns.{arm_says, case_says, fork_says, for_says, if_says, long_says, repeat_says, truth_says, while_says, within_says}
-use Rattle.fb_st.proofs.Making.{both, truth_slot_type}
+use Rattle.fb_st.proofs.lemmas.Comes.{both_true}
+use Rattle.fb_st.proofs.lemmas.Assigning.{there}
+use Rattle.fb_st.proofs.lemmas.CodeRuns.{arm_says, case_says, fork_says, for_says, if_says, long_says, repeat_says, truth_says, while_says, within_says}
+use Rattle.fb_st.proofs.lemmas.Making.{both, truth_slot_type}
 
 -- ---- Lists
 

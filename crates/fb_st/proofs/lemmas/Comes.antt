@@ -18,7 +18,7 @@ use Rattle.fb_st.specs.Required.{wholes, as_whole, as_bool, gives_number}
 use Rattle.fb_st.specs.Frames.{Declared}
 use Rattle.fb_st.specs.Compiled.{Number, Constant, Slot, UnsignedSlot, Binary, Negated, Magnitude, Lesser, Larger, Limited, Chosen, Truth, Known, TruthSlot, Compared, Joined, Not, TruthChosen, number_at, truth_at, two_numbers, two_compared, two_truths, with_two, chosen, is_comparison, is_joint, compared_by, joined_by, word_at, unsigned_of, truth_of_word}
 use Rattle.fb_st.specs.Fitting.{values_at, value_of_word, name_at, expr_of_number, expr_of_truth, kinds_number, kinds_truth, is_plain_type, is_unsigned_type, is_truth_type}
-use Rattle.fb_st.proofs.Words.{word_read}
+use Rattle.fb_st.proofs.lemmas.Words.{word_read}
 
 pub both_true : (a b : Bool) → (a && b) ≡ true → (a ≡ true) × (b ≡ true)
 both_true true b h = (refl, h)

@@ -18,8 +18,8 @@ use Rattle.fb_st.specs.declared.compiled.TruthExpr.TheVariants as truth
 use Rattle.fb_st.specs.Compiled.{Number, Constant, Slot, UnsignedSlot, Binary, Magnitude, Lesser, Larger, Truth, Known, TruthSlot, Compared, Joined, TruthChosen, number_said, truth_said, fits_number, fits_truth, is_comparison, is_joint}
 use Rattle.fb_st.specs.Fitting.{name_at, ty_at, ty_or, expr_of_number, expr_of_truth, kinds_number, kinds_truth, right_number, right_truth, is_plain, is_plain_type, is_unsigned, is_unsigned_type, is_truth, is_truth_type}
 use Rattle.fb_st.specs.Made.{SaysNumber, SaysTruth, call_of_one, call_of_two, call_of_three}
-use Rattle.fb_st.proofs.Comes.{both_true}
-use Rattle.fb_st.proofs.Assigning.{there}
+use Rattle.fb_st.proofs.lemmas.Comes.{both_true}
+use Rattle.fb_st.proofs.lemmas.Assigning.{there}
 
 pub both : (a b : Bool) → a ≡ true → b ≡ true → (a && b) ≡ true
 both a b p q = ap (λ x. x && b) p ∙ q

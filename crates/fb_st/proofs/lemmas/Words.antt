@@ -8,8 +8,8 @@ use Rattle.fb_st.specs.declared.frame.Slot.{Slot as Variable}
 use Rattle.fb_st.specs.Frames.{Declared, names_of, values_of, index_of, declared_in, types_in}
 use Rattle.fb_st.specs.Compiled.{word_at}
 use Rattle.fb_st.specs.Fitting.{held, values_at, value_of_word, name_at, name_or}
-use Rattle.fb_st.proofs.Indexes.{index_of_once}
-use Rattle.fb_st.proofs.Slots.{value_here, type_here, written}
+use Rattle.fb_st.proofs.lemmas.Indexes.{index_of_once}
+use Rattle.fb_st.proofs.lemmas.Slots.{value_here, type_here, written}
 
 abbrev variable_of : Declared → ℤ → Variable
 variable_of d z = record { name = d.0; ty = d.1; value = value_of_word d.1 z }

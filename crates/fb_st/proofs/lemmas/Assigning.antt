@@ -20,10 +20,10 @@ use Rattle.fb_st.specs.Frames.{Declared, types_in}
 use Rattle.fb_st.specs.Variables.{least_of, most_of}
 use Rattle.fb_st.specs.Compiled.{unsigned_of, truth_of_word, word_at}
 use Rattle.fb_st.specs.Fitting.{values_at, value_of_word, name_at, ty_at, ty_or, is_long_type, is_within_type, is_truth_type}
-use Rattle.fb_st.proofs.Comes.{both_true}
-use Rattle.fb_st.proofs.Ranges.{between}
-use Rattle.fb_st.proofs.Runs.{assigns, assigns_not}
-use Rattle.fb_st.proofs.Words.{word_read, word_type, word_written}
+use Rattle.fb_st.proofs.lemmas.Comes.{both_true}
+use Rattle.fb_st.proofs.lemmas.Ranges.{between}
+use Rattle.fb_st.proofs.lemmas.Runs.{assigns, assigns_not}
+use Rattle.fb_st.proofs.lemmas.Words.{word_read, word_type, word_written}
 
 -- an expression that has no value stops the assignment
 pub assign_stops : (T : Types) (n : Name) (e : Expr) (vars : Values) (r : Reason) → value_of e vars ≡ Err r → (left : ℕ)

@@ -7,7 +7,7 @@ use Rattle.fb_types.specs.declared.text.Branch.{Branch, out-Branch}
 use Rattle.fb_types.specs.declared.text.Choice.{Choice, out-Choice}
 use Rattle.fb_types.specs.declared.text.Label.{Label}
 use Rattle.fb_st.specs.Flows.{all_of, branch_of, choice_of}
-use Rattle.fb_st.proofs.Runs.{branch_says, choice_says, cut_at, nothing_left}
+use Rattle.fb_st.proofs.lemmas.Runs.{branch_says, choice_says, cut_at, nothing_left}
 
 -- ---- A list, of which all is so where the first is and the rest is
 

@@ -16,7 +16,7 @@ use Rattle.fb_types.proofs.NameLaws.{same_from_same_name, same_name-flip, same_n
 use Rattle.fb_st.specs.declared.frame.Slot.{Slot}
 use Rattle.fb_types.proofs.Positions.{position-first}
 use Rattle.fb_st.specs.Frames.{values_of, names_of, index_of, Declared, declared_in, types_in, is_declared}
-use Rattle.fb_st.proofs.Indexes.{position-later, named_at_index, index_of_once}
+use Rattle.fb_st.proofs.lemmas.Indexes.{position-later, named_at_index, index_of_once}
 
 abbrev held : Option Slot → Value
 held o = elim o [ None ↦ zero_value | Some s ↦ s.value ]

@@ -15,9 +15,9 @@ use Rattle.fb_st.specs.Fitting.{held, value_of_word}
 use Rattle.fb_st.specs.declared.frame.Slot.{Slot}
 use Rattle.fb_st.specs.declared.meter.Meter.{Meter}
 use Rattle.fb_st.specs.declared.slot_list.Kept.{Kept}
-use Rattle.fb_st.proofs.Comes.{both_true}
-use Rattle.fb_st.proofs.Indexes.{index_of_once, position-cons}
-use Rattle.fb_st.proofs.Making.{both}
+use Rattle.fb_st.proofs.lemmas.Comes.{both_true}
+use Rattle.fb_st.proofs.lemmas.Indexes.{index_of_once, position-cons}
+use Rattle.fb_st.proofs.lemmas.Making.{both}
 
 pub kept_length : (ks : List Kept) (zs : List ℤ) → length zs ≡ length ks → length (kept_as ks zs) ≡ length ks
 kept_length [] zs len = refl

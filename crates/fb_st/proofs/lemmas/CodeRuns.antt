@@ -22,9 +22,9 @@ use Rattle.fb_st.specs.declared.compiled.CompiledChoice.{CompiledChoice, out-Com
 use Rattle.fb_st.specs.declared.compiled.CompiledBranch.{CompiledBranch, out-CompiledBranch, fold_out-CompiledBranch}
 use Rattle.fb_st.specs.Compiled.{number_said, truth_said, truth_at, fits_truth, fits_number}
 use Rattle.fb_st.specs.Fitting.{spot, values_at, name_at, all_right, code_said, codes_said, arm_said, arms_said, fork_said, forks_said, expr_of_number, expr_of_truth, value_of_word, kinds_truth, kinds_number, right_truth, right_number, is_within_type, count_right, code_right, codes_right, arm_right, arms_right, forks_right}
-use Rattle.fb_st.proofs.Comes.{both_true, condition_comes}
-use Rattle.fb_st.proofs.Runs.{Leads, cut_at, written}
-use Rattle.fb_st.proofs.Words.{word_written}
+use Rattle.fb_st.proofs.lemmas.Comes.{both_true, condition_comes}
+use Rattle.fb_st.proofs.lemmas.Runs.{Leads, cut_at, written}
+use Rattle.fb_st.proofs.lemmas.Words.{word_written}
 
 -- ---- What is right of each is right of one and of the rest
 

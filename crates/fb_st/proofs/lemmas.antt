@@ -1,0 +1,17 @@
+pub mod Arguments
+pub mod Divided
+pub mod Knowing
+pub mod Once
+pub mod Indexes
+pub mod Ranges
+pub mod Runs
+pub mod Says
+pub mod Slots
+pub mod Words
+pub mod Comes
+pub mod Assigning
+pub mod CodeRuns
+pub mod Making
+pub mod MakingCode
+pub mod KeptAs
+pub mod Sizes
