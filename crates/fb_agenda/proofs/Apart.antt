@@ -9,7 +9,7 @@ use Rattle.fb_types.specs.Keys.{Precedes, key_cmp, or_else, same_key}
 use Rattle.fb_types.specs.declared.key.Key.{Key}
 use Rattle.fb_types.proofs.KeyLaws.{earlier_precedes, same_key_is}
 use Rattle.fb_types.proofs.Lookups.{or_else_none}
-use Rattle.fb_agenda.specs.Agendas.{AreApart, AreRising, Contents, IsFirst, IsNext, IsPut, IsQueue, waiting}
+use Rattle.fb_agenda.specs.Agendas.{AreApart, AreRising, Contents, IsFirst, IsLeast, IsNext, IsPut, IsQueue, waiting}
 use Rattle.fb_agenda.specs.Laters.{Pending}
 use Rattle.fb_agenda.specs.Lists.{AreSplit, BeginsAt, IsPopped, Sets}
 use Rattle.fb_types.specs.declared.run.Event.{Event}
@@ -223,3 +223,18 @@ module _ (c : Contents) (apart : AreApart c) (k : Key) (e : Event) (running new 
       go j there false same =
           sets j ∙ ap (λ b. cond b (Some e) (lookup (same_key j) c.later)) same
           ∙ apart.apart j (subst (λ o. IsSome o) (gone j ∙ ap (λ b. cond b None (lookup (same_key j) c.running)) same) there)
+
+-- ---- The least key
+
+pub first_least : (c : Contents) (k : Key) → IsFirst (c.running ++ c.later) k → IsLeast c k
+first_least c k first = record {
+  waits = subst (λ o. IsSome o) (lookup_both k c.running c.later) first.there;
+  none_before = λ j before. sym (lookup_both j c.running c.later) ∙ first.none_before j before;
+}
+
+-- the lesser of the first of both
+pub later_least : (c : Contents) (k l : Key) → IsFirst c.running k → IsFirst c.later l → is_lt (key_cmp l k) ≡ true → IsLeast c l
+later_least c k l running later less = first_least c l (many_is_first c.running c.later (leads_less c.later c.running l k later running less) l later)
+
+pub running_least : (c : Contents) (k l : Key) → IsFirst c.running k → IsFirst c.later l → is_lt (key_cmp l k) ≡ false → IsLeast c k
+running_least c k l running later less = first_least c k (few_is_first c.running c.later (leads_not_less c.later c.running l k later running less) k running)

@@ -1,15 +1,17 @@
 -- Timers that wait on an agenda.
-use Rattle.std.proofs.Common.{◌≡◌, ◌≢◌, ℕ, ◌<◌, Bool, true, false, cond, eqb, ◌&&◌, List, length, refl, sym, ap, subst, ◌∙◌, Option, Some, None, Result, Ok, Err, get_or-set_same, get_or-set_other}
-use Rattle.std.specs.Prelude.{slice_index, slice_set, OnOk}
+use Rattle.std.proofs.Common.{◌≡◌, ◌≢◌, ℕ, ◌<◌, Bool, true, false, cond, eqb, ◌&&◌, List, length, refl, sym, ap, subst, ◌∙◌, Option, Some, None, Result, Ok, Err, get_or-set_same, get_or-set_other, arith}
+use Rattle.std.specs.Prelude.{slice_index, slice_set, IfNone, IfSome, IsSome, OnOk}
+use Rattle.std.specs.Map.{lookup}
 use Rattle.std.specs.Cmp.{first_so, second_so}
 use Rattle.std.proofs.lemmas.Bool.{eqb-true, eq-eqb}
-use Rattle.fb_types.specs.Keys.{changed_to, same_key, timer_key}
+use Rattle.fb_types.specs.Keys.{changed_to, or_else, same_key, timer_key}
 use Rattle.fb_types.specs.Takes.{is_timer_of}
 use Rattle.fb_types.specs.declared.key.Key.{Key}
 use Rattle.fb_types.proofs.KeyLaws.{same_key_is}
-use Rattle.fb_agenda.specs.Agendas.{Contents, waiting, IsTimed, IsInResource}
+use Rattle.fb_agenda.specs.Agendas.{Contents, waiting, IsQueue, IsTimed, IsInResource}
 use Rattle.fb_types.specs.declared.run.Event.{Event}
 use Rattle.fb_types.specs.declared.run.Event.TheVariants.{Timer}
+use Rattle.fb_agenda.proofs.Orders.{either_some}
 
 pub timer_of_timer_key : (t r i : ℕ) → is_timer_of r i (timer_key t r i) ≡ true
 timer_of_timer_key t r i = ap (λ b. b && true && eqb i i) (eq-eqb r r refl) ∙ eq-eqb i i refl
@@ -102,3 +104,28 @@ changed_is false false x o = refl
 pub on_ok_both : {A E : Type 0} {P Q R : Type 0} (r : Result A E) → (P → Q → R) → OnOk r P → OnOk r Q → OnOk r R
 on_ok_both (Ok a) f h k = f h k
 on_ok_both (Err e) f h k = tt
+
+-- ---- Where a timer waits
+
+-- if the timer does not wait at its tick in `due`, it waits nowhere
+pub no_timer : (c : Contents) (r i : ℕ) → IsTimed c → waiting c (timer_key (slice_index c.due i) r i) ≡ None → (t : ℕ) → waiting c (timer_key t r i) ≡ None
+no_timer c r i timed none t = go (waiting c (timer_key t r i)) refl
+  where
+    go : (o : Option Event) → waiting c (timer_key t r i) ≡ o → waiting c (timer_key t r i) ≡ None
+    go None is = is
+    go (Some e) is =
+        let same = same_key_is _ _ (timed (timer_key t r i) r i e is (timer_of_timer_key t r i)) in
+        subst (λ (k : Key). waiting c k ≡ None) same none
+
+module _ (c : Contents) (r i : ℕ) where
+  pub timer_some : (o : Option ℕ) → IfSome o (λ t. IsSome (lookup (same_key (timer_key t r i)) c.later)) → IfSome o (λ t. IsSome (waiting c (timer_key t r i)))
+  timer_some None h = tt
+  timer_some (Some t) h = either_some (lookup (same_key (timer_key t r i)) c.running) (lookup (same_key (timer_key t r i)) c.later) h
+
+  -- no timer is in the queue
+  pub timer_none : IsQueue c.running → IsTimed c → (o : Option ℕ) → IfNone o (lookup (same_key (timer_key (slice_index c.due i) r i)) c.later ≡ None)
+      → IfNone o ((t : ℕ) → waiting c (timer_key t r i) ≡ None)
+  timer_none queue timed (Some t) h = tt
+  timer_none queue timed None h =
+      let key = timer_key (slice_index c.due i) r i in
+      no_timer c r i timed (ap (λ o. or_else o (lookup (same_key key) c.later)) (queue.local key (λ three. omega (arith, three))) ∙ h)

@@ -1,6 +1,6 @@
 -- Timers, as events under their keys.
 use Rattle.std.proofs.Common.{◌≡◌, ℕ, zero, suc, ◌<◌, ◌≤◌, Bool, true, false, cond, List, [], ◌∷◌, ◌++◌, length, get_or, set, refl, sym, ap, subst, ◌∙◌, Option, Some, None, arith}
-use Rattle.std.specs.Prelude.{option_map, option_to_list}
+use Rattle.std.specs.Prelude.{IsSome, option_map, option_to_list}
 use Rattle.std.specs.List.{insert, remove}
 use Rattle.std.specs.Map.{lookup}
 use Rattle.std.specs.BTreeMap.{insert_entry}
@@ -17,7 +17,7 @@ use Rattle.fb_agenda.specs.Lists.{Sets}
 use Rattle.fb_agenda.specs.Timing.{timer_event, timer_events}
 use Rattle.fb_agenda.specs.declared.timer_row.Timed.{Timed}
 use Rattle.fb_agenda.proofs.Orders.{first_is}
-use Rattle.fb_agenda.proofs.Lists.{absent_before, absent_between, removed_rises, removed_sets}
+use Rattle.fb_agenda.proofs.Lists.{absent_before, absent_between, index_here, removed_rises, removed_sets}
 use Rattle.fb_agenda.proofs.Orders.{AllBefore, all_before, put_between, put_last, put_over, searchable}
 
 -- ---- Lists of timers and of events
@@ -89,6 +89,9 @@ module _ (k : Key) (ts : List Timed) (i : ℕ) where
     pub timer_put_over : (t : Timed) → AreRising (timer_events ts) → timer_key t.tick t.resource t.instance ≡ k → timer_events (set ts i t) ≡ insert_entry key_cmp (timer_events ts) k (Timer t.instance)
     timer_put_over t rising is =
         timer_set ts i t ∙ ap (λ (z : Key). set (timer_events ts) i (z, Timer t.instance)) is ∙ put_over k (Timer t.instance) (timer_events ts) i rising within_events equal_at
+
+    pub timer_here : IsSome (lookup (same_key k) (timer_events ts))
+    timer_here = index_here (timer_events ts) k i within_events (λ e. same_key_is (get_or (timer_events ts) i e).0 k (ap is_eq (equal_at e)))
 
     pub timer_gone : AreRising (timer_events ts) → Sets k None (timer_events ts) (timer_events (remove ts i))
     timer_gone rising =

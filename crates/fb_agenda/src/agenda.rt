@@ -1,11 +1,12 @@
 //! The events that wait, under their keys.
 
-ghost use Rattle.std.specs.Prelude.{◌≡◌, ◌<◌, length, if◌then◌else◌, slice_set, None, IfSome, IfNone, IfOk, IfErr, OnOk, OnErr, Some};
+ghost use Rattle.std.specs.Prelude.{◌≡◌, ◌<◌, ℕ, IsSome, length, if◌then◌else◌, slice_set, None, IfSome, IfNone, IfOk, IfErr, OnOk, OnErr, Some};
 ghost use Rattle.std.specs.Bool.{OnFalse, OnTrue};
 ghost use Rattle.fb_types.specs.Keys.{Precedes, changed_to, found, local_key, or_else, same_key, stimulus_key, timer_key};
 ghost use Rattle.fb_types.specs.Takes.{is_timer_of};
-ghost use Rattle.fb_types.specs.declared.run.Event.TheVariants.{Arrival, Local, Stimulus, Timer};
-ghost use Rattle.fb_agenda.specs.Agendas.{waiting, AreRising, IsClear, IsNext, IsPut, IsTimed, IsInResource, local_events, timer_set};
+ghost use Rattle.fb_types.specs.declared.key.Key as keys;
+ghost use Rattle.fb_types.specs.declared.run.Event.TheVariants.{Arrival, Given, Local, Stimulus, Timer};
+ghost use Rattle.fb_agenda.specs.Agendas.{waiting, AreRising, IsClear, IsLeast, IsNext, IsPut, IsTimed, IsInResource, local_events, timer_set};
 ghost use Rattle.fb_agenda.specs.Arrivals.{AreNew, arrival_at, arrivals_at};
 ghost use Rattle.fb_agenda.specs.Lists.{Leads};
 ghost use Rattle.fb_agenda.specs.Slots.{IsRaised};
@@ -15,7 +16,7 @@ use crate::later::Later;
 use crate::least::Least;
 use crate::moment::Moment;
 use crate::queue::Queue;
-use fb_types::{Event, Key, Message, Target, TimerAsk};
+use fb_types::{Event, GivenRow, Key, Message, Target, TimerAsk};
 use std::alloc::{AllocError, Global};
 use std::marker::Model;
 
@@ -115,6 +116,21 @@ impl Agenda {
     {
         let key = Key::stimulus(tick, resource, row);
         self.later.put(key, Event::Stimulus(row))
+    }
+
+    /// Puts a stimulus that was given under the key of its row, at a tick in milliseconds. It replaces an event that
+    /// waits there.
+    ///
+    /// # Errors
+    ///
+    /// When memory runs out. The agenda is then as it was, and the row is dropped.
+    pub fn put_given(&mut self, tick: u64, resource: u32, given: GivenRow) -> Result<(), AllocError>
+        ensures put { OnOk result (IsPut self.old self.new (stimulus_key tick resource given.row) (Given given)) }
+        ensures due { self.new.due ≡ self.old.due }
+        ensures err { OnErr result (self.new ≡ self.old) }
+    {
+        let key = Key::given(tick, resource, given.row);
+        self.later.put(key, Event::Given(given))
     }
 
     /// Puts a message under its key at the resource that receives it. It replaces an event that waits there.
@@ -266,6 +282,35 @@ impl Agenda {
             return Some(first.tick);
         };
         Some(first.tick.min(later.tick))
+    }
+
+    /// The least key under which an event waits, if any does.
+    pub fn first(&self) -> Option<Key>
+        ensures some { IfSome result (IsLeast self.entry.now) }
+        ensures none { IfNone result ((j : keys.Key) → waiting self.entry.now j ≡ None) }
+    {
+        let Some(first) = self.now.first() else {
+            return self.later.first();
+        };
+        let Some(later) = self.later.first() else {
+            return Some(first);
+        };
+        if later < first {
+            Some(later)
+        } else {
+            Some(first)
+        }
+    }
+
+    /// The tick in milliseconds at which the timer of an instance goes off, if it waits. The instance is in this
+    /// resource.
+    pub fn timer(&self, resource: u32, instance: u32) -> Option<u64>
+        requires instance { instance < length self.now.due }
+        requires timed { IsTimed self.now }
+        ensures some { IfSome result (λ t. IsSome (waiting self.entry.now (timer_key t resource instance))) }
+        ensures none { IfNone result ((t : ℕ) → waiting self.entry.now (timer_key t resource instance) ≡ None) }
+    {
+        self.later.timer(resource, instance)
     }
 
     /// Sets, clears or keeps the timer of an instance, as its reaction requests. The instance is in this resource.

@@ -1,6 +1,6 @@
 //! The events outside the queue of the running tick: timers, and in a store all others.
 
-ghost use Rattle.std.specs.Prelude.{◌≡◌, ◌≢◌, ◌<◌, List, [], IfSome, IfNone, OnOk, OnErr, Some, None, length, slice_index, slice_set};
+ghost use Rattle.std.specs.Prelude.{◌≡◌, ◌≢◌, ◌<◌, IsSome, List, [], IfSome, IfNone, OnOk, OnErr, Some, None, length, slice_index, slice_set};
 ghost use Rattle.std.specs.Bool.{OnFalse, OnTrue};
 ghost use Rattle.std.specs.Map.{lookup};
 ghost use Rattle.fb_types.specs.Keys.{same_key, timer_key};
@@ -137,6 +137,21 @@ impl Later {
         self.timers.set(tick, resource, instance)?;
         self.due[instance as usize] = tick;
         Ok(())
+    }
+
+    /// The tick of the timer of an instance, in milliseconds, if it waits there.
+    pub(crate) fn timer(&self, resource: u32, instance: u32) -> Option<u64>
+        requires { instance < length self.now.due }
+        ensures tick { IfSome result (λ t. t ≡ slice_index self.now.due instance) }
+        ensures some { IfSome result (λ t. IsSome (lookup (same_key (timer_key t resource instance)) self.now.events)) }
+        ensures none { IfNone result (lookup (same_key (timer_key (slice_index self.now.due instance) resource instance)) self.now.events ≡ None) }
+    {
+        let tick = self.due[instance as usize];
+        if self.timers.has(tick, resource, instance) {
+            Some(tick)
+        } else {
+            None
+        }
     }
 
     /// Removes the timer of an instance, if it waits at the instance's tick.

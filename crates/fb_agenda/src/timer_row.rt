@@ -3,8 +3,8 @@
 //! A timer is its tick, its resource and its instance. So a row of timers takes 16 bytes for each, where a row of events
 //! with their keys takes 112.
 
-ghost use Rattle.std.specs.Prelude.{◌≡◌, ◌<◌, ◌++◌, [], None, option_to_list, IfSome, IfNone, OnErr, OnOk, option_map};
-ghost use Rattle.std.specs.Bool.{OnTrue};
+ghost use Rattle.std.specs.Prelude.{IsSome, ◌≡◌, ◌<◌, ◌++◌, [], None, option_to_list, IfSome, IfNone, OnErr, OnOk, option_map};
+ghost use Rattle.std.specs.Bool.{OnFalse, OnTrue};
 ghost use Rattle.std.specs.List.{AllByRecursion};
 ghost use Rattle.std.specs.Map.{keys_of, lookup};
 ghost use Rattle.std.specs.BTreeMap.{insert_entry};
@@ -79,6 +79,19 @@ impl Timers {
     {
         let first = self.row.front()?;
         Some(first.key())
+    }
+
+    /// Whether the timer of an instance waits at this tick.
+    pub(crate) fn has(&self, tick: u64, resource: u32, instance: u32) -> bool
+        requires { AreRising self.now }
+        ensures there { OnTrue result (IsSome (lookup (same_key (timer_key tick resource instance)) self.now)) }
+        ensures none { OnFalse result (lookup (same_key (timer_key tick resource instance)) self.now ≡ None) }
+    {
+        let key = Key::timer(tick, resource, instance);
+        match self.row.binary_search_by_key(&key, |timed| timed.key()) {
+            Ok(_) => true,
+            Err(_) => false,
+        }
     }
 
     /// Puts a timer under its key, if it does not wait there already.

@@ -14,8 +14,8 @@ use crate::directory_making::{TypeInputs, inputs_of_each, targets_of};
 use crate::location::{StimulusFault, StimulusLocation};
 use crate::types::adding::push_one;
 use fb_check_names::{Catalog, index_of_name, indexes};
-use fb_system::{SlotValue, StimulusRow};
-use fb_types::{Items, Library, Name, Setting, Stimulus, Value, all_ports};
+use fb_system::StimulusRow;
+use fb_types::{Items, Library, Name, Setting, SlotValue, Stimulus, Value, all_ports};
 use std::alloc::{AllocError, Global};
 
 /// Whether a stimulus sets a variable twice.

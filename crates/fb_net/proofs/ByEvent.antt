@@ -34,6 +34,7 @@ use Rattle.fb_net.specs.Leaves.{EventCame, expiry_reaction}
 use Rattle.fb_net.specs.Samples.{HoldsAll, slots_set}
 use Rattle.fb_system.specs.Stimuli.{IsStimulusAt, set_of}
 use Rattle.fb_system.specs.declared.stimulus.StimulusAt.{StimulusAt}
+use Rattle.fb_types.specs.declared.run.SlotValue.{SlotValue}
 use Rattle.fb_net.specs.Changes.{Changes}
 use Rattle.fb_net.specs.Worlds.{InForest, IsForest}
 use Rattle.fb_net.specs.declared.resource.Forest.{Forest}
@@ -93,61 +94,60 @@ module _ (i : Inputs) (k : Key) (m : Message) (old mid : Forest) (holds : HoldsA
 
 -- ---- Stimuli
 
-module _ (i : Inputs) (row : ℕ) (s : StimulusAt) (is : IsStimulusAt i row s) where
-  -- what the row represents
-  stimulus-is : event_of i (waits.Stimulus row) ≡ Stimulated (port_of (system_of i) s.target) (map (set_of (system_of i) s.target.instance) s.sets.now)
-  stimulus-is =
-      ap stimulated is.is ∙ ap (λ (z : Port). Stimulated z is.stimulus.sets) (sym is.port)
-      ∙ ap (λ (bs : List Bound). Stimulated (port_of (system_of i) s.target) bs) (sym is.sets)
+-- what a row of the system represents
+pub stimulus-is : (i : Inputs) (row : ℕ) (s : StimulusAt) → IsStimulusAt i row s
+    → event_of i (waits.Stimulus row) ≡ Stimulated (port_of (system_of i) s.target) (map (set_of (system_of i) s.target.instance) s.sets.now)
+stimulus-is i row s is =
+    ap stimulated is.is ∙ ap (λ (z : Port). Stimulated z is.stimulus.sets) (sym is.port)
+    ∙ ap (λ (bs : List Bound). Stimulated (port_of (system_of i) s.target) bs) (sym is.sets)
 
-  pub stimulus-lies : (old : Forest) → (system_of i).resource (path_of (event_of i (waits.Stimulus row))) ≡ old.resource → InForest i old s.target.instance
-  stimulus-lies old here = ap (system_of i).resource (sym (ap path_of stimulus-is ∙ path-of_port (system_of i) s.target)) ∙ here
+-- An event that is a stimulus at this target, with these slots: one of the system by its row, or one that was given.
+module _ (i : Inputs) (e : Waiting) (at : Target) (xs : List SlotValue)
+    (is : event_of i e ≡ Stimulated (port_of (system_of i) at) (map (set_of (system_of i) at.instance) xs)) where
+  pub stimulus-lies : (old : Forest) → (system_of i).resource (path_of (event_of i e)) ≡ old.resource → InForest i old at.instance
+  stimulus-lies old here = ap (system_of i).resource (sym (ap path_of is ∙ path-of_port (system_of i) at)) ∙ here
 
-module _ (i : Inputs) (k : Key) (row : ℕ) (s : StimulusAt) (is : IsStimulusAt i row s) (old mid : Forest)
-    (changes : Changes i old s.target.instance (slots_set (system_of i) s.target.instance s.sets.now) mid)
-    (here : (system_of i).resource (path_of (event_of i (waits.Stimulus row))) ≡ old.resource) where
-  abbrev sys : System
-  sys = system_of i
+  module _ (k : Key) (old mid : Forest) (changes : Changes i old at.instance (slots_set (system_of i) at.instance xs) mid)
+      (here : (system_of i).resource (path_of (event_of i e)) ≡ old.resource) where
+    abbrev sys : System
+    sys = system_of i
 
-  abbrev p : Path
-  p = path_at sys s.target.instance
+    abbrev p : Path
+    p = path_at sys at.instance
 
-  abbrev q : Port
-  q = port_of sys s.target
+    abbrev q : Port
+    q = port_of sys at
 
-  abbrev sets : List Bound
-  sets = map (set_of sys s.target.instance) s.sets.now
+    abbrev sets : List Bound
+    sets = map (set_of sys at.instance) xs
 
-  event : event_of i (waits.Stimulus row) ≡ Stimulated q sets
-  event = stimulus-is i row s is
+    lies : InForest i old at.instance
+    lies = stimulus-lies old here
 
-  lies : InForest i old s.target.instance
-  lies = stimulus-lies i row s is old here
+    brought : (w : World) → IsForest i old w → IsForest i mid (with_slots p sets w)
+    brought w h = changes.represents w h lies
 
-  brought : (w : World) → IsForest i old w → IsForest i mid (with_slots p sets w)
-  brought w h = changes.represents w h lies
+    pub stimulus-kept : AreKept i old mid
+    stimulus-kept = record { resource = changes.resource; whole = λ w h. (with_slots p sets w, brought w h) }
 
-  pub stimulus-kept : AreKept i old mid
-  stimulus-kept = record { resource = changes.resource; whole = λ w h. (with_slots p sets w, brought w h) }
+    pub stimulus-typed : AreTypedAt i old → IsTypedEvent sys (event_of i e) → AreTypedAt i mid
+    stimulus-typed typed fits =
+        let w : World = typed.0 in (
+          with_slots p sets w,
+          brought w typed.1,
+          subst (λ (z : Path). AreTyped sys (with_slots z sets w)) (path-of_port sys at)
+              (slots_typed sys w typed.2 q sets (subst (λ (z : model.Event). IsTypedEvent sys z) is fits)),
+        )
 
-  pub stimulus-typed : AreTypedAt i old → IsTypedEvent sys (event_of i (waits.Stimulus row)) → AreTypedAt i mid
-  stimulus-typed typed fits =
-      let w : World = typed.0 in (
-        with_slots p sets w,
-        brought w typed.1,
-        subst (λ (z : Path). AreTyped sys (with_slots z sets w)) (path-of_port sys s.target)
-            (slots_typed sys w typed.2 q sets (subst (λ (z : model.Event). IsTypedEvent sys z) event fits)),
-      )
+    takes : (left : ℕ) (w : World) (o : Outcome) → Arrives i k at left (with_slots p sets w) o → Reacts sys k w (event_of i e) left o
+    takes left w o h =
+        subst (λ (z : model.Event). Reacts sys k w z left o) (sym is)
+        (subst (λ (z : Path). ReactsAt sys k (with_slots z sets w) q left (sys.kind z) o) (sym (path-of_port sys at)) h)
 
-  takes : (left : ℕ) (w : World) (o : Outcome) → Arrives i k s.target left (with_slots p sets w) o → Reacts sys k w (event_of i (waits.Stimulus row)) left o
-  takes left w o h =
-      subst (λ (z : model.Event). Reacts sys k w z left o) (sym event)
-      (subst (λ (z : Path). ReactsAt sys k (with_slots z sets w) q left (sys.kind z) o) (sym (path-of_port sys s.target)) h)
-
-  pub stimulus-taken : (new : Forest) (x y : Outbox) (left after : ℕ) (r : Result (Unit {0}) Halt)
-      → HasReacted i (Arrives i k s.target left) mid x r new after y → HasTaken i k (waits.Stimulus row) old x left r new after y
-  stimulus-taken new x y left after r h =
-      taken-by_arrival i k (waits.Stimulus row) s.target old mid new x y left after (with_slots p sets) brought (takes left) r h
+    pub stimulus-taken : (new : Forest) (x y : Outbox) (left after : ℕ) (r : Result (Unit {0}) Halt)
+        → HasReacted i (Arrives i k at left) mid x r new after y → HasTaken i k e old x left r new after y
+    stimulus-taken new x y left after r h =
+        taken-by_arrival i k e at old mid new x y left after (with_slots p sets) brought (takes left) r h
 
 -- ---- Timers
 

@@ -16,7 +16,7 @@ use Rattle.fb_types.specs.declared.value.Value.{Value}
 use Rattle.fb_types.proofs.PathLaws.{same_path_is, same_path_itself}
 use Rattle.fb_system.specs.IndexLists.{AreIndexes, variable_at}
 use Rattle.fb_system.specs.Stimuli.{set_of}
-use Rattle.fb_system.specs.declared.rows.SlotValue.{SlotValue}
+use Rattle.fb_types.specs.declared.run.SlotValue.{SlotValue}
 use Rattle.fb_types.specs.declared.run.InstanceVariable.{InstanceVariable}
 use Rattle.fb_net.specs.Changes.{Changes, Holds, block_in, input_sampled, slot_set, with_instance}
 use Rattle.fb_net.specs.Worlds.{IsForest}

@@ -1,9 +1,11 @@
 -- Events by number, and the result of the taking of one in its resource (IEC 61499-1, 5.2.2 and 5.3.2; keys, links and the count of steps are this project's profile).
-use Rattle.std.specs.Prelude.{◌≡◌, ◌<◌, ℕ, [], map, length, All, Option, Some, None, Result, Ok, Err, slice_get}
+use Rattle.std.specs.Prelude.{◌≡◌, ◌<◌, ℕ, List, [], map, length, All, Option, Some, None, Result, Ok, Err, slice_get}
 use Rattle.fb_types.specs.Headline.{Inputs, system_of, stimuli_of}
 use Rattle.fb_types.specs.Numbers.{path_at, port_of, carried_of, line_of}
 use Rattle.fb_types.specs.Reactions.{World, Outcome, Reacts}
 use Rattle.fb_types.specs.Simulation.{Stimulus}
+use Rattle.fb_types.specs.declared.deploy.Stimulus as read
+use Rattle.fb_types.specs.declared.run.GivenRow.{GivenRow}
 use Rattle.fb_types.specs.States.{Stimulated, Expired, Arrived, Raised, path_of}
 use Rattle.fb_types.specs.States as model
 use Rattle.fb_types.specs.Keys.{local_key, message_key, stimulus_key, timer_key}
@@ -18,6 +20,7 @@ use Rattle.fb_net.specs.declared.arrival.Arrival.{Arrival}
 use Rattle.fb_net.specs.declared.arrival.Arrival.TheVariants as arrives
 use Rattle.fb_net.specs.declared.outbox.Outbox.{Outbox}
 use Rattle.fb_system.specs.Ports.{IsCarried, IsTarget}
+use Rattle.fb_system.specs.Stimuli.{IsGivenRow, sets_of}
 use Rattle.fb_net.specs.Worlds.{IsForest}
 use Rattle.fb_net.specs.declared.resource.Forest.{Forest}
 
@@ -33,6 +36,11 @@ event_of i (waits.Stimulus row) = stimulated (slice_get (stimuli_of i) row)
 event_of i (waits.Timer k) = Expired (path_at (system_of i) k)
 event_of i (waits.Arrival m) = Arrived (port_of (system_of i) m.target) (map (carried_of (system_of i)) m.values)
 event_of i (waits.Local t) = Raised (port_of (system_of i) t)
+event_of i (waits.Given g) = Stimulated (port_of (system_of i) g.target) (sets_of (system_of i) g)
+
+-- What a row that was given means does not depend on the stimuli that were read.
+abbrev pub MeansAlone : Type 0
+MeansAlone = (i : Inputs) (more : List read.Stimulus) (g : GivenRow) → event_of (record i { stimuli = more }) (waits.Given g) ≡ event_of i (waits.Given g)
 
 -- the numbers of an event represent something in the system
 abbrev pub IsNumbered : Inputs → Event → Type 0
@@ -40,6 +48,7 @@ IsNumbered i (waits.Stimulus row) = row < length i.stimuli
 IsNumbered i (waits.Timer k) = k < length (system_of i).paths
 IsNumbered i (waits.Arrival m) = IsTarget (system_of i) m.target × All (IsCarried (system_of i)) m.values
 IsNumbered i (waits.Local t) = IsTarget (system_of i) t
+IsNumbered i (waits.Given g) = IsGivenRow (system_of i) g
 
 -- An event of a resource.
 pub record IsEventIn (i : Inputs) (resource : ℕ) (e : Event) : Type 0 where
@@ -52,6 +61,7 @@ event_in (arrives.Stimulus row) = waits.Stimulus row
 event_in (arrives.Timer k) = waits.Timer k
 event_in (arrives.Message m) = waits.Arrival m.now
 event_in (arrives.Local t number) = waits.Local t
+event_in (arrives.Given g) = waits.Given g.now
 
 -- ---- Keys
 
@@ -61,6 +71,7 @@ key_at tick r (arrives.Stimulus row) = stimulus_key tick r row
 key_at tick r (arrives.Timer k) = timer_key tick r k
 key_at tick r (arrives.Message m) = message_key tick r m.now.link m.now.number
 key_at tick r (arrives.Local t number) = local_key tick r number
+key_at tick r (arrives.Given g) = stimulus_key tick r g.now.row
 
 -- the key of an event that waits, by its number where it is a local event
 abbrev pub key_by : (tick resource number : ℕ) → Event → Key
@@ -68,6 +79,7 @@ key_by tick r n (waits.Stimulus row) = stimulus_key tick r row
 key_by tick r n (waits.Timer k) = timer_key tick r k
 key_by tick r n (waits.Arrival m) = message_key tick r m.link m.number
 key_by tick r n (waits.Local t) = local_key tick r n
+key_by tick r n (waits.Given g) = stimulus_key tick r g.row
 
 -- The key has the class and the numbers of the event.
 abbrev pub IsKeyOf : Key → Event → Type 0

@@ -9,7 +9,7 @@ use Rattle.fb_types.specs.declared.run.InstanceVariable.{InstanceVariable}
 use Rattle.fb_types.specs.declared.run.Target.{Target}
 use Rattle.fb_types.specs.declared.value.Value.{Value}
 use Rattle.fb_laws.specs.Typed as typed
-use Rattle.fb_system.specs.declared.rows.SlotValue.{SlotValue}
+use Rattle.fb_types.specs.declared.run.SlotValue.{SlotValue}
 use Rattle.fb_net.specs.Emitting as emitting
 use Rattle.fb_net.specs.Outs as outs
 use Rattle.fb_net.specs.Samples as samples

@@ -11,7 +11,7 @@ use Rattle.fb_types.specs.declared.run.Carried.{Carried}
 use Rattle.fb_types.specs.declared.run.Target.{Target}
 use Rattle.fb_types.specs.declared.value.Value.{Value}
 use Rattle.fb_system.specs.Stimuli.{set_of}
-use Rattle.fb_system.specs.declared.rows.SlotValue.{SlotValue}
+use Rattle.fb_types.specs.declared.run.SlotValue.{SlotValue}
 use Rattle.fb_net.specs.Worlds.{InForest, IsForest}
 use Rattle.fb_net.specs.declared.resource.Forest.{Forest}
 

@@ -3,12 +3,12 @@
 ghost use Rattle.std.specs.Prelude.{◌≡◌};
 ghost use Rattle.fb_net.specs.Events.{event_in, key_at};
 
-use fb_types::{Event, Key, Message, Target};
+use fb_types::{Event, GivenRow, Key, Message, Target};
 
 /// An event of a resource, whose time has come. It has the class and the numbers of its key.
 #[derive(Clone, Copy)]
 pub enum Arrival<'a> {
-    /// The stimulus in this row, from 0.
+    /// The stimulus of the system in this row, from 0.
     Stimulus(u32),
     /// The timer of this instance.
     Timer(u32),
@@ -16,6 +16,8 @@ pub enum Arrival<'a> {
     Message(&'a Message),
     /// A local event at its target, with its number within the tick and the resource, from 0.
     Local { target: Target, number: u128 },
+    /// A stimulus that was given while the simulation went on.
+    Given(&'a GivenRow),
 }
 
 impl Arrival<'_> {
@@ -32,6 +34,7 @@ impl Arrival<'_> {
                 target: *target,
                 number: 0,
             },
+            Event::Given(given) => Arrival::Given(given),
         }
     }
 
@@ -45,6 +48,7 @@ impl Arrival<'_> {
             Arrival::Timer(instance) => Key::timer(tick, resource, *instance),
             Arrival::Message(message) => Key::arrival(tick, resource, message.link, message.number),
             Arrival::Local { number, .. } => Key::local(tick, resource, *number),
+            Arrival::Given(given) => Key::given(tick, resource, given.row),
         }
     }
 }

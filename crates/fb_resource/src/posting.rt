@@ -80,6 +80,7 @@ fn instance_of(system: &System, event: &Event) -> u32
         Event::Timer(instance) => *instance,
         Event::Arrival(message) => message.target.instance,
         Event::Local(target) => target.instance,
+        Event::Given(given) => given.target.instance,
     }
 }
 

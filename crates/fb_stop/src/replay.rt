@@ -56,6 +56,7 @@ pub(crate) fn site_of(system: &System, event: &Event) -> EventSite
         Event::Timer(instance) => EventSite::Timer(*instance),
         Event::Arrival(message) => EventSite::Port(message.target),
         Event::Local(target) => EventSite::Port(*target),
+        Event::Given(given) => EventSite::Port(given.target),
     }
 }
 

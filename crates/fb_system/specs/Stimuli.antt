@@ -8,8 +8,9 @@ use Rattle.fb_types.specs.Simulation.{Stimulus}
 use Rattle.fb_types.specs.Systems.{System}
 use Rattle.fb_types.specs.declared.value.Value.{Value}
 use Rattle.fb_system.specs.Ports.{IsPort, data_input}
-use Rattle.fb_system.specs.declared.rows.SlotValue.{SlotValue}
+use Rattle.fb_types.specs.declared.run.SlotValue.{SlotValue}
 use Rattle.fb_system.specs.declared.stimulus.StimulusAt.{StimulusAt}
+use Rattle.fb_types.specs.declared.run.GivenRow.{GivenRow}
 
 -- a slot of an instance, with the value that it gets
 abbrev pub set_of : System → (instance : ℕ) → SlotValue → Bound
@@ -25,6 +26,24 @@ pub record IsStimulusAt (i : Inputs) (row : ℕ) (x : StimulusAt) : Type 0 where
   pub input : x.target.is_output ≡ false
   pub sets : map (set_of (system_of i) x.target.instance) x.sets.now ≡ stimulus.sets
   pub within : All (λ s. s.index < length (ports_at (system_of i) (path_at (system_of i) x.target.instance)).inputs) x.sets.now
+
+-- ---- A row that was given
+
+-- the slots that a row sets, with their values
+abbrev pub sets_of : System → GivenRow → List Bound
+sets_of sys g = map (set_of sys g.target.instance) g.sets
+
+-- The numbers of a row represent an event input, and data inputs of its instance.
+pub record IsGivenRow (sys : System) (g : GivenRow) : Type 0 where
+  pub is_port : IsPort sys g.target
+  pub input : g.target.is_output ≡ false
+  pub within : All (λ s. s.index < length (ports_at sys (path_at sys g.target.instance)).inputs) g.sets
+
+-- The row represents this stimulus: its port, and the slots that it sets.
+pub record IsRowOf (sys : System) (s : Stimulus) (g : GivenRow) : Type 0 where
+  pub row : IsGivenRow sys g
+  pub port : port_of sys g.target ≡ s.port
+  pub sets : sets_of sys g ≡ s.sets
 
 -- the initial value of each data input of an instance, and of each data output
 abbrev pub initial_inputs : System → Path → List Value

@@ -61,7 +61,7 @@ pub use netlist::Netlist;
 pub use netlist_target::NetlistTarget;
 pub use next_target::NextTarget;
 pub use port_row::{PortRow, With};
-pub use rows::{SlotValue, StimulusRow};
+pub use rows::StimulusRow;
 pub use source::Source;
 pub use stimulus::StimulusAt;
 pub use system::System;

@@ -1,15 +1,6 @@
 //! Stimuli by number.
 
-use fb_types::{Items, Value};
-
-/// A value for the slot of the data input at an index.
-#[derive(Clone, Copy)]
-pub struct SlotValue {
-    /// The index among the data inputs of the type.
-    pub index: u32,
-    /// The value, which is one of the input's type.
-    pub value: Value,
-}
+use fb_types::{Items, SlotValue};
 
 /// A stimulus by number.
 #[derive(Drop)]

@@ -1,7 +1,6 @@
 //! The view of a stimulus.
 
-use crate::rows::SlotValue;
-use fb_types::Target;
+use fb_types::{SlotValue, Target};
 
 /// A stimulus of a system: its tick in milliseconds, the event input that it triggers, and the slots that it sets.
 #[derive(Clone, Copy)]

@@ -8,7 +8,11 @@ ghost use Rattle.fb_types.specs.Limits.{IsWithinLimits};
 ghost use Rattle.fb_types.specs.Numbers.{event_at};
 ghost use Rattle.fb_types.specs.Blocks.{inputs_with, outputs_with};
 ghost use Rattle.fb_system.specs.IndexLists.{AreIndexes, AreWithIndexes};
-ghost use Rattle.fb_system.specs.Stimuli.{IsStimulusAt};
+ghost use Rattle.fb_system.specs.Stimuli.{IsRowOf, IsStimulusAt};
+ghost use Rattle.fb_system.specs.Rows.{IsRow};
+ghost use Rattle.fb_types.specs.Headline.{system_of};
+ghost use Rattle.fb_types.specs.Simulation.{stimulus_of};
+ghost use Rattle.fb_types.specs.declared.deploy.Stimulus.{Stimulus};
 ghost use Rattle.fb_types.specs.Text.{path_text};
 ghost use Rattle.fb_types.specs.OfSystem.{IsInstance, IsResource, instance_count, kind_at, link_count, path_at, port_of, ports_at, resource_at, resource_count, resource_name, targets_at};
 ghost use Rattle.fb_system.specs.Layouts.{AreComponents, AreNumbers, IsParent, route_to};
@@ -27,6 +31,7 @@ use crate::links::Links;
 use crate::netlist::Netlist;
 use crate::next_target::NextTarget;
 use crate::port_row::PortRow;
+use crate::rows::StimulusRow;
 use crate::source::Source;
 use crate::stimulus::StimulusAt;
 use crate::types::{ports_of_type, with_indexes_of_type};
@@ -35,8 +40,8 @@ use crate::with_all::with_all;
 use crate::with_indexes::WithIndexes;
 use fb_check_names::TypeNumber;
 use fb_types::{
-    Deploy, InstanceVariable, Items, Latency, Library, Plan, Ports, Stimulus, Target, Value,
-    all_ports,
+    Deploy, GivenRow, InstanceVariable, Items, Latency, Library, Plan, Ports, Stimulus, Target,
+    Value, all_ports,
 };
 use std::alloc::{AllocError, Global};
 use std::marker::Model;
@@ -468,6 +473,29 @@ impl System {
     {
         self.facts();
         output_values(alloc, self.ports(instance))
+    }
+
+    /// A stimulus by number, as an event that waits: the row has this number, from 0.
+    pub fn given(&self, row: u64, stimulus: StimulusRow) -> GivenRow
+        requires { (s : Stimulus) × IsRow self.now.library s stimulus }
+        ensures row { result.row ≡ row }
+        ensures represents { (s : Stimulus) → IsRow self.now.library s stimulus → IsRowOf (system_of self.now) (stimulus_of s) result }
+    {
+        let StimulusRow {
+            tick: _,
+            instance,
+            event,
+            sets,
+        } = stimulus;
+        GivenRow {
+            row,
+            target: Target {
+                instance: self.top()[instance as usize],
+                event,
+                is_output: false,
+            },
+            sets,
+        }
     }
 
     /// The stimulus at a row, from 0.

@@ -27,7 +27,7 @@ use Rattle.fb_check_names.specs.Numbers.{each_or_none, index_of}
 use Rattle.fb_types.proofs.ByIndex.{slice_get-push}
 use Rattle.fb_types.proofs.Elements.{Contains-here}
 use Rattle.fb_check_names.specs.Indexes.{index_in}
-use Rattle.fb_system.specs.declared.rows.SlotValue.{SlotValue}
+use Rattle.fb_types.specs.declared.run.SlotValue.{SlotValue}
 use Rattle.fb_system.specs.declared.rows.StimulusRow.{StimulusRow}
 use Rattle.fb_system.specs.Rows.{IsSet, AreSets, IsRow, AreRows, AreRowsUpTo}
 use Rattle.fb_check.specs.Directory.{IsDirectory, IsFound, IsInputs, IsTaken, has_pair, held_slot, holds, input_in, input_of, is_settable, ports_at, slot_of}

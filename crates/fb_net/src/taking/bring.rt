@@ -12,8 +12,8 @@ ghost use Rattle.fb_net.specs.OfSystem.{names_in, slots_set};
 ghost use Rattle.fb_net.specs.Worlds.{Stands};
 
 use crate::resource::Forest;
-use fb_system::{SlotValue, System};
-use fb_types::{Carried, InstanceVariable, MessageValues, Target, Value};
+use fb_system::System;
+use fb_types::{Carried, InstanceVariable, MessageValues, SlotValue, Target, Value};
 
 /// Gives the variables WITH an event input, which are at `indexes`, the values that they sampled. The instance is an
 /// event block or a composite, and is in the resource.

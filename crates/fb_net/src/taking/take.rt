@@ -10,7 +10,7 @@ use crate::taking::bring::{hold_carried, set_slots};
 use crate::taking::event_blocks::expire_event;
 use fb_check_names::TypeNumber;
 use fb_st::Meter;
-use fb_types::{Emits, Event, Halt, TimerAsk};
+use fb_types::{Emits, Event, GivenRow, Halt, TimerAsk};
 use std::alloc::AllocError;
 
 impl Taking<'_> {
@@ -27,6 +27,26 @@ impl Taking<'_> {
         let stimulus = self.system.stimulus(row);
         let at = stimulus.target;
         set_slots(self.forest, self.system, at.instance, stimulus.sets);
+        self.arrive(at, meter, emits)
+    }
+
+    /// Takes a stimulus that was given, which sets slots before its event arrives.
+    ///
+    /// # Errors
+    /// As `arrive`.
+    #[inline(never)]
+    fn take_given(
+        &mut self,
+        given: &GivenRow,
+        meter: &mut Meter,
+        emits: &mut Emits,
+    ) -> Result<(), Halt>
+        requires { MayTake self.old (Event.Given given.now) }
+        ensures taken { WasTaken self.old (Event.Given given.now) meter.old.left result self.new meter.new.left }
+        ensures same { IsSame self.old self.new }
+    {
+        let at = given.target;
+        set_slots(self.forest, self.system, at.instance, given.sets.as_slice());
         self.arrive(at, meter, emits)
     }
 
@@ -90,6 +110,10 @@ impl Taking<'_> {
                 message.target
             }
             Arrival::Local { target, .. } => target,
+            Arrival::Given(given) => {
+                self.take_given(given, meter, emits)?;
+                return Ok(());
+            }
         };
         self.arrive(at, meter, emits)
     }

@@ -3,7 +3,7 @@ use Rattle.std.specs.Option.{option_copied}
 use Rattle.std.specs.Prelude.{is_some}
 use Rattle.std.proofs.lemmas.Bool.{true≢false}
 use Rattle.fb_types.specs.Repeated.{instance_names}
-use Rattle.fb_system.specs.declared.rows.SlotValue.{SlotValue}
+use Rattle.fb_types.specs.declared.run.SlotValue.{SlotValue}
 use Rattle.fb_check.specs.Stimuli.{AreSlotsOr}
 use Rattle.fb_check.specs.Directory.{IsFound, ports_at_index, slot_of}
 use Rattle.fb_check.specs.declared.directory_making.TypeInputs.{TypeInputs}

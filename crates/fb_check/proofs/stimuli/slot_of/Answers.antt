@@ -1,6 +1,6 @@
 use Rattle.std.proofs.Common.{◌≡◌, Bool, true, false, not, ◌&&◌, Option, None, sym, ◌∙◌, ap}
 use Rattle.std.specs.Prelude.{if◌then◌else◌}
-use Rattle.fb_system.specs.declared.rows.SlotValue.{SlotValue}
+use Rattle.fb_types.specs.declared.run.SlotValue.{SlotValue}
 use Rattle.fb_check.specs.Directory.{has_pair, held_slot, input_in}
 use Rattle.fb_check.proofs.stimuli.slot_of.Goals as goal
 use Rattle.fb_check.proofs.stimuli.slot_of.Goals.{else-contains-via-then-contains+else-not-contains, else-contains-via-else-contains}

@@ -33,6 +33,11 @@ returns-in_err-take_timer-in-Timer-clause-taken c =
     (subst (λ (a : Arrival). WasTaken c.args.self.now (event_in a) left (Err halt.Memory) c.take_timer.new.self left) (sym c.in-Timer.is)
     (record { taken = tt; outs = tt; fewer = omega arith; kept = c.take_timer.ensures.whole.kept }))
 
+pub returns-in-Given-clause-taken : goal.returns-in-Given-clause-taken
+returns-in-Given-clause-taken c =
+    subst (λ (a : Arrival). WasTaken c.args.self.now (event_in a) c.args.meter.now.left (Ok tt) c.take_given.new.self c.take_given.new.meter.left) (sym c.in-Given.is)
+    c.in_ok-take_given-in-Given.ensures.taken
+
 pub returns-clause-taken : goal.returns-clause-taken
 returns-clause-taken c =
     let i = c.args.self.now.system.now in
@@ -124,3 +129,6 @@ take_stimulus-requires c = subst (λ (a : Arrival). MayTake c.args.self.now (eve
 
 pub take_timer-requires : goal.take_timer-requires
 take_timer-requires c = subst (λ (a : Arrival). MayTake c.args.self.now (event_in a)) c.in-Timer.is c.requires
+
+pub take_given-requires : goal.take_given-requires
+take_given-requires c = subst (λ (a : Arrival). MayTake c.args.self.now (event_in a)) c.in-Given.is c.requires

@@ -1,4 +1,5 @@
-use Rattle.fb_net.proofs.ByEvent.{stimulus-kept, stimulus-lies, stimulus-taken, stimulus-typed}
+use Rattle.fb_types.specs.declared.run.Event.TheVariants.{Stimulus}
+use Rattle.fb_net.proofs.ByEvent.{stimulus-is, stimulus-kept, stimulus-lies, stimulus-taken, stimulus-typed}
 use Rattle.fb_net.specs.Outs.{StillAreOuts}
 use Rattle.fb_net.proofs.OutboxKept.{blocks-changed, remembered-then}
 use Rattle.fb_net.proofs.BlocksKept.{kept-then}
@@ -6,14 +7,17 @@ use Rattle.fb_net.proofs.taking.Taking.take_stimulus.Goals as goal
 
 pub arrive-requires-clause-typed : goal.arrive-requires-clause-typed
 arrive-requires-clause-typed c =
-    stimulus-typed c.args.self.now.system.now c.args.self.now.key.now c.args.row c.stimulus-stimulus.result c.stimulus-stimulus.ensures c.args.self.now.forest.now c.set_slots.new.forest
+    let i = c.args.self.now.system.now in
+    let s = c.stimulus-stimulus.result in
+    stimulus-typed i (Stimulus c.args.row) s.target s.sets.now (stimulus-is i c.args.row s c.stimulus-stimulus.ensures) c.args.self.now.key.now c.args.self.now.forest.now c.set_slots.new.forest
     c.set_slots.ensures c.requires.event.here c.requires.belongs c.requires.typed
 
 pub set_slots-requires-clause-stands : goal.set_slots-requires-clause-stands
 set_slots-requires-clause-stands c = record {
   here =
-      stimulus-lies c.args.self.now.system.now c.args.row c.stimulus-stimulus.result c.stimulus-stimulus.ensures c.args.self.now.forest.now
-      c.requires.event.here;
+      let i = c.args.self.now.system.now in
+      let s = c.stimulus-stimulus.result in
+      stimulus-lies i (Stimulus c.args.row) s.target s.sets.now (stimulus-is i c.args.row s c.stimulus-stimulus.ensures) c.args.self.now.forest.now c.requires.event.here;
   whole = (c.requires.belongs.0, c.requires.belongs.1);
 }
 
@@ -22,18 +26,22 @@ returns-clause-taken c =
     let i = c.args.self.now.system.now in
     let f = c.args.self.now.forest.now in
     let mid = c.set_slots.new.forest in
-    let row = c.stimulus-stimulus in
+    let k = c.args.self.now.key.now in
+    let e = Stimulus c.args.row in
+    let s = c.stimulus-stimulus.result in
+    let is = stimulus-is i c.args.row s c.stimulus-stimulus.ensures in
+    let kept = stimulus-kept i e s.target s.sets.now is k f mid c.set_slots.ensures c.requires.event.here in
     let done = c.arrive in
     record {
       taken =
-          stimulus-taken i c.args.self.now.key.now c.args.row row.result row.ensures f mid c.set_slots.ensures c.requires.event.here done.new.self.forest.now
+          stimulus-taken i e s.target s.sets.now is k f mid c.set_slots.ensures c.requires.event.here done.new.self.forest.now
           c.args.self.now.outbox.now done.new.self.outbox.now c.args.meter.now.left done.new.meter.left done.result done.ensures.arrived.reacted;
       outs =
           remembered-then (StillAreOuts i mid c.args.self.now.outbox.now done.new.self.forest.now done.new.self.outbox.now)
           (StillAreOuts i f c.args.self.now.outbox.now done.new.self.forest.now done.new.self.outbox.now) done.result
-          (λ outs were. outs (blocks-changed i f mid c.args.self.now.outbox.now (stimulus-kept i c.args.self.now.key.now c.args.row row.result row.ensures f mid c.set_slots.ensures c.requires.event.here).resource were)) done.ensures.arrived.outs;
+          (λ outs were. outs (blocks-changed i f mid c.args.self.now.outbox.now kept.resource were)) done.ensures.arrived.outs;
       fewer = done.ensures.arrived.fewer;
-      kept = kept-then i f mid done.new.self.forest.now (stimulus-kept i c.args.self.now.key.now c.args.row row.result row.ensures f mid c.set_slots.ensures c.requires.event.here) done.ensures.whole.kept;
+      kept = kept-then i f mid done.new.self.forest.now kept done.ensures.whole.kept;
     }
 
 pub returns-clause-same : goal.returns-clause-same

@@ -8,7 +8,7 @@ use Rattle.fb_types.specs.declared.run.InstanceVariable.{InstanceVariable}
 use Rattle.fb_types.specs.declared.value.Value.{Value}
 use Rattle.fb_types.proofs.ByIndex.{all_at}
 use Rattle.fb_system.specs.Ports.{IsVariable}
-use Rattle.fb_system.specs.declared.rows.SlotValue.{SlotValue}
+use Rattle.fb_types.specs.declared.run.SlotValue.{SlotValue}
 use Rattle.fb_net.specs.Changes.{Changes}
 use Rattle.fb_net.specs.Samples.{slots_set}
 use Rattle.fb_net.specs.Worlds.{seat_in, with_seated}

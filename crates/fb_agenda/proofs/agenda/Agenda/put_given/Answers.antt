@@ -1,0 +1,25 @@
+use Rattle.std.proofs.Common.{◌≡◌, ap, arith, subst}
+use Rattle.std.specs.Prelude.{OnOk}
+use Rattle.fb_types.specs.declared.key.Key.{Key}
+use Rattle.fb_types.specs.declared.run.Event.TheVariants.{Given}
+use Rattle.fb_agenda.specs.Agendas.{IsPut, local_events}
+use Rattle.fb_agenda.proofs.Apart.{contents, put_later_apart, put_later_waits}
+use Rattle.fb_agenda.proofs.agenda.Agenda.put_given.Goals as goal
+
+pub put-requires : goal.put-requires
+put-requires c = λ timer. let class : c.given-key.result.class ≡ 0 = ap (λ (z : Key). z.class) c.given-key.ensures in omega (arith, timer, class)
+
+pub invariant_of-self : goal.invariant_of-self
+invariant_of-self c =
+    let i = c.self.inside in
+    let class : c.given-key.result.class ≡ 0 = ap (λ (z : Key). z.class) c.given-key.ensures in
+    put_later_apart (local_events i.now) i.later c.put.new.self c.self.invariant c.given-key.result (Given c.args.given) (c.self.invariant.queue.local c.given-key.result (λ local. omega (arith, local, class)))
+    c.put.result c.put.ensures.put c.put.ensures.err
+
+pub returns-clause-put : goal.returns-clause-put
+returns-clause-put c =
+    let i = c.self.inside in
+    let class : c.given-key.result.class ≡ 0 = ap (λ (z : Key). z.class) c.given-key.ensures in
+    rw (← c.self.view_is)
+    (subst (λ (k : Key). OnOk c.put.result (IsPut (contents (local_events i.now) i.later) (contents (local_events i.now) c.put.new.self) k (Given c.args.given))) c.given-key.ensures
+    (put_later_waits (local_events i.now) i.later c.put.new.self c.self.invariant c.given-key.result (Given c.args.given) (c.self.invariant.queue.local c.given-key.result (λ local. omega (arith, local, class))) c.put.result c.put.ensures.put))
