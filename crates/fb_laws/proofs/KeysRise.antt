@@ -39,12 +39,12 @@ number_before x y e f g h =
 -- ---- Local events
 
 -- a local event of the key's tick and resource, numbered from n to below m
-record IsNumbered (k : Key) (n m : ℕ) (j : Key) : Type 0 where
-  tick : j.tick ≡ k.tick
-  resource : j.resource ≡ k.resource
-  class : j.class ≡ 3
-  low : n ≤ j.a
-  high : j.a < m
+pub record IsNumbered (k : Key) (n m : ℕ) (j : Key) : Type 0 where
+  pub tick : j.tick ≡ k.tick
+  pub resource : j.resource ≡ k.resource
+  pub class : j.class ≡ 3
+  pub low : n ≤ j.a
+  pub high : j.a < m
 
 numbered_wider : (k : Key) (n m p : ℕ) (j : Key) → m ≤ p → IsNumbered k n m j → IsNumbered k n p j
 numbered_wider k n m p j le h =
@@ -80,7 +80,7 @@ module _ (sys : System) (k : Key) where
       let more : x.locals ≤ (post sys k o x).locals = post_more o x in
       post_all_numbered n os (post sys k o x) (omega (arith, le, more)) (post_numbered n o x le h)
 
-  raised_numbered : (m : Meter) (s : State) (os : List Out) (j : Key) (v : Event) → found j (posts_of sys k m s os).raised ≡ Some v
+  pub raised_numbered : (m : Meter) (s : State) (os : List Out) (j : Key) (v : Event) → found j (posts_of sys k m s os).raised ≡ Some v
       → IsNumbered k m.locals (posts_of sys k m s os).locals j
   unfolding AreNumbered
   raised_numbered m s os j v h =

@@ -34,6 +34,8 @@ pub mod Global
 pub mod Late
 pub mod Lines
 pub mod Opening
+pub mod Rows
+pub mod GivenRows
 pub mod OwnPart
 pub mod Posting
 pub mod KeysRise

@@ -8,4 +8,5 @@ pub mod Cuts
 pub mod Finality
 pub mod ScheduleLaw
 pub mod Phases
+pub mod GivenRows
 pub mod OfSystem
