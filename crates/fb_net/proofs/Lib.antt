@@ -35,5 +35,6 @@ pub mod Events
 pub mod Keys
 pub mod Leaves
 pub mod OutboxKept
+pub mod OwnParts
 pub mod PortRows
 pub mod PassingOn

@@ -3,14 +3,15 @@
 ghost use Rattle.std.specs.Prelude.{◌≡◌, ◌<◌, length, ◌∷◌, ◌↔◌, option_map, slice_get, true, false, unwrap_or, IsTrue};
 ghost use Rattle.fb_types.specs.Flat.{zero_value};
 ghost use Rattle.fb_types.specs.Reactions.{World};
-ghost use Rattle.fb_types.specs.OfSystem.{IsInstance};
+ghost use Rattle.fb_types.specs.Headline.{system_of};
+ghost use Rattle.fb_types.specs.OfSystem.{IsInstance, path_at};
 ghost use Rattle.fb_system.specs.OfSystem.{IsSourceOf, IsVariable, variable_of};
 ghost use Rattle.fb_net.specs.Changes.{Changes, Holds, ShowsInside, input_sampled, output_shown};
 ghost use Rattle.fb_net.specs.HeldAt.{held_at};
-ghost use Rattle.fb_net.specs.Worlds.{InForest, IsForest, Reads, Samples, Shows, Stands, seat_in, value_in, way_in, with_seated};
+ghost use Rattle.fb_net.specs.Worlds.{InForest, IsForest, Reads, Represents, Samples, Shows, Stands, seat_in, value_in, way_in, with_seated};
 ghost use Rattle.fb_net.specs.OfSystem.{IsComposite, TakesSamples};
 
-use crate::block::Block;
+use crate::block::{Block, block_on};
 use crate::held_copies::HeldCopies;
 use crate::shell::Shell;
 use fb_system::{Source, System};
@@ -104,9 +105,22 @@ impl Forest {
         self.seats.as_slice()[instance as usize] as usize
     }
 
+    /// The block of an instance that is in the resource.
+    pub(crate) fn block(&self, system: &System, instance: u32) -> &Block
+        requires instance { IsInstance system.now instance }
+        requires stands { Stands system.now self.now instance }
+        ensures { (w : World) → IsForest system.now self.now w → Represents (system_of system.now) (path_at system.now instance) result.now (w.blocks (path_at system.now instance)) }
+    {
+        let (index, below) = self.way(system, instance);
+        match block_on(self.blocks.as_slice(), index, below) {
+            Some(block) => block,
+            None => unreachable!(),
+        }
+    }
+
     /// The shell of an instance that is in the resource.
     #[inline(always)]
-    fn shell(&self, system: &System, instance: u32) -> &Shell
+    pub(crate) fn shell(&self, system: &System, instance: u32) -> &Shell
         requires instance { IsInstance system.now instance }
         requires stands { Stands system.now self.now instance }
         ensures { slice_get self.now.shells (seat_in self.now.seats instance) ≡ Some result.now }

@@ -3,19 +3,22 @@
 ghost use Rattle.std.specs.Prelude.{◌≡◌, ◌<◌, ◌≤◌, ◌^◌, IfOk};
 ghost use Rattle.fb_types.specs.Reactions.{World};
 ghost use Rattle.fb_types.specs.Takes.{world_of};
-ghost use Rattle.fb_types.specs.OfSystem.{IsResource, opening_state};
+ghost use Rattle.fb_types.specs.Headline.{system_of};
+ghost use Rattle.fb_types.specs.OfSystem.{IsInstance, IsResource, opening_state, path_at};
 ghost use Rattle.fb_laws.specs.OfSystem.{AreTyped, IsTypedEvent};
 ghost use Rattle.fb_net.specs.Outs.{StillAreOuts};
-ghost use Rattle.fb_net.specs.Worlds.{IsForest};
+ghost use Rattle.fb_net.specs.Worlds.{IsForest, Represents, ShellRepresents, Stands};
 ghost use Rattle.fb_net.specs.Events.{HasTaken, IsEventIn, Remembered, event_in, event_of, key_at};
 
 use crate::arrival::Arrival;
+use crate::block::Block;
 use crate::opening::copies::held_of;
 use crate::opening::roots::roots_of;
 use crate::opening::seats::seat_all;
 use crate::opening::trees::blocks_of;
 use crate::outbox::Outbox;
 use crate::resource::Forest;
+use crate::shell::Shell;
 use crate::taking::Taking;
 use fb_st::Meter;
 use fb_system::System;
@@ -106,6 +109,19 @@ impl Tree {
         ensures { result ≡ self.now.resource }
     {
         self.forest.resource as u32
+    }
+
+    /// What the instance has, which is in this resource: its own block, and what connections and stimuli set of it.
+    pub fn instance(&self, system: &System, instance: u32) -> (&Block, &Shell)
+        requires instance { IsInstance system.now instance }
+        requires stands { Stands system.now self.now instance }
+        ensures block { (w : World) → IsForest system.now self.now w → Represents (system_of system.now) (path_at system.now instance) result.0.now (w.blocks (path_at system.now instance)) }
+        ensures shell { (w : World) → IsForest system.now self.now w → ShellRepresents (system_of system.now) (path_at system.now instance) result.1.now (w.blocks (path_at system.now instance)) }
+    {
+        (
+            self.forest.block(system, instance),
+            self.forest.shell(system, instance),
+        )
     }
 
     /// Takes an event of the resource at a tick, which is at most 10^12 milliseconds. `meter` has the steps that are
