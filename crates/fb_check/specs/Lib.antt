@@ -4,4 +4,6 @@ pub mod Refusals
 pub mod Faults
 pub mod Verdicts
 pub mod Directory
+pub mod Judges
+pub mod NamePairs
 pub mod Stimuli

@@ -10,7 +10,8 @@
 //! Read in this order: `types`, names and kinds (E21, E22), and `networks`, networks and their mapping (E22 to E28,
 //! E30). Then `case`, `fault`, `error`, `location` and `refusal`; `judgement`, the checks in the order of their numbers;
 //! `network_checks` (E22 to E25) and `mapping_checks` (E26 to E28); `stimuli` (E29) with `directory` and
-//! `directory_making`, what stimuli may name. Then `acceptance`.
+//! `directory_making`, what stimuli may name, and `name_pair`, how pairs of names are looked up; `row_judge`, the same
+//! for rows that are given one by one. Then `acceptance`.
 #![tactic(auto)]
 
 pub mod acceptance;
@@ -22,9 +23,11 @@ pub mod fault;
 pub mod judgement;
 pub mod location;
 mod mapping_checks;
+mod name_pair;
 mod network_checks;
 pub mod networks;
 pub mod refusal;
+pub mod row_judge;
 mod stimuli;
 pub mod types;
 
@@ -36,3 +39,4 @@ pub use fb_system::System;
 pub use judgement::{judge, judged, why_refused};
 pub use location::{Limit, Location, StimulusFault, StimulusLocation};
 pub use refusal::Refusal;
+pub use row_judge::RowJudge;

@@ -12,6 +12,7 @@ ghost use Rattle.fb_check.specs.Stimuli.{AreAllBad, AreSlotsOr, IsAdded, IsBadAt
 use crate::directory::{Directory, inputs_at};
 use crate::directory_making::{TypeInputs, inputs_of_each, targets_of};
 use crate::location::{StimulusFault, StimulusLocation};
+use crate::name_pair::NamePair;
 use crate::types::adding::push_one;
 use fb_check_names::{Catalog, index_of_name, indexes};
 use fb_system::StimulusRow;
@@ -37,18 +38,24 @@ fn held_slot(inputs: &TypeInputs, variable: &Name, value: Value) -> Option<SlotV
 }
 
 /// The slot of a variable that goes WITH the event of the stimulus, is not connected, and can contain the value.
-fn slot_of<'a>(
-    directory: &Directory<'a>,
-    inputs: &TypeInputs<'a>,
-    stimulus: &'a Stimulus,
-    setting: &'a Setting,
+fn slot_of(
+    directory: &Directory,
+    inputs: &TypeInputs,
+    stimulus: &Stimulus,
+    setting: &Setting,
 ) -> Option<SlotValue>
     ensures { result ≡ slot_of directory.now inputs.now stimulus.now setting.now }
 {
     let variable = &setting.variable;
-    let at_event = (&stimulus.event, variable);
-    let at_instance = (&stimulus.instance, variable);
-    if inputs.withs.contains(&at_event) && !directory.targets.contains(&at_instance) {
+    let at_event = NamePair {
+        first: &stimulus.event,
+        second: variable,
+    };
+    let at_instance = NamePair {
+        first: &stimulus.instance,
+        second: variable,
+    };
+    if inputs.withs.contains(at_event) && !directory.targets.contains(at_instance) {
         held_slot(inputs, variable, setting.value)
     } else {
         None
@@ -56,11 +63,11 @@ fn slot_of<'a>(
 }
 
 /// The slots that a stimulus sets, in the order of its settings, or the index of one that can't be set.
-fn slots_of<'a>(
+fn slots_of(
     alloc: Global,
-    directory: &Directory<'a>,
-    inputs: &TypeInputs<'a>,
-    stimulus: &'a Stimulus,
+    directory: &Directory,
+    inputs: &TypeInputs,
+    stimulus: &Stimulus,
 ) -> Result<Result<Items<SlotValue>, usize>, AllocError>
     ensures { IfOk result (AreSlotsOr (slot_of directory.now inputs.now stimulus.now) stimulus.now.settings) }
 {
@@ -76,12 +83,12 @@ fn slots_of<'a>(
 }
 
 /// A stimulus by number, or what is wrong with it.
-fn row_of<'a>(
+pub(crate) fn row_of(
     alloc: Global,
     library: &Library,
     catalog: &Catalog,
-    directory: &Directory<'a>,
-    stimulus: &'a Stimulus,
+    directory: &Directory,
+    stimulus: &Stimulus,
 ) -> Result<Result<StimulusRow, StimulusFault>, AllocError>
     requires names { (plan : Plan) × IsCatalog library.now plan catalog.now × ¬ (NameUnknown library.now plan) }
     requires directory { IsDirectory library.now directory.now }
@@ -130,13 +137,13 @@ fn push_row(
 }
 
 /// The stimuli by number, each at its row, from what they may name. Adds all that can't be taken.
-fn rows_by<'a>(
+fn rows_by(
     alloc: Global,
     found: &mut Vec<StimulusLocation>,
     library: &Library,
     catalog: &Catalog,
-    directory: &Directory<'a>,
-    stimuli: &'a [Stimulus],
+    directory: &Directory,
+    stimuli: &[Stimulus],
 ) -> Result<Items<StimulusRow>, AllocError>
     requires empty { found.old.items ≡ [] }
     requires names { (plan : Plan) × IsCatalog library.now plan catalog.now × ¬ (NameUnknown library.now plan) }
