@@ -1,7 +1,7 @@
 -- Nothing was put out, or one event, where nothing is asked of a timer.
-use Rattle.std.proofs.Common.{◌≡◌, ◌+◌, ◌<◌, ◌≤◌, ◌++◌, ℕ, Bool, true, false, cond, List, [], ◌∷◌, All, get_or, length, map, Option, Some, None, refl, sym, ap, subst, ◌∙◌, append-nil, arith}
+use Rattle.std.proofs.Common.{◌≡◌, ◌+◌, ◌<◌, ◌≤◌, ◌++◌, ℕ, Bool, true, false, cond, List, [], ◌∷◌, All, get_or, length, map, Option, Some, refl, sym, ap, subst, ◌∙◌, append-nil, arith}
 use Rattle.std.specs.Map.{lookup}
-use Rattle.std.specs.Prelude.{IfSome, option_map, slice_index, slice_set}
+use Rattle.std.specs.Prelude.{option_map, slice_index, slice_set}
 use Rattle.std.specs.Global.{Vec}
 use Rattle.std.proofs.lemmas.List.{length-set}
 use Rattle.std.proofs.lemmas.List.Elements.{All-push}
@@ -211,17 +211,11 @@ mailed i k link number os first x left s old new one popped came is pushed =
     ∙ ap (λ (m : OutgoingMessage). old ++ message_of (system_of i) k (record m { link = link }) number ∷ []) same
     ∙ ap (λ (l : ℕ). old ++ message_of (system_of i) k (record s { link = l }) number ∷ []) linked
 
--- what holds anyway holds if there is an element
-pub anyway : {A P : Type 0} (o : Option A) → P → IfSome o (λ x. P)
-anyway None h = tt
-anyway (Some x) h = h
-
--- of one event that was put out
-pub lone_message : (os : List Out) (x d : Out) (o : Option ℕ) → length os ≡ 1 → x ≡ get_or os 0 d → IfSome o (λ link. IsOneMessage link (x ∷ [])) → IfSome o (λ link. IsOneMessage link os)
-lone_message os x d None one at is = tt
-lone_message [] x d (Some link) one at is = absurd (omega (arith, one))
-lone_message (y ∷ []) x d (Some link) one at is = subst (λ (z : Out). IsOneMessage link (z ∷ [])) at is
-lone_message (y ∷ z ∷ os) x d (Some link) one at is = absurd (omega (arith, one))
+-- one event that was put out, where there is no other
+pub lone_out : (os : List Out) (x d : Out) → length os ≡ 1 → x ≡ get_or os 0 d → os ≡ x ∷ []
+lone_out [] x d one at = absurd (omega (arith, one))
+lone_out (y ∷ []) x d one at = ap (λ (z : Out). z ∷ []) (sym at)
+lone_out (y ∷ z ∷ os) x d one at = absurd (omega (arith, one))
 
 -- ---- Put after all
 

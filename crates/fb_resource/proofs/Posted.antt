@@ -1,6 +1,5 @@
 -- Posting goes on after a step of it, of the same system and under the same key.
-use Rattle.std.proofs.Common.{◌≡◌, ◌+◌, ◌++◌, ◌∷◌, ◌<◌, ◌≤◌, ℕ, List, [], All, get_or, length, map, Option, Some, None, refl, sym, ap, subst, ◌∙◌, append-nil, arith}
-use Rattle.std.specs.Prelude.{IfSome}
+use Rattle.std.proofs.Common.{◌≡◌, ◌+◌, ◌++◌, ◌∷◌, ◌<◌, ◌≤◌, ℕ, List, [], All, length, map, refl, sym, ap, subst, ◌∙◌, append-nil, arith}
 use Rattle.std.specs.Global.{Vec}
 use Rattle.std.proofs.lemmas.List.{length_push, map-append, nil_from_length}
 use Rattle.fb_types.specs.Headline.{Inputs, system_of}
@@ -9,13 +8,11 @@ use Rattle.fb_types.specs.Takes.{Posts, post_all}
 use Rattle.fb_types.specs.declared.key.Key.{Key}
 use Rattle.fb_types.specs.declared.run.Event.{Event}
 use Rattle.fb_types.specs.declared.run.Message.{Message}
-use Rattle.fb_types.specs.declared.run.Target.{Target}
 use Rattle.fb_types.specs.declared.run.TimerAsk.{TimerAsk}
 use Rattle.fb_types.specs.declared.run.TimerAsk.TheVariants.{Keep}
 use Rattle.fb_agenda.specs.Agendas.{Contents}
 use Rattle.fb_net.specs.Outs.{out_of}
 use Rattle.fb_net.specs.declared.outbox.Out.{Out}
-use Rattle.fb_net.specs.declared.outbox.Out.TheVariants.{Local}
 use Rattle.fb_net.specs.declared.outbox.Outbox.{Outbox}
 use Rattle.fb_system.specs.Lines.{BelongsTo}
 use Rattle.fb_resource.specs.Posts.{ArePosted, CountsAre, IsMessage, IsPostable, arriving}
@@ -111,13 +108,6 @@ posted_after a b c ask e os same set next counts are =
       counted = set.locals;
       sends = subst (λ (v : Vec ℕ). CountsAre v.items counts) (sym set.sent) are;
     })
-
--- of one event that was put out
-pub lone_local : {A : Type 0} (os : List Out) (x d : Out) (o : Option A) (target : A → Target) → length os ≡ 1 → x ≡ get_or os 0 d → IfSome o (λ t. x ≡ Local (target t)) → IfSome o (λ t. os ≡ Local (target t) ∷ [])
-lone_local os x d None target one at is = tt
-lone_local [] x d (Some t) target one at is = absurd (omega (arith, one))
-lone_local (y ∷ []) x d (Some t) target one at is = ap (λ z. z ∷ []) (sym at ∙ is)
-lone_local (y ∷ z ∷ os) x d (Some t) target one at is = absurd (omega (arith, one))
 
 -- ---- One event
 

@@ -84,28 +84,6 @@ fn instance_of(system: &System, event: &Event) -> u32
     }
 }
 
-/// The target of an event that was put out, if it is local.
-#[inline(always)]
-fn target_of(out: &Out) -> Option<&Target>
-    ensures { IfSome result (λ target. out.now ≡ put_out.Local target.now) }
-{
-    match out {
-        Out::Local(target) => Some(target),
-        Out::Send(_) => None,
-    }
-}
-
-/// The target of the local event that was put out, if nothing else was.
-#[inline(always)]
-fn lone_target(outs: &[Out]) -> Option<&Target>
-    ensures { IfSome result (λ target. outs.now ≡ put_out.Local target.now ∷ []) }
-{
-    match outs {
-        [only] => target_of(only),
-        _ => None,
-    }
-}
-
 /// The target of the local event that was put out, if nothing else was, nothing is asked of the timer and the resource
 /// goes on, as mostly.
 #[inline(always)]
@@ -117,7 +95,13 @@ pub(crate) fn lone_of(outbox: &Outbox, stops: bool) -> Option<&Target>
         return None;
     }
     match outbox.timer {
-        TimerAsk::Keep => lone_target(outbox.outs.as_slice()),
+        TimerAsk::Keep => match outbox.outs.as_slice() {
+            [only] => match only {
+                Out::Local(target) => Some(target),
+                Out::Send(_) => None,
+            },
+            _ => None,
+        },
         _ => None,
     }
 }
@@ -134,28 +118,6 @@ pub(crate) fn is_still(outbox: &Outbox) -> bool
     }
 }
 
-/// The link of an event that was put out, if it goes to another resource.
-#[inline(always)]
-fn link_of(out: &Out) -> Option<u32>
-    ensures { IfSome result (λ link. IsOneMessage link (out.now ∷ [])) }
-{
-    match out {
-        Out::Local(_) => None,
-        Out::Send(sending) => Some(sending.link),
-    }
-}
-
-/// The link of the message that was put out, if nothing else was.
-#[inline(always)]
-fn lone_link(outs: &[Out]) -> Option<u32>
-    ensures { IfSome result (λ link. IsOneMessage link outs.now) }
-{
-    match outs {
-        [only] => link_of(only),
-        _ => None,
-    }
-}
-
 /// The link of the message that was put out, if nothing else was and nothing is asked of the timer.
 #[inline(always)]
 pub(crate) fn lone_link_of(outbox: &Outbox) -> Option<u32>
@@ -163,7 +125,13 @@ pub(crate) fn lone_link_of(outbox: &Outbox) -> Option<u32>
     ensures keeps { IfSome result (λ link. outbox.now.timer ≡ Keep) }
 {
     match outbox.timer {
-        TimerAsk::Keep => lone_link(outbox.outs.as_slice()),
+        TimerAsk::Keep => match outbox.outs.as_slice() {
+            [only] => match only {
+                Out::Local(_) => None,
+                Out::Send(sending) => Some(sending.link),
+            },
+            _ => None,
+        },
         _ => None,
     }
 }

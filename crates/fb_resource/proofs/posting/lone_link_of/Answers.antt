@@ -1,12 +1,16 @@
-use Rattle.std.proofs.Common.{◌≡◌, List, Option, Some, None, subst, ℕ}
-use Rattle.std.specs.Prelude.{IfSome}
+use Rattle.std.proofs.Common.{[], ◌∷◌, refl, sym, ◌∙◌, ap, arith}
 use Rattle.fb_net.specs.declared.outbox.Out.{Out}
-use Rattle.fb_resource.specs.Posts.{IsOneMessage}
-use Rattle.fb_resource.proofs.Lone.{anyway}
+use Rattle.fb_resource.proofs.Lone.{lone_out}
 use Rattle.fb_resource.proofs.posting.lone_link_of.Goals as goal
 
-pub returns-in-Keep-clause-alone : goal.returns-in-Keep-clause-alone
-returns-in-Keep-clause-alone c = subst (λ (os : List Out). IfSome c.lone_link.result (λ link. IsOneMessage link os)) c.as_slice.ensures.value c.lone_link.ensures
+pub returns-in-Send-clause-alone : goal.returns-in-Send-clause-alone
+returns-in-Send-clause-alone c = record {
+  message = c.in-Send.sending;
+  is = sym c.as_slice.ensures.value
+      ∙ lone_out c.as_slice.result.now c.only-item.result _ (omega (arith, c.in-len1.len_at_least, c.in-len1.len_below)) c.only-item.is
+      ∙ ap (λ (o : Out). o ∷ []) c.in-Send.is;
+  over = refl;
+}
 
-pub returns-in-Keep-clause-keeps : goal.returns-in-Keep-clause-keeps
-returns-in-Keep-clause-keeps c = anyway c.lone_link.result c.in-Keep.is
+pub returns-in-Send-clause-keeps : goal.returns-in-Send-clause-keeps
+returns-in-Send-clause-keeps c = c.in-Keep.is

@@ -1,12 +1,13 @@
-use Rattle.std.proofs.Common.{◌≡◌, List, [], ◌∷◌, subst}
-use Rattle.std.specs.Prelude.{IfSome}
+use Rattle.std.proofs.Common.{[], ◌∷◌, sym, ◌∙◌, ap, arith}
 use Rattle.fb_net.specs.declared.outbox.Out.{Out}
-use Rattle.fb_net.specs.declared.outbox.Out.TheVariants.{Local}
-use Rattle.fb_resource.proofs.Lone.{anyway}
+use Rattle.fb_resource.proofs.Lone.{lone_out}
 use Rattle.fb_resource.proofs.posting.lone_of.Goals as goal
 
-pub returns-in-Keep-clause-alone : goal.returns-in-Keep-clause-alone
-returns-in-Keep-clause-alone c = subst (λ (os : List Out). IfSome c.lone_target.result (λ t. os ≡ Local t.now ∷ [])) c.as_slice.ensures.value c.lone_target.ensures
+pub returns-in-Local-clause-alone : goal.returns-in-Local-clause-alone
+returns-in-Local-clause-alone c =
+    sym c.as_slice.ensures.value
+    ∙ lone_out c.as_slice.result.now c.only-item.result _ (omega (arith, c.in-len1.len_at_least, c.in-len1.len_below)) c.only-item.is
+    ∙ ap (λ (o : Out). o ∷ []) c.in-Local.is
 
-pub returns-in-Keep-clause-keeps : goal.returns-in-Keep-clause-keeps
-returns-in-Keep-clause-keeps c = anyway c.lone_target.result c.in-Keep.is
+pub returns-in-Local-clause-keeps : goal.returns-in-Local-clause-keeps
+returns-in-Local-clause-keeps c = c.in-Keep.is
