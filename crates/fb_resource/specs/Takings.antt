@@ -1,10 +1,9 @@
 -- Taking one event in its resource (this project's profile).
 use Rattle.std.specs.Bool.{OnFalse, OnTrue}
-use Rattle.std.specs.Prelude.{◌≡◌, ◌+◌, ◌^◌, ◌<◌, ◌≤◌, ◌++◌, ◌∷◌, ℕ, Bool, true, false, [], All, if◌then◌else◌, length, map, Option, Some, None}
+use Rattle.std.specs.Prelude.{◌≡◌, ◌+◌, ◌^◌, ◌<◌, ◌≤◌, ◌++◌, ◌∷◌, ℕ, Bool, true, false, [], All, if◌then◌else◌, length, map, Option, Some, None, Result, Ok, Err}
 use Rattle.fb_types.specs.Headline.{Inputs, system_of}
 use Rattle.fb_types.specs.Keys.{Precedes, changed_to, local_key, same_key}
 use Rattle.fb_types.specs.Names.{Path}
-use Rattle.fb_types.specs.Reactions.{World}
 use Rattle.fb_types.specs.Numbers.{line_of}
 use Rattle.fb_types.specs.States.{State, path_of}
 use Rattle.fb_types.specs.States as model
@@ -12,6 +11,8 @@ use Rattle.fb_types.specs.Takes.{Effect, Posts, Takes, post_all, timer_change, w
 use Rattle.fb_types.specs.declared.key.Key.{Key}
 use Rattle.fb_types.specs.declared.run.Event as waiting
 use Rattle.fb_types.specs.declared.run.Event.TheVariants as waits
+use Rattle.fb_types.specs.declared.run.Halt.{Halt}
+use Rattle.fb_types.specs.declared.run.Halt.TheVariants as halt
 use Rattle.fb_types.specs.declared.run.Target.{Target}
 use Rattle.fb_types.specs.declared.run.TimerAsk.{TimerAsk}
 use Rattle.fb_types.specs.declared.run.TimerAsk.TheVariants.{Keep, Clear, At}
@@ -22,17 +23,24 @@ use Rattle.fb_agenda.specs.declared.least.Least.{Least}
 pub use Rattle.fb_agenda.specs.Slots.{IsRaised}
 use Rattle.fb_system.specs.Lines.{BelongsTo}
 use Rattle.fb_net.specs.Events.{IsEventIn, event_of}
-use Rattle.fb_net.specs.Outs.{AreOuts, out_of}
+use Rattle.fb_net.specs.Outs.{out_of}
 use Rattle.fb_net.specs.Worlds.{IsForest}
 use Rattle.fb_net.specs.declared.outbox.Out.TheVariants.{Local}
 use Rattle.fb_net.specs.declared.outbox.Outbox.{Outbox}
 use Rattle.fb_net.specs.declared.resource.Forest.{Forest}
-use Rattle.fb_laws.specs.Typed.{AreTyped, IsTypedEvent}
+use Rattle.fb_laws.specs.Typed.{AreTyped}
 use Rattle.fb_resource.specs.Counts.{BeginAlike, meter_of}
 use Rattle.fb_resource.specs.Posts.{ArePosted, CountsAre, IsMessage, IsPostable, IsPut, arriving}
 use Rattle.fb_resource.specs.Waiting.{IsInOrder, meaning}
 use Rattle.fb_resource.specs.declared.queues.Queues.{Queues}
 use Rattle.fb_resource.specs.declared.tick_counts.TickCounts.{TickCounts}
+
+-- ---- How a reaction ends
+
+-- the end of a reaction that this reason stopped, or none
+abbrev pub ended : Option Reason → Result (Unit {0}) Halt
+ended None = Ok tt
+ended (Some r) = Err (halt.Stop r)
 
 -- ---- Before and after
 
@@ -71,18 +79,6 @@ pub record IsTakenHere (i : Inputs) (limit : ℕ) (s : State) (k : Key) (e : mod
   pub lines : map (line_of (system_of i)) new.outbox.lines.items ≡ map (line_of (system_of i)) old.outbox.lines.items ++ effect.lines
 
 -- ---- On the way
-
--- The event in the slot may be taken in the tree of its resource. The outbox has lines alone.
-pub record MayTake (i : Inputs) (l : Least) (t : Forest) (x : Outbox) : Type 0 where
-  pub here : l.key.resource ≡ t.resource
-  pub event : IsEventIn i t.resource l.event
-  pub named : t.resource < length (system_of i).resource_names
-  pub early : l.key.tick ≤ 10 ^ 12
-  pub belongs : (w : World) × IsForest i t w × AreTyped (system_of i) w
-  pub typed : IsTypedEvent (system_of i) (event_of i l.event)
-  pub outs : AreOuts (system_of i) t.resource x
-  pub none : x.outs.items ≡ []
-  pub keeps : x.timer ≡ Keep
 
 -- A timer that is set goes off at a tick or later.
 abbrev pub IsLater : (tick : ℕ) → TimerAsk → Type 0

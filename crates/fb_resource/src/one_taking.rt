@@ -6,41 +6,30 @@ ghost use Rattle.fb_types.specs.States.{State};
 ghost use Rattle.fb_types.specs.Takes.{begun};
 ghost use Rattle.fb_types.specs.OfSystem.{IsResource};
 ghost use Rattle.fb_laws.specs.OfSystem.{IsTypedEvent};
-ghost use Rattle.fb_net.specs.Events.{CameAlone, IsEventIn, event_of};
-ghost use Rattle.fb_net.specs.OfSystem.{AreOuts};
+ghost use Rattle.fb_net.specs.Events.{IsEventIn, event_of};
 ghost use Rattle.fb_resource.specs.Counts.{IsMetered, meter_of};
 ghost use Rattle.fb_resource.specs.Posts.{CountsAre};
-ghost use Rattle.fb_resource.specs.Takings.{AreReady, IsHere, IsRaised, IsTakenHere, MaySettle, MayTake, Settles, with_slot};
+ghost use Rattle.fb_resource.specs.Takings.{AreReady, IsHere, IsRaised, IsTakenHere, MaySettle, Settles, ended, with_slot};
 
 use crate::posting::{Posting, count_lone, is_still, lone_link_of, lone_of, post_lone};
 use crate::queues::Queues;
 use crate::taken::Taken;
 use crate::tick_counts::TickCounts;
 use fb_agenda::Least;
-use fb_net::{Outbox, Tree};
-use fb_st::Meter;
+use fb_net::Tree;
 use fb_system::System;
 use fb_types::{Halt, Reason};
 use std::alloc::AllocError;
 
-/// Takes the event in the slot in the tree of its resource. The meter has the steps that are left after that of the
-/// event. `Some` is the reason for which the resource stops.
+/// The reason with which a reaction ended, if one did.
+///
+/// # Errors
+/// When memory ran out.
 #[inline(always)]
-fn take_in(
-    tree: &mut Tree,
-    meter: &mut Meter,
-    outbox: &mut Outbox,
-    system: &System,
-    least: &Least,
-) -> Result<Option<Reason>, AllocError>
-    requires { MayTake system.now least.now tree.old outbox.old }
-    ensures came { IfOk result (λ stop. CameAlone system.now least.now.key least.now.event tree.old outbox.old meter.old.left stop tree.new meter.new.left outbox.new) }
-    ensures outs { OnOk result (AreOuts system.now tree.new.resource outbox.new) }
-    ensures fewer { meter.new.left ≤ meter.old.left }
-    ensures resource { tree.new.resource ≡ tree.old.resource }
+fn reason_of(end: Result<(), Halt>) -> Result<Option<Reason>, AllocError>
+    ensures { IfOk result (λ stop. end ≡ ended stop) }
 {
-    let taken = tree.take_waiting(system, &least.event, &least.key, meter, outbox);
-    match taken {
+    match end {
         Ok(()) => Ok(None),
         Err(Halt::Stop(reason)) => Ok(Some(reason)),
         Err(Halt::Memory) => Err(AllocError),
@@ -158,7 +147,14 @@ pub fn take(
             raised: false,
         });
     }
-    let stop = take_in(tree, &mut counts.meter, &mut queues.outbox, system, least)?;
+    let end = tree.take_waiting(
+        system,
+        &least.event,
+        &least.key,
+        &mut counts.meter,
+        &mut queues.outbox,
+    );
+    let stop = reason_of(end)?;
     // for the prover: what holds of each system
     system.facts();
     // A reaction that stops posts what it had put out before.

@@ -1,5 +1,4 @@
 use Rattle.std.proofs.Common.{◌≡◌, Some, All, length, refl, sym, ap, subst, ◌∙◌, arith}
-use Rattle.std.proofs.lemmas.List.Elements.{All-nil}
 use Rattle.fb_types.specs.Headline.{system_of}
 use Rattle.fb_types.specs.Keys.{local_key}
 use Rattle.fb_types.specs.Takes.{begun, world_of}
@@ -16,6 +15,7 @@ use Rattle.fb_resource.specs.Counts.{IsMetered, before_step, meter_of}
 use Rattle.fb_resource.specs.Takings.{AreReady, IsTakenHere, with_event}
 use Rattle.fb_resource.specs.declared.queues.Queues.{Queues}
 use Rattle.fb_resource.specs.declared.tick_counts.TickCounts.{TickCounts}
+use Rattle.fb_resource.proofs.Alone.{came_ended, put_out}
 use Rattle.fb_resource.proofs.Lone.{lone_ready, lone_settled, raised_lone}
 use Rattle.fb_resource.proofs.ReadyIs.{came_good, metered_after}
 use Rattle.fb_resource.proofs.TakenIs.{taken_none, taken_one}
@@ -37,12 +37,10 @@ returns-then-not-step-clause-queues c = c.requires.queues
 pub returns-then-not-step-clause-counts : goal.returns-then-not-step-clause-counts
 returns-then-not-step-clause-counts c = subst (IsMetered c.args.limit) (sym c.if-not-step.ensures.kept) c.requires.counts
 
-pub take_in-requires : goal.take_in-requires
-take_in-requires c =
+pub take_waiting-requires : goal.take_waiting-requires
+take_waiting-requires c =
     let i = c.args.system.now in
     let l = c.args.least.now in
-    let q = c.args.queues.now in
-    let r = c.args.tree.now.resource in
     let represents = c.requires.represents in
     let here = sym c.requires.tree in
     record {
@@ -52,24 +50,23 @@ take_in-requires c =
       early = c.requires.early;
       belongs = (world_of represents.0 l.key.resource, represents.1.blocks, represents.1.typed l.key.resource);
       typed = c.requires.typed;
-      outs = record {
-        lines = c.requires.queues.lines;
-        outs = subst (All (IsOut (system_of i) r)) (sym c.requires.queues.none) (All-nil (IsOut (system_of i) r));
-      };
-      none = c.requires.queues.none;
-      keeps = c.requires.queues.keeps;
     }
 
 pub settle-requires-clause-may : goal.settle-requires-clause-may
 settle-requires-clause-may c =
+    let came = came_ended c.args.system.now c.args.least.now.key c.args.least.now.event c.args.tree.now c.args.queues.now.outbox c.step.new.self.meter.left c.in_ok-stop.stop c.take_waiting-end.result
+    c.take_waiting-end.new.self c.take_waiting-end.new.meter.left c.take_waiting-end.new.outbox c.requires.queues.none c.requires.queues.keeps
+    c.in_ok-stop.ensures c.take_waiting-end.ensures.taken in
+    let put = put_out c.args.system.now c.args.tree.now c.args.queues.now.outbox c.take_waiting-end.new.self c.take_waiting-end.new.outbox c.in_ok-stop.stop c.take_waiting-end.result
+    c.in_ok-stop.ensures c.requires.queues.lines c.requires.queues.none c.take_waiting-end.ensures.outs in
     let i = c.args.system.now in
     let k = c.args.least.now.key in
     let had = c.requires.queues in
-    let here = c.in_ok-stop.ensures.resource ∙ c.requires.tree in
+    let here = c.take_waiting-end.ensures.resource ∙ c.requires.tree in
     let represents = c.requires.represents in
     let w = world_of represents.0 k.resource in
-    let good = came_good i k c.args.least.now.event _ _ _ c.take_in.new.tree c.take_in.new.outbox _ w c.facts.ensures.accepted c.facts.ensures.limits c.requires.event.here (represents.1.typed k.resource) c.requires.typed
-    (c.in_ok-stop.ensures.came w represents.1.blocks) (subst (λ n. All (IsOut (system_of i) n) c.take_in.new.outbox.outs.items) here c.in_ok-stop.ensures.outs.outs) in
+    let good = came_good i k c.args.least.now.event _ _ _ c.take_waiting-end.new.self c.take_waiting-end.new.outbox _ w c.facts.ensures.accepted c.facts.ensures.limits c.requires.event.here (represents.1.typed k.resource) c.requires.typed
+    (came w represents.1.blocks) (subst (λ n. All (IsOut (system_of i) n) c.take_waiting-end.new.outbox.outs.items) here put.outs) in
     record {
       event = c.requires.event;
       named = c.requires.named;
@@ -80,20 +77,23 @@ settle-requires-clause-may c =
       mail = had.mail;
       later = good.1;
       outs = good.0;
-      lines = c.in_ok-stop.ensures.outs.lines;
+      lines = put.lines;
     }
 
 pub returns-clause-taken : goal.returns-clause-taken
 returns-clause-taken c s from le here counts =
+    let came = came_ended c.args.system.now c.args.least.now.key c.args.least.now.event c.args.tree.now c.args.queues.now.outbox c.step.new.self.meter.left c.in_ok-stop.stop c.take_waiting-end.result
+    c.take_waiting-end.new.self c.take_waiting-end.new.meter.left c.take_waiting-end.new.outbox c.requires.queues.none c.requires.queues.keeps
+    c.in_ok-stop.ensures c.take_waiting-end.ensures.taken in
     let i = c.args.system.now in
     let k = c.args.least.now.key in
     let old = c.args.queues.now in
-    let mid : Queues = record old { outbox = c.take_in.new.outbox } in
+    let mid : Queues = record old { outbox = c.take_waiting-end.new.outbox } in
     taken_one i c.args.limit s k c.args.least.now.event (before_step c.step.new.self) _ _ _ old mid c.settle.new.queues
-    from c.args.tree.now c.args.counts.now c.take_in.new.tree c.take_in.new.outbox
+    from c.args.tree.now c.args.counts.now c.take_waiting-end.new.self c.take_waiting-end.new.outbox
     (accepted_typed i c.facts.ensures.accepted).system c.requires.typed
     here counts (here.meter c.args.limit k.tick le ∙ sym c.if-not-step.ensures.used) refl
-    (c.in_ok-stop.ensures.came (world_of s k.resource) here.blocks) refl c.in_ok-settle.ensures.settled c.if-not-step.ensures.tick c.in_ok-settle.ensures.lines
+    (came (world_of s k.resource) here.blocks) refl c.in_ok-settle.ensures.settled c.if-not-step.ensures.tick c.in_ok-settle.ensures.lines
 
 pub returns-clause-queues : goal.returns-clause-queues
 returns-clause-queues c = c.in_ok-settle.ensures.ready
@@ -103,12 +103,12 @@ returns-clause-later c = c.in_ok-settle.ensures.later
 
 pub returns-clause-counts : goal.returns-clause-counts
 returns-clause-counts c =
-    metered_after c.args.limit (before_step c.step.new.self) _ _ c.if-not-step.ensures.metered refl c.in_ok-stop.ensures.fewer c.in_ok-settle.ensures.few
+    metered_after c.args.limit (before_step c.step.new.self) _ _ c.if-not-step.ensures.metered refl c.take_waiting-end.ensures.fewer c.in_ok-settle.ensures.few
 
 pub returns-clause-spent : goal.returns-clause-spent
 returns-clause-spent c going =
     let left = ap (λ m. m.left) c.if-not-step.ensures.used in
-    let fewer = c.in_ok-stop.ensures.fewer in
+    let fewer = c.take_waiting-end.ensures.fewer in
     (c.if-not-step.ensures.tick, omega (arith, left, fewer))
 
 -- ---- Where one local event was put out
@@ -121,10 +121,13 @@ count_lone-requires-clause-keeps c = c.in-Some.ensures.keeps
 
 pub returns-in-Some-clause-taken : goal.returns-in-Some-clause-taken
 returns-in-Some-clause-taken c s from le here counts =
+    let came = came_ended c.args.system.now c.args.least.now.key c.args.least.now.event c.args.tree.now c.args.queues.now.outbox c.step.new.self.meter.left c.in_ok-stop.stop c.take_waiting-end.result
+    c.take_waiting-end.new.self c.take_waiting-end.new.meter.left c.take_waiting-end.new.outbox c.requires.queues.none c.requires.queues.keeps
+    c.in_ok-stop.ensures c.take_waiting-end.ensures.taken in
     let i = c.args.system.now in
     let k = c.args.least.now.key in
     let old = c.args.queues.now in
-    let x = c.take_in.new.outbox in
+    let x = c.take_waiting-end.new.outbox in
     let y = c.count_lone.new.outbox in
     let t = c.in-Some.target.now in
     let m = before_step c.step.new.self in
@@ -133,49 +136,54 @@ returns-in-Some-clause-taken c s from le here counts =
     let mid : Queues = record old { outbox = x } in
     let new : Queues = record old { agenda = a; outbox = y } in
     let lone = raised_lone k t old.agenda m.locals c.count_lone.new.locals x y c.in-Some.ensures.alone c.in-Some.ensures.keeps c.count_lone.ensures.counted c.count_lone.ensures.emptied in
-    let n : TickCounts = record { tick = c.step.new.self.tick; meter = c.take_in.new.meter; locals = c.count_lone.new.locals } in
-    subst (λ (j : Key). IsTakenHere i c.args.limit s k (event_of i c.args.least.now.event) c.in_ok-stop.stop from c.take_in.new.tree n old
+    let n : TickCounts = record { tick = c.step.new.self.tick; meter = c.take_waiting-end.new.meter; locals = c.count_lone.new.locals } in
+    subst (λ (j : Key). IsTakenHere i c.args.limit s k (event_of i c.args.least.now.event) c.in_ok-stop.stop from c.take_waiting-end.new.self n old
     (record old { agenda = with_event j z.event old.agenda; outbox = y })) (sym c.follow.ensures.key)
-    (subst (λ (e : Event). IsTakenHere i c.args.limit s k (event_of i c.args.least.now.event) c.in_ok-stop.stop from c.take_in.new.tree n old
+    (subst (λ (e : Event). IsTakenHere i c.args.limit s k (event_of i c.args.least.now.event) c.in_ok-stop.stop from c.take_waiting-end.new.self n old
     (record old { agenda = with_event (local_key k.tick k.resource m.locals) e old.agenda; outbox = y })) (sym c.follow.ensures.event)
     (taken_one i c.args.limit s k c.args.least.now.event m n _ _ old mid new
-    from c.args.tree.now c.args.counts.now c.take_in.new.tree x
+    from c.args.tree.now c.args.counts.now c.take_waiting-end.new.self x
     (accepted_typed i c.facts.ensures.accepted).system c.requires.typed
     here counts (here.meter c.args.limit k.tick le ∙ sym c.if-not-step.ensures.used) refl
-    (c.in_ok-stop.ensures.came (world_of s k.resource) here.blocks) refl
+    (came (world_of s k.resource) here.blocks) refl
     (lone_settled i k t old.agenda a m.locals c.count_lone.new.locals x y lone old.sent old.mail (path_of (event_of i c.args.least.now.event)))
     c.if-not-step.ensures.tick c.count_lone.ensures.emptied.lines))
 
 pub returns-in-Some-clause-queues : goal.returns-in-Some-clause-queues
 returns-in-Some-clause-queues c =
+    let came = came_ended c.args.system.now c.args.least.now.key c.args.least.now.event c.args.tree.now c.args.queues.now.outbox c.step.new.self.meter.left c.in_ok-stop.stop c.take_waiting-end.result
+    c.take_waiting-end.new.self c.take_waiting-end.new.meter.left c.take_waiting-end.new.outbox c.requires.queues.none c.requires.queues.keeps
+    c.in_ok-stop.ensures c.take_waiting-end.ensures.taken in
+    let put = put_out c.args.system.now c.args.tree.now c.args.queues.now.outbox c.take_waiting-end.new.self c.take_waiting-end.new.outbox c.in_ok-stop.stop c.take_waiting-end.result
+    c.in_ok-stop.ensures c.requires.queues.lines c.requires.queues.none c.take_waiting-end.ensures.outs in
     let i = c.args.system.now in
     let k = c.args.least.now.key in
     let old = c.args.queues.now in
-    let x = c.take_in.new.outbox in
+    let x = c.take_waiting-end.new.outbox in
     let y = c.count_lone.new.outbox in
     let t = c.in-Some.target.now in
     let n = c.step.new.self.locals in
     let z = c.follow.new.self in
-    let here = c.in_ok-stop.ensures.resource ∙ c.requires.tree in
+    let here = c.take_waiting-end.ensures.resource ∙ c.requires.tree in
     let represents = c.requires.represents in
     let w = world_of represents.0 k.resource in
-    let good = came_good i k c.args.least.now.event _ _ _ c.take_in.new.tree x _ w c.facts.ensures.accepted c.facts.ensures.limits c.requires.event.here (represents.1.typed k.resource) c.requires.typed
-    (c.in_ok-stop.ensures.came w represents.1.blocks) (subst (λ n. All (IsOut (system_of i) n) x.outs.items) here c.in_ok-stop.ensures.outs.outs) in
+    let good = came_good i k c.args.least.now.event _ _ _ c.take_waiting-end.new.self x _ w c.facts.ensures.accepted c.facts.ensures.limits c.requires.event.here (represents.1.typed k.resource) c.requires.typed
+    (came w represents.1.blocks) (subst (λ n. All (IsOut (system_of i) n) x.outs.items) here put.outs) in
     let lone = raised_lone k t old.agenda n c.count_lone.new.locals x y c.in-Some.ensures.alone c.in-Some.ensures.keeps c.count_lone.ensures.counted c.count_lone.ensures.emptied in
     subst (λ (j : Key). AreReady i k.tick (record old { agenda = with_event j z.event old.agenda; outbox = y })) (sym c.follow.ensures.key)
     (subst (λ (e : Event). AreReady i k.tick (record old { agenda = with_event (local_key k.tick k.resource n) e old.agenda; outbox = y })) (sym c.follow.ensures.event)
     (lone_ready i k t old.agenda (with_event (local_key k.tick k.resource n) (Local t) old.agenda) n c.count_lone.new.locals x y lone old.sent old.mail
-    old.outbox c.requires.named good.0 c.in_ok-stop.ensures.outs.lines c.requires.queues))
+    old.outbox c.requires.named good.0 put.lines c.requires.queues))
 
 pub returns-in-Some-clause-counts : goal.returns-in-Some-clause-counts
 returns-in-Some-clause-counts c =
     let counted = c.count_lone.ensures.counted in
-    metered_after c.args.limit (before_step c.step.new.self) _ _ c.if-not-step.ensures.metered refl c.in_ok-stop.ensures.fewer (omega (arith, counted))
+    metered_after c.args.limit (before_step c.step.new.self) _ _ c.if-not-step.ensures.metered refl c.take_waiting-end.ensures.fewer (omega (arith, counted))
 
 pub returns-in-Some-clause-spent : goal.returns-in-Some-clause-spent
 returns-in-Some-clause-spent c going =
     let left = ap (λ m. m.left) c.if-not-step.ensures.used in
-    let fewer = c.in_ok-stop.ensures.fewer in
+    let fewer = c.take_waiting-end.ensures.fewer in
     (c.if-not-step.ensures.tick, omega (arith, left, fewer))
 
 pub returns-in-Some-clause-raised : goal.returns-in-Some-clause-raised
