@@ -5,7 +5,7 @@ use Rattle.std.proofs.Crossing.{Arc-sync}
 use Rattle.fb_system.specs.contracts.whole.Whole as Whole
 use Rattle.fb_system.specs.contracts.system.System as System
 use Rattle.fb_system.specs.contracts.system.System.TheInside as I
-use Rattle.fb_resource.proofs.Sends.{whole_send, whole_sync}
+use Rattle.fb_resource.proofs.lemmas.Sends.{whole_send, whole_sync}
 
 pub system_sync : IsSync System.the_row
 system_sync =

@@ -2,7 +2,7 @@
 use denote.Param.Send.{IsSend, sendable}
 use Rattle.std.proofs.Crossing.{crosses}
 use Rattle.fb_trace.proofs.marks.MarkedText.TheSendSync as text
-use Rattle.fb_resource.proofs.Sends.{done_send}
+use Rattle.fb_resource.proofs.lemmas.Sends.{done_send}
 use Rattle.fb_sim.specs.contracts.rounds.workers.JobDone as JobDone
 
 pub texted_send : IsSend (JobDone.the_field).row

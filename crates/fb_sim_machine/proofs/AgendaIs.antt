@@ -16,8 +16,8 @@ use Rattle.fb_net.specs.Events.{event_of}
 use Rattle.fb_resource.specs.Counts.{fuel}
 use Rattle.fb_resource.specs.Waiting.{meaning}
 use Rattle.fb_resource.specs.declared.tick_counts.TickCounts.{TickCounts}
-use Rattle.fb_resource.proofs.Fuel.{fuel_falls}
-use Rattle.fb_resource.proofs.Leaving.{Left, meaning_left, ready_left}
+use Rattle.fb_resource.proofs.lemmas.Fuel.{fuel_falls}
+use Rattle.fb_resource.proofs.lemmas.Leaving.{Left, meaning_left, ready_left}
 use Rattle.fb_sim_machine.specs.Counts.{fuel_of_all}
 use Rattle.fb_sim_machine.specs.Machines.{IsAt, IsReady, IsTaken}
 use Rattle.fb_sim_machine.specs.Completions.{Completes}

@@ -14,8 +14,8 @@ use Rattle.fb_types.specs.declared.run.Event.TheVariants.{Arrival}
 use Rattle.fb_net.specs.Events.{event_of}
 use Rattle.fb_resource.specs.Posts.{IsMessage, IsPut, arriving, key_of, receiver_of}
 use Rattle.fb_resource.specs.Waiting.{MayWait, meaning}
-use Rattle.fb_resource.proofs.PostLaws.{map_push, meaning_put}
-use Rattle.fb_resource.proofs.ReadyIs.{sound_system}
+use Rattle.fb_resource.proofs.lemmas.PostLaws.{map_push, meaning_put}
+use Rattle.fb_resource.proofs.lemmas.ReadyIs.{sound_system}
 
 pub message_waits : (i : Inputs) (tick : ℕ) (m : Message) → AreAccepted i → IsWithinLimits i.plan → IsMessage i m → tick < m.arrives
     → MayWait i tick (key_of (system_of i) m) (Arrival m)

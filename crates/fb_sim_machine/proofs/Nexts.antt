@@ -13,7 +13,7 @@ use Rattle.fb_net.specs.Events.{event_of}
 use Rattle.fb_resource.specs.Posts.{arriving}
 use Rattle.fb_resource.specs.Waiting.{meaning}
 use Rattle.fb_resource.specs.declared.queues.Queues.{Queues}
-use Rattle.fb_resource.proofs.Lone.{ready_alike}
+use Rattle.fb_resource.proofs.lemmas.Lone.{ready_alike}
 use Rattle.fb_sim_machine.specs.Machines.{IsAt, IsReady}
 use Rattle.fb_sim_machine.specs.declared.machine.Machine.{Machine}
 

@@ -12,9 +12,9 @@ use Rattle.fb_resource.specs.Openings.{IsOpened}
 use Rattle.fb_resource.specs.Posts.{CountsAre}
 use Rattle.fb_resource.specs.Takings.{AreReady, IsHere}
 use Rattle.fb_resource.specs.declared.tick_counts.TickCounts.{TickCounts}
-use Rattle.fb_resource.proofs.Begins.{here_opened, metered_opened}
+use Rattle.fb_resource.proofs.lemmas.Begins.{here_opened, metered_opened}
 use Rattle.fb_types.proofs.ByIndex.{slice_get-push}
-use Rattle.fb_resource.proofs.Lists.{of_replicate}
+use Rattle.fb_resource.proofs.lemmas.Lists.{of_replicate}
 use Rattle.fb_sim_machine.specs.Machines.{IsAt, IsReady}
 use Rattle.fb_sim_machine.specs.Openings.{AreOpened}
 use Rattle.fb_sim_machine.specs.declared.machine.Machine.{Machine}

@@ -8,7 +8,7 @@ use Rattle.fb_net.specs.declared.resource.Forest.{Forest}
 use Rattle.fb_resource.specs.Counts.{IsMetered}
 use Rattle.fb_resource.specs.Takings.{AreReady}
 use Rattle.fb_resource.specs.declared.tick_counts.TickCounts.{TickCounts}
-use Rattle.fb_resource.proofs.Lists.{set_each}
+use Rattle.fb_resource.proofs.lemmas.Lists.{set_each}
 use Rattle.fb_sim_machine.specs.Machines.{IsReady}
 use Rattle.fb_sim_machine.specs.declared.machine.Machine.{Machine}
 

@@ -22,7 +22,7 @@ use Rattle.fb_resource.specs.Takings.{IsHere, IsTakenHere}
 use Rattle.fb_resource.specs.Waiting.{meaning}
 use Rattle.fb_resource.specs.declared.queues.Queues.{Queues}
 use Rattle.fb_resource.specs.declared.tick_counts.TickCounts as counted
-use Rattle.fb_resource.proofs.Lists.{set_apart, set_here}
+use Rattle.fb_resource.proofs.lemmas.Lists.{set_apart, set_here}
 use Rattle.fb_sim_machine.specs.Machines.{IsAt, IsTaken}
 use Rattle.fb_sim_machine.specs.declared.machine.Machine.{Machine}
 

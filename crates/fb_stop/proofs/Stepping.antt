@@ -29,7 +29,7 @@ use Rattle.fb_net.specs.declared.resource.Forest.{Forest}
 use Rattle.fb_resource.specs.Counts.{meter_of}
 use Rattle.fb_resource.specs.Takings.{IsHere}
 use Rattle.fb_resource.specs.declared.tick_counts.TickCounts.{TickCounts}
-use Rattle.fb_resource.proofs.Lists.{set_apart, set_here}
+use Rattle.fb_resource.proofs.lemmas.Lists.{set_apart, set_here}
 use Rattle.fb_system.specs.Ports.{IsTarget, events_at}
 use Rattle.fb_sim_machine.specs.Machines.{IsAt, IsTaken}
 use Rattle.fb_sim_machine.specs.declared.machine.Machine.{Machine}

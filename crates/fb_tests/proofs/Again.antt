@@ -5,7 +5,7 @@ use Rattle.fb_types.specs.Headline.{Inputs}
 use Rattle.fb_types.specs.declared.run.Message.{Message}
 use Rattle.fb_resource.specs.Resources.{IsFor, IsOf, IsSame}
 use Rattle.fb_resource.specs.declared.resource.Resource.{Resource}
-use Rattle.fb_resource.proofs.Received.{received}
+use Rattle.fb_resource.proofs.lemmas.Received.{received}
 
 pub still_of : (i : Inputs) (old new : Resource) → IsSame old new → IsOf i old → IsOf i new
 still_of i old new same of =

@@ -7,7 +7,7 @@ use Rattle.fb_types.specs.Systems.{System}
 use Rattle.fb_types.specs.declared.key.Key.{Key}
 use Rattle.fb_types.specs.declared.run.Message.{Message}
 use Rattle.fb_agenda.specs.Agendas.{IsNext, waiting}
-use Rattle.fb_resource.proofs.Lists.{set_apart, set_here}
+use Rattle.fb_resource.proofs.lemmas.Lists.{set_apart, set_here}
 use Rattle.fb_resource.specs.Posts.{receiver_of}
 use Rattle.fb_resource.specs.declared.resource.Resource.{Resource}
 use Rattle.fb_window.specs.Mails.{AreGiven}

@@ -16,7 +16,7 @@ use Rattle.fb_types.proofs.Lookups.{found-append, or_else_assoc}
 use Rattle.fb_resource.specs.Posts.{arriving, receiver_of}
 use Rattle.fb_link.specs.Exchanges.{goes_to}
 use Rattle.fb_link.proofs.Dealt.{goes, stays}
-use Rattle.fb_resource.proofs.Lists.{set_here, set_apart}
+use Rattle.fb_resource.proofs.lemmas.Lists.{set_here, set_apart}
 use Rattle.fb_resource.specs.Resources.{HasReceived, IsFor, Represents, with_messages}
 use Rattle.fb_resource.specs.declared.resource.Resource.{Resource}
 use Rattle.fb_window.specs.Mails.{AreGiven}

@@ -27,7 +27,7 @@ use Rattle.fb_laws.specs.Sound.{AreGood, IsSound}
 use Rattle.fb_laws.proofs.Accepting.{sound_of}
 use Rattle.fb_resource.specs.Posts.{IsMessage, arriving, receiver_of}
 use Rattle.fb_link.specs.Exchanges.{goes_to}
-use Rattle.fb_resource.proofs.Lists.{set_each}
+use Rattle.fb_resource.proofs.lemmas.Lists.{set_each}
 use Rattle.fb_link.proofs.Exchanged.{found_to}
 use Rattle.fb_laws.specs.Facts.{IsLawful}
 use Rattle.fb_resource.specs.Resources.{HasRun, IsFor, IsOf, RanTo}

@@ -15,7 +15,7 @@ use Rattle.fb_types.specs.declared.run.StopMark.{StopMark}
 use Rattle.fb_types.specs.declared.value.Reason.{Reason}
 use Rattle.fb_types.proofs.Lookups.{option_cases}
 use Rattle.fb_agenda.specs.Agendas.{IsNext, waiting}
-use Rattle.fb_resource.proofs.Lists.{set_each}
+use Rattle.fb_resource.proofs.lemmas.Lists.{set_each}
 use Rattle.fb_laws.specs.Sound.{AreGood}
 use Rattle.fb_system.specs.Lines.{BelongsTo}
 use Rattle.fb_resource.specs.Resources.{IsOf, mark_of}

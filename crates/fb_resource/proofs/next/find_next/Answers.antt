@@ -2,7 +2,7 @@ use Rattle.std.proofs.Common.{◌≡◌, true, false, sym, ap, subst, ◌∙◌}
 use Rattle.std.specs.Bool.{OnTrue}
 use Rattle.fb_agenda.specs.Agendas.{Contents, IsClear, waiting}
 use Rattle.fb_resource.specs.Takings.{Finds, with_event, with_next}
-use Rattle.fb_resource.proofs.Finding.{finds_alike, finds_clear, finds_taken}
+use Rattle.fb_resource.proofs.lemmas.Finding.{finds_alike, finds_clear, finds_taken}
 use Rattle.fb_resource.proofs.next.find_next.Goals as goal
 use Rattle.fb_resource.proofs.next.find_next.Goals.{else-least-horizon-via-then-least-horizon+else-is_clear, else-least-horizon-via-else-least-horizon}
 

@@ -2,8 +2,8 @@ use Rattle.std.proofs.Common.{◌≡◌, true, refl, sym, subst}
 use Rattle.std.specs.Bool.{OnTrue}
 use Rattle.fb_agenda.specs.Agendas.{waiting}
 use Rattle.fb_resource.specs.Takings.{IsRaised, with_next}
-use Rattle.fb_resource.proofs.Finding.{put_next}
-use Rattle.fb_resource.proofs.ReadyIs.{when_ok}
+use Rattle.fb_resource.proofs.lemmas.Finding.{put_next}
+use Rattle.fb_resource.proofs.lemmas.ReadyIs.{when_ok}
 use Rattle.fb_resource.proofs.next.put_next.Goals as goal
 
 pub returns-then-raised-clause-put : goal.returns-then-raised-clause-put

@@ -2,8 +2,8 @@ use Rattle.std.proofs.Common.{All, subst, arith}
 use Rattle.fb_types.specs.Headline.{system_of}
 use Rattle.fb_net.specs.declared.outbox.Out.TheVariants.{Send}
 use Rattle.fb_resource.specs.Posts.{IsPostable, IsSendable}
-use Rattle.fb_resource.proofs.Lone.{message_settles, still_settles}
-use Rattle.fb_resource.proofs.ReadyIs.{when_ok_four}
+use Rattle.fb_resource.proofs.lemmas.Lone.{message_settles, still_settles}
+use Rattle.fb_resource.proofs.lemmas.ReadyIs.{when_ok_four}
 use Rattle.fb_resource.proofs.one_taking.settle.Goals as goal
 
 pub returns-then-is_still : goal.returns-then-is_still

@@ -4,8 +4,8 @@ use Rattle.fb_types.specs.Headline.{system_of}
 use Rattle.fb_system.specs.Lines.{BelongsTo}
 use Rattle.fb_resource.specs.Takings.{Settles}
 use Rattle.fb_resource.specs.declared.queues.Queues.{Queues}
-use Rattle.fb_resource.proofs.Posted.{ready_again}
-use Rattle.fb_resource.proofs.ReadyIs.{when_ok_three}
+use Rattle.fb_resource.proofs.lemmas.Posted.{ready_again}
+use Rattle.fb_resource.proofs.lemmas.ReadyIs.{when_ok_three}
 use Rattle.fb_resource.proofs.one_taking.settle_all.Goals as goal
 
 pub settle-requires-clause-may : goal.settle-requires-clause-may

@@ -15,10 +15,10 @@ use Rattle.fb_resource.specs.Counts.{IsMetered, before_step, meter_of}
 use Rattle.fb_resource.specs.Takings.{AreReady, IsTakenHere, with_event}
 use Rattle.fb_resource.specs.declared.queues.Queues.{Queues}
 use Rattle.fb_resource.specs.declared.tick_counts.TickCounts.{TickCounts}
-use Rattle.fb_resource.proofs.Alone.{came_ended, put_out}
-use Rattle.fb_resource.proofs.Lone.{lone_ready, lone_settled, raised_lone}
-use Rattle.fb_resource.proofs.ReadyIs.{came_good, metered_after}
-use Rattle.fb_resource.proofs.TakenIs.{taken_none, taken_one}
+use Rattle.fb_resource.proofs.lemmas.Alone.{came_ended, put_out}
+use Rattle.fb_resource.proofs.lemmas.Lone.{lone_ready, lone_settled, raised_lone}
+use Rattle.fb_resource.proofs.lemmas.ReadyIs.{came_good, metered_after}
+use Rattle.fb_resource.proofs.lemmas.TakenIs.{taken_none, taken_one}
 use Rattle.fb_resource.proofs.one_taking.take.Goals as goal
 
 pub returns-then-not-step-clause-taken : goal.returns-then-not-step-clause-taken

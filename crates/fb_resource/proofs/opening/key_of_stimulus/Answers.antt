@@ -4,8 +4,8 @@ use Rattle.fb_types.specs.Keys.{stimulus_key}
 use Rattle.fb_types.specs.Names.{Port}
 use Rattle.fb_types.specs.declared.key.Key.{Key}
 use Rattle.fb_types.specs.declared.run.Event.TheVariants.{Stimulus}
-use Rattle.fb_resource.proofs.OpenIs.{stimulus_waits}
-use Rattle.fb_resource.proofs.PostLaws.{port_path}
+use Rattle.fb_resource.proofs.lemmas.OpenIs.{stimulus_waits}
+use Rattle.fb_resource.proofs.lemmas.PostLaws.{port_path}
 use Rattle.fb_resource.specs.Waiting.{MayWait}
 use Rattle.fb_resource.proofs.opening.key_of_stimulus.Goals as goal
 

@@ -4,8 +4,8 @@ use Rattle.std.proofs.lemmas.Option.{slice_get_read}
 use Rattle.fb_types.proofs.ByIndex.{slice_get-push}
 use Rattle.fb_types.specs.Headline.{system_of}
 use Rattle.fb_resource.specs.Openings.{HasRestarts, HasStimuli, IsOpened, OneEach}
-use Rattle.fb_resource.proofs.Apart.{each_more, restart_apart, stimulus_apart}
-use Rattle.fb_resource.proofs.OpenIs.{opened, restarts_none, stimuli_none}
+use Rattle.fb_resource.proofs.lemmas.Apart.{each_more, restart_apart, stimulus_apart}
+use Rattle.fb_resource.proofs.lemmas.OpenIs.{opened, restarts_none, stimuli_none}
 use Rattle.fb_resource.proofs.opening.open_agendas.Goals as goal
 
 -- ---- Agendas on which nothing waits

@@ -1,4 +1,4 @@
-use Rattle.fb_resource.proofs.OpenIs.{named_resource, narrow_resource}
+use Rattle.fb_resource.proofs.lemmas.OpenIs.{named_resource, narrow_resource}
 use Rattle.fb_resource.proofs.opening.resource_of.Goals as goal
 
 pub overflow_cast-result : goal.overflow_cast-result

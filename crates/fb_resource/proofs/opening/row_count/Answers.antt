@@ -1,6 +1,6 @@
 use Rattle.std.proofs.Common.{◌<◌, ◌^◌, List, length, subst, sym}
 use Rattle.fb_types.specs.declared.deploy.Stimulus.{Stimulus}
-use Rattle.fb_resource.proofs.OpenIs.{few_rows}
+use Rattle.fb_resource.proofs.lemmas.OpenIs.{few_rows}
 use Rattle.fb_resource.proofs.opening.row_count.Goals as goal
 
 pub overflow_cast-result : goal.overflow_cast-result

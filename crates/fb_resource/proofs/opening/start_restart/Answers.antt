@@ -4,8 +4,8 @@ use Rattle.fb_types.specs.Headline.{system_of}
 use Rattle.fb_types.specs.Numbers.{path_at}
 use Rattle.fb_types.specs.declared.run.TimerAsk.TheVariants.{At}
 use Rattle.fb_check_names.specs.Numbers.{kind_of_number}
-use Rattle.fb_resource.proofs.OpenIs.{IsStarted, below_more, other_event, put_none, restart_below, restart_put}
-use Rattle.fb_resource.proofs.ReadyIs.{lies_in, order_timer}
+use Rattle.fb_resource.proofs.lemmas.OpenIs.{IsStarted, below_more, other_event, put_none, restart_below, restart_put}
+use Rattle.fb_resource.proofs.lemmas.ReadyIs.{lies_in, order_timer}
 use Rattle.fb_resource.proofs.opening.start_restart.Goals as goal
 
 pub set_timer-requires-clause-home : goal.set_timer-requires-clause-home

@@ -1,6 +1,6 @@
 use Rattle.std.proofs.Common.{[], ◌∷◌, refl, sym, ◌∙◌, ap, arith}
 use Rattle.fb_net.specs.declared.outbox.Out.{Out}
-use Rattle.fb_resource.proofs.Lone.{lone_out}
+use Rattle.fb_resource.proofs.lemmas.Lone.{lone_out}
 use Rattle.fb_resource.proofs.posting.lone_link_of.Goals as goal
 
 pub returns-in-Send-clause-alone : goal.returns-in-Send-clause-alone

@@ -1,5 +1,5 @@
 use Rattle.std.proofs.Common.{rules, ◌≡◌, ◌++◌, [], option_to_list, ap, ◌∙◌}
-use Rattle.fb_resource.proofs.Lone.{left_none, mailed, not_local, not_none}
+use Rattle.fb_resource.proofs.lemmas.Lone.{left_none, mailed, not_local, not_none}
 use Rattle.fb_resource.proofs.posting.post_lone.Goals as goal
 
 pub returns-in-Send-clause-put : goal.returns-in-Send-clause-put

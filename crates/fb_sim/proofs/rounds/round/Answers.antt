@@ -1,7 +1,7 @@
 use Rattle.std.proofs.Common.{◌≡◌, ℕ, List, All, Ok, map, ◌^◌, ◌≤◌, vec_len, refl, subst, sym, ◌∙◌, arith}
 use Rattle.std.specs.Io.KnownBytes.{Appends}
 use denote.Param.Send.{sendable}
-use Rattle.fb_resource.proofs.Sends.{done_send}
+use Rattle.fb_resource.proofs.lemmas.Sends.{done_send}
 use Rattle.fb_window.proofs.Sends.{job_send}
 use Rattle.fb_types.specs.Headline.{system_of}
 use Rattle.fb_types.specs.Numbers.{line_of}

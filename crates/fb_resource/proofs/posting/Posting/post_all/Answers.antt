@@ -4,9 +4,9 @@ use Rattle.std.proofs.lemmas.Result.{on_ok_weaker}
 use Rattle.fb_net.specs.declared.outbox.Out.{Out}
 use Rattle.fb_resource.specs.Posts.{IsPostable}
 use Rattle.fb_resource.specs.Postings.{HasGrown, HasPosted, system_in}
-use Rattle.fb_resource.proofs.PostLaws.{next_of}
-use Rattle.fb_resource.proofs.Posted.{grown_nothing, none_before, only_of, posted_nothing}
-use Rattle.fb_resource.proofs.ReadyIs.{when_any}
+use Rattle.fb_resource.proofs.lemmas.PostLaws.{next_of}
+use Rattle.fb_resource.proofs.lemmas.Posted.{grown_nothing, none_before, only_of, posted_nothing}
+use Rattle.fb_resource.proofs.lemmas.ReadyIs.{when_any}
 use Rattle.fb_resource.proofs.posting.Posting.post_all.Goals as goal
 
 pub post_one-requires-clause-room : goal.post_one-requires-clause-room

@@ -5,8 +5,8 @@ use Rattle.fb_types.specs.Headline.{system_of}
 use Rattle.fb_types.specs.Keys.{local_key}
 use Rattle.fb_types.specs.declared.run.Event.TheVariants.{Local}
 use Rattle.fb_resource.specs.Posts.{IsMessage, IsPostable, IsSendable, message_of}
-use Rattle.fb_resource.proofs.PostLaws.{local_waits, message_is, one_local, one_message, order_put}
-use Rattle.fb_resource.proofs.ReadyIs.{when_ok_both, when_ok_three}
+use Rattle.fb_resource.proofs.lemmas.PostLaws.{local_waits, message_is, one_local, one_message, order_put}
+use Rattle.fb_resource.proofs.lemmas.ReadyIs.{when_ok_both, when_ok_three}
 use Rattle.fb_resource.proofs.posting.Posting.post_one.Goals as goal
 
 -- ---- A local event

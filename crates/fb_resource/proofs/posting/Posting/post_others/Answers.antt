@@ -5,9 +5,9 @@ use Rattle.std.specs.Vec.Iter.{drain_items}
 use Rattle.fb_net.specs.declared.outbox.Out.{Out}
 use Rattle.fb_resource.specs.Posts.{IsPostable}
 use Rattle.fb_resource.specs.Postings.{HasGrown, HasPosted, system_in}
-use Rattle.fb_resource.proofs.Lists.{slice_all}
-use Rattle.fb_resource.proofs.PostLaws.{next_of}
-use Rattle.fb_resource.proofs.Posted.{grown_nothing, grown_then, one_still_postable, posted_nothing, posted_then, same_then}
+use Rattle.fb_resource.proofs.lemmas.Lists.{slice_all}
+use Rattle.fb_resource.proofs.lemmas.PostLaws.{next_of}
+use Rattle.fb_resource.proofs.lemmas.Posted.{grown_nothing, grown_then, one_still_postable, posted_nothing, posted_then, same_then}
 use Rattle.fb_resource.proofs.posting.Posting.post_others.Goals as goal
 
 pub returns-then-is_empty-clause-none : goal.returns-then-is_empty-clause-none

@@ -6,9 +6,9 @@ use Rattle.fb_types.specs.Takes.{timer_change}
 use Rattle.fb_agenda.specs.Agendas.{waiting}
 use Rattle.fb_net.specs.Events.{event_of}
 use Rattle.fb_resource.specs.Waiting.{meaning}
-use Rattle.fb_resource.proofs.Posted.{grown_nothing, set_nothing}
-use Rattle.fb_resource.proofs.ReadyIs.{lies_in, order_timer, when_ok, when_ok_both}
-use Rattle.fb_resource.proofs.TakenIs.{meaning_timer}
+use Rattle.fb_resource.proofs.lemmas.Posted.{grown_nothing, set_nothing}
+use Rattle.fb_resource.proofs.lemmas.ReadyIs.{lies_in, order_timer, when_ok, when_ok_both}
+use Rattle.fb_resource.proofs.lemmas.TakenIs.{meaning_timer}
 use Rattle.fb_resource.proofs.posting.Posting.set_timer.Goals as goal
 
 pub returns-in-Keep-clause-set : goal.returns-in-Keep-clause-set

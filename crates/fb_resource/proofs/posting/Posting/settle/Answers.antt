@@ -1,6 +1,6 @@
 use Rattle.std.proofs.Common.{◌^◌, length, refl, arith}
-use Rattle.fb_resource.proofs.Posted.{grown_then, posted_after, same_then, still_postable}
-use Rattle.fb_resource.proofs.ReadyIs.{when_ok}
+use Rattle.fb_resource.proofs.lemmas.Posted.{grown_then, posted_after, same_then, still_postable}
+use Rattle.fb_resource.proofs.lemmas.ReadyIs.{when_ok}
 use Rattle.fb_resource.proofs.posting.Posting.settle.Goals as goal
 
 pub post_all-requires-clause-may : goal.post_all-requires-clause-may

@@ -1,4 +1,4 @@
-use Rattle.fb_resource.proofs.Fresh.{fresh}
+use Rattle.fb_resource.proofs.lemmas.Fresh.{fresh}
 use Rattle.fb_resource.proofs.resource.Resource.of_agenda.Goals as goal
 
 pub returns : goal.returns

@@ -4,7 +4,7 @@ use Rattle.std.specs.Vec.Iter.{into_iter_items}
 use Rattle.std.proofs.lemmas.List.{length_push, nil_from_length}
 use Rattle.fb_resource.specs.Openings.{AreOpenedApart, IsOpened}
 use Rattle.fb_resource.specs.Resources.{IsFresh}
-use Rattle.fb_resource.proofs.Fresh.{AreFresh, all_opened, at_middle, fresh_more}
+use Rattle.fb_resource.proofs.lemmas.Fresh.{AreFresh, all_opened, at_middle, fresh_more}
 use Rattle.fb_resource.proofs.resource.Resource.open_all.Goals as goal
 
 pub of_agenda-requires-clause-agenda : goal.of_agenda-requires-clause-agenda

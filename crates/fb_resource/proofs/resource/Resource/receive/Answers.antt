@@ -3,7 +3,7 @@ use Rattle.std.proofs.lemmas.Result.{on_ok_weaker}
 use Rattle.fb_types.specs.Keys.{found, or_else}
 use Rattle.fb_agenda.specs.Agendas.{waiting}
 use Rattle.fb_agenda.specs.Arrivals.{arrivals_at}
-use Rattle.fb_resource.proofs.Received.{received}
+use Rattle.fb_resource.proofs.lemmas.Received.{received}
 use Rattle.fb_resource.proofs.resource.Resource.receive.Goals as goal
 
 pub returns-clause-received : goal.returns-clause-received

@@ -1,6 +1,6 @@
 use Rattle.std.proofs.Common.{sym, subst, ◌∙◌}
 use Rattle.fb_resource.specs.Resources.{IsOf}
-use Rattle.fb_resource.proofs.Running.{queues_back, run_back}
+use Rattle.fb_resource.proofs.lemmas.Running.{queues_back, run_back}
 use Rattle.fb_resource.proofs.resource.Resource.run_here.Goals as goal
 
 pub take_all-requires-clause-of : goal.take_all-requires-clause-of

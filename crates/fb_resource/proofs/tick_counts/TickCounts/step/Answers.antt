@@ -1,5 +1,5 @@
 use Rattle.std.proofs.Common.{refl}
-use Rattle.fb_resource.proofs.Meters.{other_tick, step_afresh}
+use Rattle.fb_resource.proofs.lemmas.Meters.{other_tick, step_afresh}
 use Rattle.fb_resource.proofs.tick_counts.TickCounts.step.Goals as goal
 
 pub returns-then-ne-clause-used : goal.returns-then-ne-clause-used

@@ -6,8 +6,8 @@ use Rattle.fb_types.specs.Numbers.{line_of}
 use Rattle.fb_types.specs.Simulation.{Taken, after}
 use Rattle.fb_net.specs.Events.{event_of}
 use Rattle.fb_resource.specs.Takings.{Finds, with_next}
-use Rattle.fb_resource.proofs.Finding.{finds_taken}
-use Rattle.fb_resource.proofs.Lone.{due_next}
+use Rattle.fb_resource.proofs.lemmas.Finding.{finds_taken}
+use Rattle.fb_resource.proofs.lemmas.Lone.{due_next}
 use Rattle.fb_sim_machine.specs.Pauses.{Pauses}
 use Rattle.fb_sim_machine.specs.declared.pause.Pause.TheVariants.{Stop}
 use Rattle.fb_sim_machine.proofs.Joined.{completes_after, reaches_more, reaches_none, lines_more}

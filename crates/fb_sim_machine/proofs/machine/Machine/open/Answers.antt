@@ -4,7 +4,7 @@ use Rattle.fb_types.specs.Headline.{system_of}
 use Rattle.fb_types.specs.Simulation.{opening_state}
 use Rattle.fb_resource.specs.Openings.{IsOpened}
 use Rattle.fb_resource.specs.Posts.{CountsAre}
-use Rattle.fb_resource.proofs.Begins.{ready_opened as queues_opened}
+use Rattle.fb_resource.proofs.lemmas.Begins.{ready_opened as queues_opened}
 use Rattle.fb_sim_machine.proofs.OpenIs.{at_opened, ready_opened}
 use Rattle.fb_sim_machine.proofs.machine.Machine.open.Goals as goal
 

@@ -17,8 +17,8 @@ use Rattle.fb_resource.specs.Openings.{IsOpened}
 use Rattle.fb_resource.specs.Posts.{CountsAre}
 use Rattle.fb_resource.specs.Takings.{IsHere}
 use Rattle.fb_resource.specs.Waiting.{meaning}
-use Rattle.fb_resource.proofs.Begins.{here_opened}
-use Rattle.fb_resource.proofs.Meters.{fresh_counts}
+use Rattle.fb_resource.proofs.lemmas.Begins.{here_opened}
+use Rattle.fb_resource.proofs.lemmas.Meters.{fresh_counts}
 use Rattle.fb_types.proofs.ByIndex.{slice_get-push}
 use Rattle.fb_net.specs.Worlds.{IsForest}
 use Rattle.fb_net.specs.declared.resource.Forest.{Forest}

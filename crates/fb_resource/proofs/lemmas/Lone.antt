@@ -35,8 +35,8 @@ use Rattle.fb_resource.specs.Takings.{AreReady, IsEmptied, IsLone, IsSettled, Is
 use Rattle.fb_resource.specs.Waiting.{IsInOrder, meaning}
 use Rattle.fb_resource.specs.declared.queues.Queues.{Queues}
 use Rattle.fb_resource.specs.declared.tick_counts.TickCounts.{TickCounts}
-use Rattle.fb_resource.proofs.PostLaws.{local_waits, message_is, one_message, order_put, posted_local}
-use Rattle.fb_resource.proofs.Posted.{none_before, only_of}
+use Rattle.fb_resource.proofs.lemmas.PostLaws.{local_waits, message_is, one_message, order_put, posted_local}
+use Rattle.fb_resource.proofs.lemmas.Posted.{none_before, only_of}
 
 -- ---- On an agenda in addition
 

@@ -20,7 +20,7 @@ use Rattle.fb_resource.specs.Postings.{HasGrown, HasPosted, HasSet, IsSame, MayP
 use Rattle.fb_resource.specs.Takings.{AreReady}
 use Rattle.fb_resource.specs.Waiting.{IsInOrder}
 use Rattle.fb_resource.specs.declared.posting.Posting.{Posting}
-use Rattle.fb_resource.proofs.PostLaws.{post_all_then}
+use Rattle.fb_resource.proofs.lemmas.PostLaws.{post_all_then}
 
 -- what is said of system and key before holds after
 still : (P : Inputs → Key → Type 0) (a b : Posting) → IsSame a b → P a.system.now a.key.now → P b.system.now b.key.now

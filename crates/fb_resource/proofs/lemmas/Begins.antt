@@ -15,7 +15,7 @@ use Rattle.fb_resource.specs.Takings.{AreReady, IsEmpty, IsHere}
 use Rattle.fb_resource.specs.Waiting.{IsInOrder}
 use Rattle.fb_resource.specs.declared.queues.Queues.{Queues}
 use Rattle.fb_resource.specs.Counts.{IsMetered}
-use Rattle.fb_resource.proofs.Meters.{fresh_counts, metered_fresh}
+use Rattle.fb_resource.proofs.lemmas.Meters.{fresh_counts, metered_fresh}
 
 pub here_opened : (i : Inputs) (r : ℕ) (t : Forest) → AreAccepted i → IsForest i t (world_of (opening_state (system_of i)) r)
     → IsHere i (opening_state (system_of i)) r 0 t fresh_counts

@@ -34,9 +34,9 @@ use Rattle.fb_resource.specs.Openings.{HasRestarts, HasStimuli, HasTimersBelow, 
 use Rattle.fb_resource.specs.Posts.{IsPut}
 use Rattle.fb_resource.specs.Waiting.{IsInOrder, MayWait, meaning}
 use Rattle.fb_types.proofs.ByIndex.{all_at}
-use Rattle.fb_resource.proofs.PostLaws.{meaning_put, order_put, port_path, timer_class, timer_instance}
+use Rattle.fb_resource.proofs.lemmas.PostLaws.{meaning_put, order_put, port_path, timer_class, timer_instance}
 use Rattle.fb_types.proofs.Lookups.{found-append, or_else_none}
-use Rattle.fb_resource.proofs.ReadyIs.{sound_system}
+use Rattle.fb_resource.proofs.lemmas.ReadyIs.{sound_system}
 
 -- ---- How many stimuli there are
 

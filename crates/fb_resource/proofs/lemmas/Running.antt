@@ -27,11 +27,11 @@ use Rattle.fb_resource.specs.Runs.{ComesTo, HasEnded, IsRunning, Running, Repres
 use Rattle.fb_resource.specs.declared.resource.Resource.{Resource}
 use Rattle.fb_resource.specs.declared.resource.WindowDone.TheVariants.{Ran}
 use Rattle.fb_resource.specs.declared.tick_counts.TickCounts.{TickCounts}
-use Rattle.fb_resource.proofs.Begins.{ready_empty}
-use Rattle.fb_resource.proofs.Comes.{come_more, come_rest, come_stop}
-use Rattle.fb_resource.proofs.Lone.{ready_alike}
-use Rattle.fb_resource.proofs.Meters.{alike_unused, here_later, unused_alike}
-use Rattle.fb_resource.proofs.Standing.{HasLeft, home_after, item_at, stands_after, takes_alone}
+use Rattle.fb_resource.proofs.lemmas.Begins.{ready_empty}
+use Rattle.fb_resource.proofs.lemmas.Comes.{come_more, come_rest, come_stop}
+use Rattle.fb_resource.proofs.lemmas.Lone.{ready_alike}
+use Rattle.fb_resource.proofs.lemmas.Meters.{alike_unused, here_later, unused_alike}
+use Rattle.fb_resource.proofs.lemmas.Standing.{HasLeft, home_after, item_at, stands_after, takes_alone}
 
 -- ---- What is ready
 

@@ -33,7 +33,7 @@ use Rattle.fb_resource.specs.Takings.{IsHere, IsSettled, IsTakenHere}
 use Rattle.fb_resource.specs.declared.queues.Queues.{Queues}
 use Rattle.fb_resource.specs.Waiting.{meaning}
 use Rattle.fb_resource.specs.declared.tick_counts.TickCounts as counted
-use Rattle.fb_resource.proofs.Meters.{alike_same}
+use Rattle.fb_resource.proofs.lemmas.Meters.{alike_same}
 
 -- ---- No step is left
 

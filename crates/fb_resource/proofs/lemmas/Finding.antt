@@ -10,7 +10,7 @@ use Rattle.fb_agenda.proofs.Orders.{not_itself}
 use Rattle.fb_agenda.proofs.Clear.{clear_before, clear_itself}
 use Rattle.fb_resource.specs.Posts.{IsPut}
 use Rattle.fb_resource.specs.Takings.{Finds, with_event}
-use Rattle.fb_resource.proofs.Lone.{with_put}
+use Rattle.fb_resource.proofs.lemmas.Lone.{with_put}
 
 -- what is found on an agenda is found on one on which the same waits
 pub finds_alike : (horizon : ℕ) (a b now : Contents) (is : Bool) (k : Key) (e : Event) → ((j : Key) → waiting b j ≡ waiting a j) → Finds horizon b is k e now → Finds horizon a is k e now

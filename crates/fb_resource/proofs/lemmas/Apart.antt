@@ -12,8 +12,8 @@ use Rattle.fb_types.specs.declared.run.Event.TheVariants as kinds
 use Rattle.fb_resource.specs.Openings.{HasRestarts, HasStimuli, HasTimersBelow, IsStimulusKey, OneEach}
 use Rattle.fb_resource.specs.Posts.{IsPut}
 use Rattle.fb_resource.specs.Waiting.{IsInOrder, MayWait}
-use Rattle.fb_resource.proofs.Lists.{set_each}
-use Rattle.fb_resource.proofs.OpenIs.{IsStartedIn, restarts_put, restarts_skip, stimuli_put, stimuli_skip}
+use Rattle.fb_resource.proofs.lemmas.Lists.{set_each}
+use Rattle.fb_resource.proofs.lemmas.OpenIs.{IsStartedIn, restarts_put, restarts_skip, stimuli_put, stimuli_skip}
 
 pub stimulus_apart : (i : Inputs) (row : ℕ) (k : Key) (old new : Contents) (agendas : List Contents) → k.resource < length agendas → slice_get agendas k.resource ≡ Some old
     → IsStimulusKey i row k → MayWait i 0 k (kinds.Stimulus row) → IsPut old new (stimulus_key k.tick k.resource row) (kinds.Stimulus row) → new.due ≡ old.due

@@ -38,7 +38,7 @@ use Rattle.fb_resource.specs.Posts.{IsPostable}
 use Rattle.fb_resource.specs.Takings.{IsLater}
 use Rattle.fb_resource.specs.Waiting.{IsInOrder, MayWait}
 use Rattle.fb_resource.specs.declared.tick_counts.TickCounts.{TickCounts}
-use Rattle.fb_resource.proofs.PostLaws.{port_path, timer_class, timer_instance, timer_resource}
+use Rattle.fb_resource.proofs.lemmas.PostLaws.{port_path, timer_class, timer_instance, timer_resource}
 
 -- ---- Timers
 

@@ -19,7 +19,7 @@ use Rattle.fb_resource.specs.Runs.{Running, RepresentsRunning}
 use Rattle.fb_resource.specs.Takings.{IsHere, IsTakenHere}
 use Rattle.fb_resource.specs.declared.queues.Queues.{Queues}
 use Rattle.fb_resource.specs.Waiting.{meaning}
-use Rattle.fb_resource.proofs.Leaving.{Left, still}
+use Rattle.fb_resource.proofs.lemmas.Leaving.{Left, still}
 use Rattle.fb_laws.proofs.Effects.{takes_good}
 use Rattle.fb_laws.proofs.Takings.{ChangesOwn, IsParted, parted_after, waiting_after}
 
