@@ -1,4 +1,4 @@
-use Rattle.std.proofs.Common.{◌++◌, ◌∷◌, [], ◌∙◌, List, ap, refl, sym, subst, append_assoc, arith}
+use Rattle.std.proofs.Common.{true, ◌++◌, ◌∷◌, [], ◌∙◌, List, ap, refl, sym, subst, append_assoc, arith}
 use Rattle.std.proofs.lemmas.List.{append-nil}
 use Rattle.std.proofs.lemmas.Result.{on_ok_weaker}
 use Rattle.std.specs.Prelude.{All}
@@ -8,6 +8,7 @@ use Rattle.fb_types.specs.Numbers.{path_at, ports_at}
 use Rattle.fb_types.specs.declared.key.Key.{Key}
 use Rattle.fb_system.specs.Lines.{IsEmission}
 use Rattle.fb_net.specs.Steps.{EmitsWell, ports_in}
+use Rattle.fb_net.proofs.PortRows.{one_with}
 use Rattle.fb_net.proofs.Emitting.{middle_fits, nothing_emitted}
 use Rattle.fb_net.proofs.TakingSteps.{emitted-after, may-emit-again, stays-whole, still, whole-after}
 use Rattle.fb_net.proofs.taking.Taking.emit_all.Goals as goal
@@ -55,10 +56,22 @@ pub returns-clause-whole : goal.returns-clause-whole
 returns-clause-whole c = c.loop-emission.invariant.whole
 
 -- the only emission
-pub emit_only-requires-clause-emission : goal.emit_only-requires-clause-emission
-emit_only-requires-clause-emission c =
-    subst (λ (es : List Emission). All (IsEmission (ports_in c.args.self.now c.args.instance)) es) c.in-Some.ensures c.requires.emissions 0 (record { event = c.in-Some.event; values = c.in-Some.value.now ∷ [] }) (omega arith)
+pub row_of-row-requires : goal.row_of-row-requires
+row_of-row-requires c =
+    let one = subst (λ (es : List Emission). All (IsEmission (ports_in c.args.self.now c.args.instance)) es) c.in-Some.ensures c.requires.emissions 0 (record { event = c.in-Some.event; values = c.in-Some.value.now ∷ [] }) (omega arith) in
+    record { instance = c.requires.index.number; event = one.event }
 
-pub returns-in-Some-clause-emitted : goal.returns-in-Some-clause-emitted
-returns-in-Some-clause-emitted c =
-    on_ok_weaker c.emit_only.result (subst (λ (es : List Emission). EmitsWell c.args.self.now c.args.instance es c.emit_only.new.self) (sym c.in-Some.ensures)) c.emit_only.ensures.emitted
+pub emit_value-requires-clause-event : goal.emit_value-requires-clause-event
+emit_value-requires-clause-event c =
+    (subst (λ (es : List Emission). All (IsEmission (ports_in c.args.self.now c.args.instance)) es) c.in-Some.ensures c.requires.emissions 0 (record { event = c.in-Some.event; values = c.in-Some.value.now ∷ [] }) (omega arith)).event
+
+pub emit_value-requires-clause-first : goal.emit_value-requires-clause-first
+emit_value-requires-clause-first c = c.row_of-row.ensures.first
+
+pub emit_value-requires-clause-indexes : goal.emit_value-requires-clause-indexes
+emit_value-requires-clause-indexes c =
+    (one_with (system_of c.args.self.now.system.now) (record { instance = c.args.instance; event = c.in-Some.event; is_output = true }) c.row_of-row.result.with _ _ c.in-One.is c.row_of-row.ensures.with).indexes
+
+pub returns-in-One-clause-emitted : goal.returns-in-One-clause-emitted
+returns-in-One-clause-emitted c =
+    on_ok_weaker c.emit_value.result (subst (λ (es : List Emission). EmitsWell c.args.self.now c.args.instance es c.emit_value.new.self) (sym c.in-Some.ensures)) c.emit_value.ensures.emitted
