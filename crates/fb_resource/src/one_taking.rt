@@ -11,14 +11,14 @@ ghost use Rattle.fb_resource.specs.Counts.{IsMetered, meter_of};
 ghost use Rattle.fb_resource.specs.Posts.{CountsAre};
 ghost use Rattle.fb_resource.specs.Takings.{AreReady, IsHere, IsRaised, IsTakenHere, MaySettle, Settles, ended, with_slot};
 
-use crate::posting::{Posting, count_lone, is_still, lone_link_of, lone_of, post_lone};
+use crate::posting::{Posting, count_lone, lone_of, post_lone};
 use crate::queues::Queues;
 use crate::taken::Taken;
 use crate::tick_counts::TickCounts;
 use fb_agenda::Least;
-use fb_net::Tree;
+use fb_net::{Out, Tree};
 use fb_system::System;
-use fb_types::{Halt, Reason};
+use fb_types::{Halt, Reason, TimerAsk};
 use std::alloc::AllocError;
 
 /// The reason with which a reaction ended, if one did.
@@ -85,20 +85,27 @@ fn settle(
     if stops {
         return settle_all(queues, locals, system, least);
     }
-    if is_still(&queues.outbox) {
-        return Ok(());
+    match queues.outbox.timer {
+        TimerAsk::Keep => match queues.outbox.outs.as_slice() {
+            [] => Ok(()),
+            [only] => match only {
+                Out::Send(sending) => {
+                    let link = sending.link;
+                    post_lone(
+                        &mut queues.outbox.outs,
+                        &mut queues.mail,
+                        &mut queues.sent,
+                        system,
+                        &least.key,
+                        link,
+                    )
+                }
+                Out::Local(_) => settle_all(queues, locals, system, least),
+            },
+            _ => settle_all(queues, locals, system, least),
+        },
+        _ => settle_all(queues, locals, system, least),
     }
-    let Some(link) = lone_link_of(&queues.outbox) else {
-        return settle_all(queues, locals, system, least);
-    };
-    post_lone(
-        &mut queues.outbox.outs,
-        &mut queues.mail,
-        &mut queues.sent,
-        system,
-        &least.key,
-        link,
-    )
 }
 
 /// Takes the event in the slot, which has left the agenda, at most `limit` steps in each tick of its resource. What was

@@ -106,36 +106,6 @@ pub(crate) fn lone_of(outbox: &Outbox, stops: bool) -> Option<&Target>
     }
 }
 
-/// Whether nothing was put out, and nothing is asked of the timer.
-#[inline(always)]
-pub(crate) fn is_still(outbox: &Outbox) -> bool
-    ensures none { OnTrue result (outbox.now.outs.items ≡ []) }
-    ensures keeps { OnTrue result (outbox.now.timer ≡ Keep) }
-{
-    match outbox.timer {
-        TimerAsk::Keep => outbox.outs.is_empty(),
-        _ => false,
-    }
-}
-
-/// The link of the message that was put out, if nothing else was and nothing is asked of the timer.
-#[inline(always)]
-pub(crate) fn lone_link_of(outbox: &Outbox) -> Option<u32>
-    ensures alone { IfSome result (λ link. IsOneMessage link outbox.now.outs.items) }
-    ensures keeps { IfSome result (λ link. outbox.now.timer ≡ Keep) }
-{
-    match outbox.timer {
-        TimerAsk::Keep => match outbox.outs.as_slice() {
-            [only] => match only {
-                Out::Local(_) => None,
-                Out::Send(sending) => Some(sending.link),
-            },
-            _ => None,
-        },
-        _ => None,
-    }
-}
-
 /// Posts the message that was put out, where nothing else was. All else is known before the message leaves the list: so
 /// it moves once, straight to its place.
 ///

@@ -217,6 +217,10 @@ lone_out [] x d one at = absurd (omega (arith, one))
 lone_out (y ∷ []) x d one at = ap (λ (z : Out). z ∷ []) (sym at)
 lone_out (y ∷ z ∷ os) x d one at = absurd (omega (arith, one))
 
+pub nothing_out : (os : List Out) → length os < 1 → os ≡ []
+nothing_out [] none = refl
+nothing_out (x ∷ os) none = absurd (omega (arith, none))
+
 -- ---- Put after all
 
 -- what waits alike is in order alike

@@ -37,8 +37,8 @@ returns-then-not-step-clause-queues c = c.requires.queues
 pub returns-then-not-step-clause-counts : goal.returns-then-not-step-clause-counts
 returns-then-not-step-clause-counts c = subst (IsMetered c.args.limit) (sym c.if-not-step.ensures.kept) c.requires.counts
 
-pub take_waiting-requires : goal.take_waiting-requires
-take_waiting-requires c =
+pub take_waiting-end-requires : goal.take_waiting-end-requires
+take_waiting-end-requires c =
     let i = c.args.system.now in
     let l = c.args.least.now in
     let represents = c.requires.represents in
