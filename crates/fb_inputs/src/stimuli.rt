@@ -251,6 +251,24 @@ pub fn read_stimuli(alloc: Global, bytes: &[u8]) -> Result<Vec<Stimulus>, InputE
     }
 }
 
+/// Reads one row from its three fields, as [`read_stimuli`] reads those of a list. How many rows there are before it does
+/// not matter.
+///
+/// # Errors
+///
+/// What is wrong with the row: its shape (E13), a tick or a value that is not a number (E14), a tick over 10^12 (E15). Or
+/// memory runs out.
+pub fn read_row(
+    alloc: Global,
+    tick: &[u8],
+    event: &[u8],
+    values: &[u8],
+) -> Result<Stimulus, RowError>
+    ensures { AnswersInRow (λ s. s) (spec.stimulus 0 (tick.now ∷ event.now ∷ values.now ∷ [])) result }
+{
+    stimulus_of(alloc, 0, tick, event, values)
+}
+
 /// Where stimuli in CSV are refused, or `None` if they are accepted.
 ///
 /// # Errors
