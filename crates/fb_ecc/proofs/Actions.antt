@@ -317,21 +317,6 @@ action_here t acts actions i d are h =
     let x = action_at t acts actions i d are h in
     record { action = x.0; is = x.1; here = x.2 ∙ rw add-one refl }
 
--- a single action is all that there is
-pub single_action :
-    (t : BasicType) (acts : List Act) (actions : List Action) (d : Act) → AreActions t acts actions → length acts ≡ 1
-    → (a : Action) × (IsAction t (get_or acts 0 d) a × (actions ≡ a ∷ []))
-single_action t [] actions d are one = absurd (omega arith)
-single_action t (x ∷ []) [] d are one = absurd are
-single_action t (x ∷ []) (a ∷ []) d are one = (a, (are.0, refl))
-single_action t (x ∷ []) (a ∷ b ∷ as') d are one = absurd are.1
-single_action t (x ∷ y ∷ xs) actions d are one = absurd (omega arith)
-
-pub no_actions : (t : BasicType) (acts : List Act) (actions : List Action) → AreActions t acts actions → length acts ≤ 0 → actions ≡ []
-no_actions t [] [] are h = refl
-no_actions t [] (a ∷ as') are h = absurd are
-no_actions t (x ∷ xs) actions are h = absurd (omega arith)
-
 -- ---- Results
 
 pub on_ok : {A B E T : Type 0} (result : Result T E) → OnOk result A → (A → B) → OnOk result B

@@ -170,40 +170,9 @@ pub(crate) fn perform(
     Ok(())
 }
 
-/// The actions of a state, in their order. Each costs a step. Mostly there is one at most, and then there is no loop.
+/// The actions of a state, in their order. Each costs a step.
 #[inline(always)]
 pub(crate) fn perform_all(
-    block: &BasicType,
-    chart: &SharedChart,
-    acts: &[Act],
-    frame: &mut Frame,
-    meter: &mut Meter,
-    emits: &mut Emits,
-) -> Result<(), Halt>
-    requires sound { IsSound block.now }
-    requires chart { IsSharedOf block.now chart.now }
-    requires declared { declared_in frame.old ≡ declared_by block.now }
-    requires acts { (actions : List Action) × AreActions block.now acts.now actions }
-    ensures performed { (actions : List Action) (state : ℕ) → AreActions block.now acts.now actions →
-        Ended result (Acts block.now actions meter.old.left) (index block.now state frame.old meter.old.left emits.old) (index block.now state frame.new meter.new.left emits.new) }
-    ensures declared { declared_in frame.new ≡ declared_in frame.old }
-    ensures fewer { meter.new.left ≤ meter.old.left }
-    ensures well_formed { let IsFit = IsWellFormed block.now in All IsFit emits.old → All IsFit emits.new }
-{
-    match acts {
-        [] => Ok(()),
-        [act] => {
-            let program = chart.program();
-            let shown = chart.shown();
-            perform(block, program, *act, shown, frame, meter, emits)
-        }
-        _ => perform_each(block, chart, acts, frame, meter, emits),
-    }
-}
-
-/// The same as `perform_all`, for any number of actions.
-#[inline(never)]
-fn perform_each(
     block: &BasicType,
     chart: &SharedChart,
     acts: &[Act],

@@ -1,35 +1,65 @@
-use Rattle.std.proofs.Common.{◌≡◌, ◌≤◌, ℕ, List, [], ◌∷◌, length, None, refl, sym, subst, arith}
+use Rattle.std.proofs.Common.{◌≤◌, ◌+◌, ℕ, List, [], ◌∷◌, drop, length, Some, None, Result, refl, sym, ◌∙◌, subst, arith}
+use Rattle.std.proofs.lemmas.Result.{err_from_is_err_and}
 use Rattle.fb_types.specs.Charts.{Acts, Position}
 use Rattle.fb_types.specs.declared.library.Action.{Action}
+use Rattle.fb_types.specs.declared.run.Halt.{Halt}
 use Rattle.fb_ecc.specs.Indexes.{Ended, index}
 use Rattle.fb_ecc.specs.Programs.{IsProgramOf}
 use Rattle.fb_ecc.specs.declared.chart.Act.{Act}
 use Rattle.fb_ecc.specs.declared.program.Program.{Program}
-use Rattle.fb_ecc.proofs.Actions.{no_actions, single_action}
+use Rattle.fb_ecc.proofs.Actions.{action_here, next_acts, no_next_acts, no_action_left, ended_early}
 use Rattle.fb_ecc.proofs.action.perform_all.Goals as goal
 
 abbrev unread : Act
 unread = record { algorithm = None; output = None }
-
-pub returns-in-empty-clause-performed : goal.returns-in-empty-clause-performed
-returns-in-empty-clause-performed c = λ actions state are.
-    let p : Position = index c.args.block.now state c.args.frame.now c.args.meter.now.left c.args.emits.now in
-    let none : length c.args.acts.now ≤ 0 = omega (arith, c.in-empty.len_below) in
-    subst (λ (l : List Action). Acts c.args.block.now l c.args.meter.now.left p None p) (sym (no_actions c.args.block.now c.args.acts.now actions are none)) (refl, refl)
 
 pub perform-requires-clause-program : goal.perform-requires-clause-program
 perform-requires-clause-program c = subst (λ (p : Program). IsProgramOf c.args.block.now p) (sym c.program-program.ensures) c.requires.chart.program
 
 pub perform-requires-clause-act : goal.perform-requires-clause-act
 perform-requires-clause-act c =
-    let one : length c.args.acts.now ≡ 1 = omega (arith, c.in-len1.len_at_least, c.in-len1.len_below) in
-    let n = single_action c.args.block.now c.args.acts.now c.requires.acts.0 unread c.requires.acts.1 one in
-    (n.0, n.1.0)
+    let n = action_here c.args.block.now c.args.acts.now c.requires.acts.0 c.loop-act.act-index unread c.requires.acts.1 c.loop-act-test.true in
+    (n.action, n.is)
 
-pub returns-in-len1-clause-performed : goal.returns-in-len1-clause-performed
-returns-in-len1-clause-performed c = λ actions state are.
-    let one : length c.args.acts.now ≡ 1 = omega (arith, c.in-len1.len_at_least, c.in-len1.len_below) in
-    let n = single_action c.args.block.now c.args.acts.now actions unread are one in
+pub returns-in_err-perform-clause-performed : goal.returns-in_err-perform-clause-performed
+returns-in_err-perform-clause-performed c =
+    let i : ℕ = c.loop-act.act-index in
+    let x = err_from_is_err_and c.from_residual.result c.from_residual.ensures.1 in
+    λ actions state are.
+    let n = action_here c.args.block.now c.args.acts.now actions i unread are c.loop-act-test.true in
     let p : Position = index c.args.block.now state c.args.frame.now c.args.meter.now.left c.args.emits.now in
+    let m : Position = index c.args.block.now state c.loop-act.frame c.loop-act.meter.left c.loop-act.emits in
     let q : Position = index c.args.block.now state c.perform.new.frame c.perform.new.meter.left c.perform.new.emits in
-    subst (λ (l : List Action). Ended c.perform.result (Acts c.args.block.now l c.args.meter.now.left) p q) (sym n.1.1) (c.perform.ensures.performed n.0 state n.1.0)
+    let left : ℕ = c.loop-act.meter.left in
+    let ended = subst (λ (r : Result (Unit {0}) Halt). Ended r (Acts c.args.block.now (n.action ∷ []) left) m q) c.in_err-perform.was (c.perform.ensures.performed n.action state n.is) in
+    rw (x.1, x.2)
+    (ended_early c.in_err-perform.field-0.0 (Acts c.args.block.now (n.action ∷ []) left) (Acts c.args.block.now actions c.args.meter.now.left) p m q
+    (λ r one. c.loop-act.invariant.performed actions state are (Some r) q
+    (subst (λ (l : List Action). Acts c.args.block.now l left m (Some r) q) (sym n.here) (no_next_acts c.args.block.now n.action (drop (i + 1) actions) m q left r one)))
+    ended)
+
+pub loop-act-preserved : goal.loop-act-preserved
+loop-act-preserved c =
+    let i : ℕ = c.loop-act.act-index in
+    let left : ℕ = c.loop-act.meter.left in
+    record {
+      performed = λ actions state are stop q rest.
+          let n = action_here c.args.block.now c.args.acts.now actions i unread are c.loop-act-test.true in
+          let m : Position = index c.args.block.now state c.loop-act.frame c.loop-act.meter.left c.loop-act.emits in
+          let o : Position = index c.args.block.now state c.perform.new.frame c.perform.new.meter.left c.perform.new.emits in
+          let one = subst (λ (r : Result (Unit {0}) Halt). Ended r (Acts c.args.block.now (n.action ∷ []) left) m o) c.in_ok-perform.was (c.perform.ensures.performed n.action state n.is) in
+          c.loop-act.invariant.performed actions state are stop q
+          (subst (λ (l : List Action). Acts c.args.block.now l left m stop q) (sym n.here)
+          (next_acts c.args.block.now n.action (drop (i + 1) actions) m o q left stop one rest));
+      declared = c.perform.ensures.declared ∙ c.loop-act.invariant.declared;
+      fewer = let a = c.perform.ensures.fewer in let b = c.loop-act.invariant.fewer in omega arith;
+      well_formed = λ all. c.perform.ensures.well_formed (c.loop-act.invariant.well_formed all);
+    }
+
+pub returns-clause-performed : goal.returns-clause-performed
+returns-clause-performed c = λ actions state are.
+    let i : ℕ = c.loop-act.act-index in
+    let m : Position = index c.args.block.now state c.loop-act.frame c.loop-act.meter.left c.loop-act.emits in
+    let over : length c.args.acts.now ≤ i = let f = c.loop-act-test.false in omega arith in
+    c.loop-act.invariant.performed actions state are None m
+    (subst (λ (l : List Action). Acts c.args.block.now l c.loop-act.meter.left m None m) (sym (no_action_left c.args.block.now c.args.acts.now actions i are over)) (refl, refl))

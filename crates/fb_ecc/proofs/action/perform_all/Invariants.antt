@@ -6,7 +6,7 @@ use Rattle.fb_types.specs.declared.value.Reason.{Reason}
 use Rattle.fb_st.specs.Frames.{declared_in}
 use Rattle.fb_ecc.specs.Actions.{AreActions}
 use Rattle.fb_ecc.specs.Indexes.{IsWellFormed, index}
-use Rattle.fb_ecc.proofs.action.perform_each.Given as goal
+use Rattle.fb_ecc.proofs.action.perform_all.Given as goal
 
 -- what the rest of the actions does from here, all do from the start
 abbrev pub invariant-loop-act : goal.invariant-loop-act
