@@ -34,27 +34,9 @@ fn shown_values(alloc: Global, slots: &[usize], frame: &Frame) -> Result<Values,
     Ok(values)
 }
 
-/// Emits the output event at an index with what the variables of slots hold. Mostly there is one variable, and then
-/// there is no list of values.
-#[inline(always)]
-fn emit_with(
-    event: u32,
-    slots: &[usize],
-    frame: &Frame,
-    emits: &mut Emits,
-) -> Result<(), AllocError>
-    ensures ok { OnOk result ((names : List Name) → AreAt (declared_in frame.now) names slots.now → emits.new ≡ emits.old ++ record { event = event; values = map (values_of frame.now) names } ∷ []) }
-    ensures err { OnErr result (emits.new ≡ emits.old) }
-{
-    if let [slot] = slots {
-        return emits.push_one(event, frame.value_at(*slot));
-    }
-    emit_with_several(event, slots, frame, emits)
-}
-
-/// The same as `emit_with`, for any variables.
+/// Emits the output event at an index with what the variables of slots hold.
 #[inline(never)]
-fn emit_with_several(
+fn emit_several(
     event: u32,
     slots: &[usize],
     frame: &Frame,
@@ -86,8 +68,14 @@ fn emit(
 {
     match event {
         Some(event) => {
+            // for the prover: how many event outputs there are
             block.ports.event_outputs.count();
-            emit_with(event as u32, shown[event].as_slice(), frame, emits)
+            let slots = shown[event].as_slice();
+            // With one variable, as mostly, there is no list of values.
+            if let [slot] = slots {
+                return emits.push_one(event as u32, frame.value_at(*slot));
+            }
+            emit_several(event as u32, slots, frame, emits)
         }
         None => Ok(()),
     }
