@@ -14,7 +14,7 @@ use Rattle.fb_types.specs.declared.run.Halt.{Halt}
 use Rattle.fb_types.specs.declared.run.Halt.TheVariants as halt
 use Rattle.fb_types.specs.declared.value.Value.{Value}
 use Rattle.fb_types.specs.Values.{Values}
-use Rattle.fb_types.specs.Charts.{Position, Moving, Acts, Links, Trial, Clears, NoneClears, Fails, Rests, Enters, trial_at, trial_of, is_true, leaving, actions_of, ChartReacts}
+use Rattle.fb_types.specs.Charts.{Position, Moving, Acts, Links, Trial, Clears, NoneClears, Fails, Rests, Enters, trial_at, trial_of, is_true, leaving, actions_of}
 use Rattle.fb_types.specs.declared.library.Action.{Action}
 use Rattle.fb_types.specs.declared.library.BasicType.{BasicType}
 use Rattle.fb_types.specs.declared.library.EventPort.{EventPort}
@@ -260,14 +260,6 @@ pub chain_early :
     → ((stop : Option Reason) → Chain t present m stop q → Chain t first p stop q) → Linked t (Err h) present m q → Ended (Err h) (Chain t first) p q
 chain_early t (halt.Stop r) first present p m q goes run = goes (Some r) run
 chain_early t halt.Memory first present p m q goes run = run
-
--- the first link came, and then the rest of the chain
-pub chain_on :
-    (t : BasicType) (result : Result (Unit {0}) Halt) (first : Option Name) (p m q : Position)
-    → ((stop : Option Reason) → Chain t None m stop q → Chain t first p stop q) → Ended result (Chain t None) m q → Ended result (Chain t first) p q
-chain_on t (Ok u) first p m q goes run = goes None run
-chain_on t (Err (halt.Stop r)) first p m q goes run = goes (Some r) run
-chain_on t (Err halt.Memory) first p m q goes run = tt
 
 -- ---- Sampling
 

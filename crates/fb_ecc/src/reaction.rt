@@ -1,12 +1,12 @@
 //! The reaction of a basic block to an event.
 
-ghost use Rattle.std.specs.Prelude.{◌≡◌, ◌+◌, ◌<◌, ◌≤◌, List, All, IfErr, IfSome, OnOk, IfOk, None, Ok, Some, length, option_map, true, false};
-ghost use Rattle.fb_types.specs.Charts.{Acts, ChartReacts, Position, actions_of};
+ghost use Rattle.std.specs.Prelude.{◌≡◌, ◌+◌, ◌<◌, ◌≤◌, List, All, IfErr, IfSome, IfOk, None, Ok, Some, length, option_map, true, false};
+ghost use Rattle.fb_types.specs.Charts.{Acts, ChartReacts, actions_of};
 ghost use Rattle.fb_types.specs.Names.{Name};
 ghost use Rattle.fb_types.specs.Numbers.{event_at, pair_up};
 ghost use Rattle.fb_types.specs.Reactions.{with_values};
 ghost use Rattle.fb_st.specs.Frames.{declared_in, values_of};
-ghost use Rattle.fb_ecc.specs.Links.{Chain, Linked};
+ghost use Rattle.fb_ecc.specs.Links.{Linked};
 ghost use Rattle.fb_ecc.specs.Located.{AreAt};
 ghost use Rattle.fb_ecc.specs.Indexes.{Ended, IsBlockOf, IsWellFormed, index, sampled, state_at};
 ghost use Rattle.fb_ecc.specs.Sound.{IsSound};
@@ -123,25 +123,6 @@ fn link(
     }
 }
 
-/// The links of a chain after the first, in which no event is present any more.
-#[inline(always)]
-fn follow(
-    state: &mut BasicState,
-    block: &BasicType,
-    meter: &mut Meter,
-    emits: &mut Emits,
-) -> Result<(), Halt>
-    requires sound { IsSound block.now }
-    requires block { IsBlockOf block.now state.old }
-    ensures followed { Ended result (Chain block.now None) (index block.now state.old.state state.old.frame meter.old.left emits.old) (index block.now state.new.state state.new.frame meter.new.left emits.new) }
-    ensures block { IsBlockOf block.now state.new }
-    ensures fewer { meter.new.left ≤ meter.old.left }
-    ensures well_formed { let IsFit = IsWellFormed block.now in All IsFit emits.old → All IsFit emits.new }
-{
-    while link(state, block, None, meter, emits)? {}
-    Ok(())
-}
-
 /// The reaction of a basic block to the event input at an index of its event inputs. `values` are the sampled
 /// values of the variables WITH the event, in the order of the declaration. The event is present in the first
 /// trial of the transitions only. Each transition that is tried and each action that is performed costs a
@@ -174,8 +155,9 @@ pub fn react(
     let event = event as usize;
     let slots = state.chart.sampled()[event].as_slice();
     sample(slots, values, &mut state.frame);
-    if link(state, block, Some(event), meter, emits)? {
-        return follow(state, block, meter, emits);
+    let mut present = Some(event);
+    'links: while link(state, block, present, meter, emits)? {
+        present = None;
     }
     Ok(())
 }
