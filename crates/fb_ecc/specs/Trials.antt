@@ -1,11 +1,8 @@
 -- Transitions and events by their indexes (IEC 61499-1, 5.2; that they are distinguished by indexes is this project's profile).
-use Rattle.std.specs.Prelude.{◌≡◌, ℕ, List, [], map, unwrap_or, slice_get, nat_eq, Option, Some, None, Bool, true, false, Result, Ok, Err}
-use Rattle.fb_types.specs.Charts.{Trial, Clears, NoneClears, Fails}
+use Rattle.std.specs.Prelude.{◌≡◌, ℕ, List, [], map, unwrap_or, slice_get, nat_eq, Option, Some, None, Bool, true, false}
 use Rattle.fb_types.specs.declared.library.BasicType.{BasicType}
 use Rattle.fb_types.specs.declared.library.Transition.{Transition}
-use Rattle.fb_types.specs.declared.value.Reason.{Reason}
 use Rattle.fb_ecc.specs.Numbered.{exit_of}
-use Rattle.fb_ecc.specs.Indexes.{state_at}
 use Rattle.fb_ecc.specs.declared.chart.Exit.{Exit}
 
 abbrev pub nowhere : Transition
@@ -27,9 +24,3 @@ abbrev pub is_number_present : Option ℕ → Option ℕ → Bool
 is_number_present None present = true
 is_number_present (Some e) None = false
 is_number_present (Some e) (Some f) = nat_eq e f
-
--- what trying the transitions came to
-abbrev pub trial : BasicType → Result (Option ℕ) Reason → (left : ℕ) → Trial
-trial t (Ok None) left = NoneClears left
-trial t (Ok (Some target)) left = Clears (state_at t target) left
-trial t (Err r) left = Fails r left

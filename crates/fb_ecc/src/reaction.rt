@@ -14,7 +14,7 @@ ghost use Rattle.fb_ecc.specs.Sound.{IsSound};
 use crate::action::perform_all;
 use crate::chart::ChartState;
 use crate::state::BasicState;
-use crate::trial::cleared;
+use crate::trial::first_exit;
 use fb_st::{Frame, Meter};
 use fb_types::{BasicType, Emits, Halt, Reason, Value};
 
@@ -113,8 +113,9 @@ fn link(
 {
     let exits = state.chart.leaving(state.state);
     let program = state.chart.program();
-    match cleared(block, program, exits, present, &state.frame, meter)? {
-        Some(target) => {
+    match first_exit(block, program, exits, present, &state.frame, meter)? {
+        Some(exit) => {
+            let target = exit.target;
             enter(state, block, target, meter, emits)?;
             let row = &state.chart.rows()[target];
             Ok(goes_on(row, meter)?)

@@ -5,20 +5,18 @@ ghost use Rattle.fb_types.specs.Charts.{Acts, actions_of, leaving, trial_of};
 ghost use Rattle.fb_types.specs.Numbers.{event_at};
 ghost use Rattle.fb_types.specs.declared.library.Action.{Action};
 ghost use Rattle.fb_types.specs.declared.library.BasicType.{BasicType as Basic};
-ghost use Rattle.fb_st.specs.Frames.{declared_in, values_of};
+ghost use Rattle.fb_st.specs.Frames.{values_of};
 ghost use Rattle.fb_ecc.specs.Indexes.{Ended, IsBlockOf, IsWellFormed, index as index_of, sampled, state_at};
-ghost use Rattle.fb_ecc.specs.Programs.{IsProgramOf};
-ghost use Rattle.fb_ecc.specs.Sound.{Each, IsSound, declared_by};
-ghost use Rattle.fb_ecc.specs.Steps.{IsFirst, acts_at, clearing_exit, clearing_index, first_true, trial_at_exit, trial_by};
-ghost use Rattle.fb_ecc.specs.Trials.{IsExit, transition_at, transitions_at};
+ghost use Rattle.fb_ecc.specs.Sound.{Each, IsSound};
+ghost use Rattle.fb_ecc.specs.Steps.{IsFirst, acts_at, clearing_index, trial_by};
+ghost use Rattle.fb_ecc.specs.Trials.{transition_at};
 
 use crate::action::perform;
-use crate::chart::{Act, ChartState, Exit};
-use crate::program::Program;
+use crate::chart::{Act, ChartState};
 use crate::reaction::sample;
 use crate::state::BasicState;
-use crate::trial::is_true;
-use fb_st::{Frame, Meter};
+use crate::trial::first_exit;
+use fb_st::Meter;
 use fb_types::{BasicType, Emits, Halt, Reason, Value};
 
 /// A reaction begins: gives the variables WITH an event the values that were sampled.
@@ -32,40 +30,6 @@ pub fn begin(state: &mut BasicState, block: &BasicType, event: u32, values: &[Va
 {
     let slots = state.chart.sampled()[event as usize].as_slice();
     sample(slots, values, &mut state.frame);
-}
-
-/// The first exit whose condition is true. Each one that is tried costs a step.
-fn first_exit(
-    block: &BasicType,
-    program: &Program,
-    exits: &[Exit],
-    present: Option<usize>,
-    frame: &Frame,
-    meter: &mut Meter,
-) -> Result<Option<Exit>, Reason>
-    requires sound { IsSound block.now }
-    requires program { IsProgramOf block.now program.now }
-    requires declared { declared_in frame.now ≡ declared_by block.now }
-    requires exits { Each (IsExit block.now) exits.now }
-    requires present { IfSome present (λ event. event < length block.now.ports.event_inputs) }
-    ensures trial { let event = option_map (event_at block.now.ports.event_inputs) present in
-        trial_of (transitions_at block.now exits.now) event (values_of frame.now) meter.old.left
-        ≡ trial_at_exit block.now result meter.new.left }
-    ensures first { let event = option_map (event_at block.now.ports.event_inputs) present in
-        IfOk result (λ o. IfSome o (λ e. first_true (transitions_at block.now exits.now) event (values_of frame.now) ≡ Some (transition_at block.now e.transition))) }
-    ensures clearing { let event = option_map (event_at block.now.ports.event_inputs) present in
-        IfOk result (λ o. IfSome o (λ e. clearing_exit block.now exits.now event (values_of frame.now) ≡ Some e)) }
-    ensures exit { IfOk result (λ o. IfSome o (IsExit block.now)) }
-    ensures fewer { meter.new.left ≤ meter.old.left }
-    ensures less { IfOk result (λ o. OnSome o (meter.new.left < meter.old.left)) }
-{
-    for exit in exits {
-        meter.step()?;
-        if is_true(block, program, exit, present, frame)? {
-            return Ok(Some(*exit));
-        }
-    }
-    Ok(None)
 }
 
 /// Enters the target of the first transition whose condition is true, and answers the index of the transition among

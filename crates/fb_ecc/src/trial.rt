@@ -1,12 +1,13 @@
 //! Which transition clears.
 
-ghost use Rattle.std.specs.Prelude.{◌≡◌, ◌≤◌, ◌<◌, length, option_map, IfOk, OnSome, IfSome, if◌then◌else◌, Ok, false};
+ghost use Rattle.std.specs.Prelude.{◌≡◌, ◌≤◌, ◌<◌, length, option_map, IfOk, OnSome, IfSome, if◌then◌else◌, Ok, Some, false};
 ghost use Rattle.fb_types.specs.Charts.{guard_value, trial_of};
 ghost use Rattle.fb_types.specs.Numbers.{event_at};
 ghost use Rattle.fb_st.specs.Frames.{declared_in, values_of};
 ghost use Rattle.fb_ecc.specs.Programs.{IsProgramOf};
 ghost use Rattle.fb_ecc.specs.Sound.{Each, IsSound, declared_by};
-ghost use Rattle.fb_ecc.specs.Trials.{IsExit, transition_at, transitions_at, is_number_present, trial};
+ghost use Rattle.fb_ecc.specs.Steps.{clearing_exit, first_true, trial_at_exit};
+ghost use Rattle.fb_ecc.specs.Trials.{IsExit, transition_at, transitions_at, is_number_present};
 
 use crate::chart::Exit;
 use crate::program::Program;
@@ -53,7 +54,7 @@ fn is_guard_true(
 
 /// Whether the condition of a transition is true. A guard after an event is evaluated only when that event is present.
 #[inline(always)]
-pub(crate) fn is_true(
+fn is_true(
     block: &BasicType,
     program: &Program,
     exit: &Exit,
@@ -72,32 +73,36 @@ pub(crate) fn is_true(
     }
 }
 
-/// The state to which the first true transition leads, in the order of the text. Each transition that is
-/// tried costs a step.
+/// The first exit whose condition is true, in the order of the text. Each one that is tried costs a step.
 #[inline(always)]
-pub(crate) fn cleared(
+pub(crate) fn first_exit(
     block: &BasicType,
     program: &Program,
     exits: &[Exit],
     present: Option<usize>,
     frame: &Frame,
     meter: &mut Meter,
-) -> Result<Option<usize>, Reason>
+) -> Result<Option<Exit>, Reason>
     requires sound { IsSound block.now }
     requires program { IsProgramOf block.now program.now }
     requires declared { declared_in frame.now ≡ declared_by block.now }
     requires exits { Each (IsExit block.now) exits.now }
     requires present { IfSome present (λ event. event < length block.now.ports.event_inputs) }
     ensures trial { let event = option_map (event_at block.now.ports.event_inputs) present in
-        trial_of (transitions_at block.now exits.now) event (values_of frame.now) meter.old.left ≡ trial block.now result meter.new.left }
-    ensures target { IfOk result (λ cleared. IfSome cleared (λ target. target < length block.now.states)) }
+        trial_of (transitions_at block.now exits.now) event (values_of frame.now) meter.old.left
+        ≡ trial_at_exit block.now result meter.new.left }
+    ensures first { let event = option_map (event_at block.now.ports.event_inputs) present in
+        IfOk result (λ o. IfSome o (λ e. first_true (transitions_at block.now exits.now) event (values_of frame.now) ≡ Some (transition_at block.now e.transition))) }
+    ensures clearing { let event = option_map (event_at block.now.ports.event_inputs) present in
+        IfOk result (λ o. IfSome o (λ e. clearing_exit block.now exits.now event (values_of frame.now) ≡ Some e)) }
+    ensures exit { IfOk result (λ o. IfSome o (IsExit block.now)) }
     ensures fewer { meter.new.left ≤ meter.old.left }
-    ensures less { IfOk result (λ cleared. OnSome cleared (meter.new.left < meter.old.left)) }
+    ensures less { IfOk result (λ o. OnSome o (meter.new.left < meter.old.left)) }
 {
     for exit in exits {
         meter.step()?;
         if is_true(block, program, exit, present, frame)? {
-            return Ok(Some(exit.target));
+            return Ok(Some(*exit));
         }
     }
     Ok(None)

@@ -5,7 +5,7 @@ use Rattle.fb_types.specs.Numbers.{event_at}
 use Rattle.fb_st.specs.Frames.{values_of}
 use Rattle.fb_ecc.specs.Steps.{clearing_exit, first_true}
 use Rattle.fb_ecc.specs.Trials.{transitions_at}
-use Rattle.fb_ecc.proofs.steps.first_exit.Given as goal
+use Rattle.fb_ecc.proofs.trial.first_exit.Given as goal
 
 -- trying all from the start has the result of trying the rest from here
 abbrev pub invariant-loop-exit : goal.invariant-loop-exit

@@ -9,7 +9,7 @@ use Rattle.fb_st.specs.Frames.{values_of}
 use Rattle.fb_ecc.specs.declared.chart.Exit.{Exit}
 use Rattle.fb_ecc.proofs.Trials.{tried, not_tried, condition_meant, exit_here}
 use Rattle.fb_ecc.proofs.Stepwise.{clearing_tried, first_tried}
-use Rattle.fb_ecc.proofs.steps.first_exit.Goals as goal
+use Rattle.fb_ecc.proofs.trial.first_exit.Goals as goal
 
 abbrev unread : Exit
 unread = record { transition = 0; event = None; is_guarded = false; target = 0 }
