@@ -9,3 +9,4 @@ pub mod Sound
 pub mod Trials
 pub mod Steps
 pub mod Programs
+pub mod Blocks

@@ -1,6 +1,6 @@
 //! The actions of a state.
 
-ghost use Rattle.std.specs.Prelude.{◌≡◌, ◌≤◌, ◌++◌, ◌∷◌, [], All, IfOk, OnErr, OnOk, length, map, slice_get, ℕ, List, Option, None, Some};
+ghost use Rattle.std.specs.Prelude.{◌≡◌, ◌≤◌, ◌++◌, ◌∷◌, [], IfOk, OnErr, OnOk, map, slice_get, ℕ, List, Option, None, Some};
 ghost use Rattle.fb_types.specs.Names.{Name};
 ghost use Rattle.fb_types.specs.Charts.{Acts, Halts, Performs, Position, emitting};
 ghost use Rattle.fb_types.specs.Bodies.{RunsAll};
@@ -9,11 +9,12 @@ ghost use Rattle.fb_types.specs.declared.library.Action.{Action};
 ghost use Rattle.fb_types.specs.declared.library.Algorithm.{Algorithm};
 ghost use Rattle.fb_st.specs.Flows.{end_of, point};
 ghost use Rattle.fb_st.specs.Frames.{declared_in, types_in, values_of};
+ghost use Rattle.fb_ecc.specs.Blocks.{AreShown, IsFrameOf, StillFit};
 ghost use Rattle.fb_ecc.specs.Actions.{AreActions, IsAction, IsAlgorithm, IsOutput, Stopped, with_slots};
-ghost use Rattle.fb_ecc.specs.Located.{AreAt, slots_with_each};
-ghost use Rattle.fb_ecc.specs.Indexes.{Ended, IsWellFormed, index};
+ghost use Rattle.fb_ecc.specs.Located.{AreAt};
+ghost use Rattle.fb_ecc.specs.Indexes.{Ended, index};
 ghost use Rattle.fb_ecc.specs.Programs.{IsProgramOf, IsSharedOf};
-ghost use Rattle.fb_ecc.specs.Sound.{Each, IsSound, declared_by};
+ghost use Rattle.fb_ecc.specs.Sound.{Each, IsSound};
 
 use crate::chart::Act;
 use crate::program::Program;
@@ -59,12 +60,12 @@ fn emit(
     emits: &mut Emits,
 ) -> Result<(), AllocError>
     requires sound { IsSound block.now }
-    requires declared { declared_in frame.now ≡ declared_by block.now }
-    requires shown { shown.now ≡ slots_with_each block.now.ports.event_outputs block.now.ports.outputs (length block.now.ports.inputs) }
+    requires declared { IsFrameOf block.now frame.now }
+    requires shown { AreShown block.now shown.now }
     requires event { (name : Option Name) × IsOutput block.now event name }
     ensures emitted { (name : Option Name) (state left : ℕ) → IsOutput block.now event name →
         OnOk result (index block.now state frame.now left emits.new ≡ emitting block.now name (index block.now state frame.now left emits.old)) }
-    ensures well_formed { let IsFit = IsWellFormed block.now in All IsFit emits.old → All IsFit emits.new }
+    ensures well_formed { StillFit block.now emits.old emits.new }
 {
     match event {
         Some(event) => {
@@ -92,7 +93,7 @@ fn exec_at(
 ) -> Result<Flow, Reason>
     requires sound { IsSound block.now }
     requires program { IsProgramOf block.now program.now }
-    requires declared { declared_in frame.old ≡ declared_by block.now }
+    requires declared { IsFrameOf block.now frame.old }
     requires algorithm { (a : Algorithm) × (slice_get block.now.algorithms algorithm ≡ Some a) }
     ensures run { (a : Algorithm) → slice_get block.now.algorithms algorithm ≡ Some a →
         RunsAll (types_in (declared_in frame.old)) (body_of a.body) (point frame.old meter.old) (end_of result) (point frame.new meter.new) }
@@ -117,7 +118,7 @@ fn run(
 ) -> Result<(), Reason>
     requires sound { IsSound block.now }
     requires program { IsProgramOf block.now program.now }
-    requires declared { declared_in frame.old ≡ declared_by block.now }
+    requires declared { IsFrameOf block.now frame.old }
     requires algorithm { (name : Option Name) × IsAlgorithm block.now algorithm name }
     ensures performed { (name : Option Name) (p : Position) → IsAlgorithm block.now algorithm name →
         Stopped result (Performs block.now name (Halts None)) (with_slots p frame.old meter.old.left) (with_slots p frame.new meter.new.left) }
@@ -143,14 +144,14 @@ pub(crate) fn perform(
 ) -> Result<(), Halt>
     requires sound { IsSound block.now }
     requires program { IsProgramOf block.now program.now }
-    requires declared { declared_in frame.old ≡ declared_by block.now }
-    requires shown { shown.now ≡ slots_with_each block.now.ports.event_outputs block.now.ports.outputs (length block.now.ports.inputs) }
+    requires declared { IsFrameOf block.now frame.old }
+    requires shown { AreShown block.now shown.now }
     requires act { (a : Action) × IsAction block.now act a }
     ensures performed { (a : Action) (state : ℕ) → IsAction block.now act a →
         Ended result (Acts block.now (a ∷ []) meter.old.left) (index block.now state frame.old meter.old.left emits.old) (index block.now state frame.new meter.new.left emits.new) }
     ensures declared { declared_in frame.new ≡ declared_in frame.old }
     ensures fewer { meter.new.left ≤ meter.old.left }
-    ensures well_formed { let IsFit = IsWellFormed block.now in All IsFit emits.old → All IsFit emits.new }
+    ensures well_formed { StillFit block.now emits.old emits.new }
 {
     meter.step()?;
     run(block, program, act.algorithm, frame, meter)?;
@@ -170,13 +171,13 @@ pub(crate) fn perform_all(
 ) -> Result<(), Halt>
     requires sound { IsSound block.now }
     requires chart { IsSharedOf block.now chart.now }
-    requires declared { declared_in frame.old ≡ declared_by block.now }
+    requires declared { IsFrameOf block.now frame.old }
     requires acts { (actions : List Action) × AreActions block.now acts.now actions }
     ensures performed { (actions : List Action) (state : ℕ) → AreActions block.now acts.now actions →
         Ended result (Acts block.now actions meter.old.left) (index block.now state frame.old meter.old.left emits.old) (index block.now state frame.new meter.new.left emits.new) }
     ensures declared { declared_in frame.new ≡ declared_in frame.old }
     ensures fewer { meter.new.left ≤ meter.old.left }
-    ensures well_formed { let IsFit = IsWellFormed block.now in All IsFit emits.old → All IsFit emits.new }
+    ensures well_formed { StillFit block.now emits.old emits.new }
 {
     let program = chart.program();
     let shown = chart.shown();

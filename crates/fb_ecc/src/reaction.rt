@@ -1,14 +1,15 @@
 //! The reaction of a basic block to an event.
 
-ghost use Rattle.std.specs.Prelude.{◌≡◌, ◌+◌, ◌<◌, ◌≤◌, List, All, IfErr, IfSome, IfOk, None, Ok, Some, length, option_map, true, false};
+ghost use Rattle.std.specs.Prelude.{◌≡◌, ◌+◌, ◌<◌, ◌≤◌, List, IfErr, IfOk, None, Ok, Some, length, true, false};
 ghost use Rattle.fb_types.specs.Charts.{Acts, ChartReacts, actions_of};
 ghost use Rattle.fb_types.specs.Names.{Name};
 ghost use Rattle.fb_types.specs.Numbers.{event_at, pair_up};
 ghost use Rattle.fb_types.specs.Reactions.{with_values};
 ghost use Rattle.fb_st.specs.Frames.{declared_in, values_of};
+ghost use Rattle.fb_ecc.specs.Blocks.{IsInput, StillFit, input_named};
 ghost use Rattle.fb_ecc.specs.Links.{Linked};
 ghost use Rattle.fb_ecc.specs.Located.{AreAt};
-ghost use Rattle.fb_ecc.specs.Indexes.{Ended, IsBlockOf, IsWellFormed, index, sampled, state_at};
+ghost use Rattle.fb_ecc.specs.Indexes.{Ended, IsBlockOf, index, sampled, state_at};
 ghost use Rattle.fb_ecc.specs.Sound.{IsSound};
 
 use crate::action::perform_all;
@@ -63,7 +64,7 @@ fn enter(
     ensures state { state.new.state ≡ target }
     ensures block { IsBlockOf block.now state.new }
     ensures fewer { meter.new.left ≤ meter.old.left }
-    ensures well_formed { let IsFit = IsWellFormed block.now in All IsFit emits.old → All IsFit emits.new }
+    ensures well_formed { StillFit block.now emits.old emits.new }
 {
     state.state = target;
     let acts = state.chart.rows()[target].acts.as_slice();
@@ -103,13 +104,13 @@ fn link(
 ) -> Result<bool, Halt>
     requires sound { IsSound block.now }
     requires block { IsBlockOf block.now state.old }
-    requires present { IfSome present (λ event. event < length block.now.ports.event_inputs) }
-    ensures linked { let event = option_map (event_at block.now.ports.event_inputs) present in
+    requires present { IsInput block.now present }
+    ensures linked { let event = input_named block.now present in
         Linked block.now result event (index block.now state.old.state state.old.frame meter.old.left emits.old) (index block.now state.new.state state.new.frame meter.new.left emits.new) }
     ensures block { IsBlockOf block.now state.new }
     ensures fewer { meter.new.left ≤ meter.old.left }
     ensures less { IfOk result (λ went. went ≡ true → meter.new.left < meter.old.left) }
-    ensures well_formed { let IsFit = IsWellFormed block.now in All IsFit emits.old → All IsFit emits.new }
+    ensures well_formed { StillFit block.now emits.old emits.new }
 {
     let exits = state.chart.leaving(state.state);
     let program = state.chart.program();
@@ -151,7 +152,7 @@ pub fn react(
 
     // Also where memory runs out.
     ensures block { IsBlockOf block.now state.new }
-    ensures well_formed { let IsFit = IsWellFormed block.now in All IsFit emits.old → All IsFit emits.new }
+    ensures well_formed { StillFit block.now emits.old emits.new }
 {
     let event = event as usize;
     let slots = state.chart.sampled()[event].as_slice();

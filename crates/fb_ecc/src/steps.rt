@@ -1,12 +1,12 @@
 //! A chain of transitions, step by step, for callers that look at each one. `react` goes through the same steps.
 
-ghost use Rattle.std.specs.Prelude.{◌≡◌, ◌<◌, ◌≤◌, ◌∷◌, [], All, IfNone, IfOk, IfSome, OnErr, OnSome, Some, length, option_map, slice_get};
+ghost use Rattle.std.specs.Prelude.{◌≡◌, ◌<◌, ◌≤◌, ◌∷◌, [], IfNone, IfOk, IfSome, OnErr, OnSome, Some, length, slice_get};
 ghost use Rattle.fb_types.specs.Charts.{Acts, actions_of, leaving, trial_of};
-ghost use Rattle.fb_types.specs.Numbers.{event_at};
 ghost use Rattle.fb_types.specs.declared.library.Action.{Action};
 ghost use Rattle.fb_types.specs.declared.library.BasicType.{BasicType as Basic};
 ghost use Rattle.fb_st.specs.Frames.{values_of};
-ghost use Rattle.fb_ecc.specs.Indexes.{Ended, IsBlockOf, IsWellFormed, index as index_of, sampled, state_at};
+ghost use Rattle.fb_ecc.specs.Blocks.{IsInput, StillFit, input_named};
+ghost use Rattle.fb_ecc.specs.Indexes.{Ended, IsBlockOf, index as index_of, sampled, state_at};
 ghost use Rattle.fb_ecc.specs.Sound.{Each, IsSound};
 ghost use Rattle.fb_ecc.specs.Steps.{IsFirst, acts_at, clearing_index, trial_by};
 ghost use Rattle.fb_ecc.specs.Trials.{transition_at};
@@ -46,13 +46,13 @@ pub fn clear(
 ) -> Result<Option<usize>, Reason>
     requires sound { IsSound block.now }
     requires block { IsBlockOf block.now state.old }
-    requires present { IfSome present (λ event. event < length block.now.ports.event_inputs) }
-    ensures trial { let event = option_map (event_at block.now.ports.event_inputs) present in
+    requires present { IsInput block.now present }
+    ensures trial { let event = input_named block.now present in
         trial_of (leaving block.now (state_at block.now state.old.state)) event (values_of state.old.frame) meter.old.left
         ≡ trial_by block.now result meter.new.left }
-    ensures first { let event = option_map (event_at block.now.ports.event_inputs) present in
+    ensures first { let event = input_named block.now present in
         IfOk result (λ o. IfSome o (IsFirst block.now (state_at block.now state.old.state) event (values_of state.old.frame))) }
-    ensures index { let event = option_map (event_at block.now.ports.event_inputs) present in
+    ensures index { let event = input_named block.now present in
         IfOk result (λ o. IfSome o (λ k. clearing_index (state_at block.now state.old.state) 0 block.now.transitions event (values_of state.old.frame) ≡ Some k)) }
     ensures within { IfOk result (λ o. IfSome o (λ k. k < length block.now.transitions)) }
     ensures entered { IfOk result (λ o. IfSome o (λ k. state_at block.now state.new.state ≡ (transition_at block.now k).to)) }
@@ -111,7 +111,7 @@ pub fn act(
     ensures state { state.new.state ≡ state.old.state }
     ensures block { IsBlockOf block.now state.new }
     ensures fewer { meter.new.left ≤ meter.old.left }
-    ensures well_formed { let IsFit = IsWellFormed block.now in All IsFit emits.old → All IsFit emits.new }
+    ensures well_formed { StillFit block.now emits.old emits.new }
 {
     let acts = acts_of(state.chart.rows(), state.state);
     let program = state.chart.program();

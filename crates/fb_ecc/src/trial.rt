@@ -1,11 +1,11 @@
 //! Which transition clears.
 
-ghost use Rattle.std.specs.Prelude.{◌≡◌, ◌≤◌, ◌<◌, length, option_map, IfOk, OnSome, IfSome, if◌then◌else◌, Ok, Some, false};
+ghost use Rattle.std.specs.Prelude.{◌≡◌, ◌≤◌, ◌<◌, IfOk, OnSome, IfSome, if◌then◌else◌, Ok, Some, false};
 ghost use Rattle.fb_types.specs.Charts.{guard_value, trial_of};
-ghost use Rattle.fb_types.specs.Numbers.{event_at};
-ghost use Rattle.fb_st.specs.Frames.{declared_in, values_of};
+ghost use Rattle.fb_st.specs.Frames.{values_of};
+ghost use Rattle.fb_ecc.specs.Blocks.{IsFrameOf, IsInput, input_named};
 ghost use Rattle.fb_ecc.specs.Programs.{IsProgramOf};
-ghost use Rattle.fb_ecc.specs.Sound.{Each, IsSound, declared_by};
+ghost use Rattle.fb_ecc.specs.Sound.{Each, IsSound};
 ghost use Rattle.fb_ecc.specs.Steps.{clearing_exit, first_true, trial_at_exit};
 ghost use Rattle.fb_ecc.specs.Trials.{IsExit, transition_at, transitions_at, is_number_present};
 
@@ -36,7 +36,7 @@ fn is_guard_true(
 ) -> Result<bool, Reason>
     requires exit { IsExit block.now exit.now }
     requires program { IsProgramOf block.now program.now }
-    requires declared { declared_in frame.now ≡ declared_by block.now }
+    requires declared { IsFrameOf block.now frame.now }
     ensures { result ≡ guard_value (transition_at block.now exit.now.transition).condition.guard (values_of frame.now) }
 {
     if !exit.is_guarded {
@@ -63,7 +63,7 @@ fn is_true(
 ) -> Result<bool, Reason>
     requires exit { IsExit block.now exit.now }
     requires program { IsProgramOf block.now program.now }
-    requires declared { declared_in frame.now ≡ declared_by block.now }
+    requires declared { IsFrameOf block.now frame.now }
     ensures { result ≡ (if is_number_present exit.now.event present then guard_value (transition_at block.now exit.now.transition).condition.guard (values_of frame.now) else Ok false) }
 {
     if is_present(exit.event, present) {
@@ -85,15 +85,15 @@ pub(crate) fn first_exit(
 ) -> Result<Option<Exit>, Reason>
     requires sound { IsSound block.now }
     requires program { IsProgramOf block.now program.now }
-    requires declared { declared_in frame.now ≡ declared_by block.now }
+    requires declared { IsFrameOf block.now frame.now }
     requires exits { Each (IsExit block.now) exits.now }
-    requires present { IfSome present (λ event. event < length block.now.ports.event_inputs) }
-    ensures trial { let event = option_map (event_at block.now.ports.event_inputs) present in
+    requires present { IsInput block.now present }
+    ensures trial { let event = input_named block.now present in
         trial_of (transitions_at block.now exits.now) event (values_of frame.now) meter.old.left
         ≡ trial_at_exit block.now result meter.new.left }
-    ensures first { let event = option_map (event_at block.now.ports.event_inputs) present in
+    ensures first { let event = input_named block.now present in
         IfOk result (λ o. IfSome o (λ e. first_true (transitions_at block.now exits.now) event (values_of frame.now) ≡ Some (transition_at block.now e.transition))) }
-    ensures clearing { let event = option_map (event_at block.now.ports.event_inputs) present in
+    ensures clearing { let event = input_named block.now present in
         IfOk result (λ o. IfSome o (λ e. clearing_exit block.now exits.now event (values_of frame.now) ≡ Some e)) }
     ensures exit { IfOk result (λ o. IfSome o (IsExit block.now)) }
     ensures fewer { meter.new.left ≤ meter.old.left }
