@@ -1,14 +1,10 @@
 //! The actions of a state.
 
-ghost use Rattle.std.specs.Prelude.{◌≡◌, ◌≤◌, ◌++◌, ◌∷◌, [], IfOk, OnErr, OnOk, map, slice_get, ℕ, List, Option, None, Some};
+ghost use Rattle.std.specs.Prelude.{◌≡◌, ◌≤◌, ◌++◌, ◌∷◌, [], IfOk, OnErr, OnOk, map, ℕ, List, Option, None, Some};
 ghost use Rattle.fb_types.specs.Names.{Name};
 ghost use Rattle.fb_types.specs.Charts.{Acts, Halts, Performs, Position, emitting};
-ghost use Rattle.fb_types.specs.Bodies.{RunsAll};
-ghost use Rattle.fb_types.specs.Syntax.{body_of};
 ghost use Rattle.fb_types.specs.declared.library.Action.{Action};
-ghost use Rattle.fb_types.specs.declared.library.Algorithm.{Algorithm};
-ghost use Rattle.fb_st.specs.Flows.{end_of, point};
-ghost use Rattle.fb_st.specs.Frames.{declared_in, types_in, values_of};
+ghost use Rattle.fb_st.specs.Frames.{declared_in, values_of};
 ghost use Rattle.fb_ecc.specs.Blocks.{AreShown, IsFrameOf, StillFit};
 ghost use Rattle.fb_ecc.specs.Actions.{AreActions, IsAction, IsAlgorithm, IsOutput, Stopped, with_slots};
 ghost use Rattle.fb_ecc.specs.Located.{AreAt};
@@ -19,7 +15,7 @@ ghost use Rattle.fb_ecc.specs.Sound.{Each, IsSound};
 use crate::chart::Act;
 use crate::program::Program;
 use crate::shared::SharedChart;
-use fb_st::{Flow, Frame, Meter, exec, exec_compiled};
+use fb_st::{Frame, Meter, exec, exec_compiled};
 use fb_types::{BasicType, Emission, Emits, Halt, Items, Reason, Values};
 use std::alloc::{AllocError, Global};
 
@@ -82,32 +78,7 @@ fn emit(
     }
 }
 
-/// Runs the algorithm at an index, mostly in its compiled form.
-#[inline(always)]
-fn exec_at(
-    block: &BasicType,
-    program: &Program,
-    algorithm: usize,
-    frame: &mut Frame,
-    meter: &mut Meter,
-) -> Result<Flow, Reason>
-    requires sound { IsSound block.now }
-    requires program { IsProgramOf block.now program.now }
-    requires declared { IsFrameOf block.now frame.old }
-    requires algorithm { (a : Algorithm) × (slice_get block.now.algorithms algorithm ≡ Some a) }
-    ensures run { (a : Algorithm) → slice_get block.now.algorithms algorithm ≡ Some a →
-        RunsAll (types_in (declared_in frame.old)) (body_of a.body) (point frame.old meter.old) (end_of result) (point frame.new meter.new) }
-    ensures declared { declared_in frame.new ≡ declared_in frame.old }
-    ensures fewer { meter.new.left ≤ meter.old.left }
-{
-    let codes = program.body(algorithm);
-    match exec_compiled(codes, &program.layout, frame, meter) {
-        Some(result) => result,
-        None => exec(&block.algorithms.as_slice()[algorithm].body, frame, meter),
-    }
-}
-
-/// Runs the algorithm of an action, if it has one.
+/// Runs the algorithm of an action, if it has one: mostly in its compiled form.
 #[inline(always)]
 fn run(
     block: &BasicType,
@@ -125,10 +96,20 @@ fn run(
     ensures declared { declared_in frame.new ≡ declared_in frame.old }
     ensures fewer { meter.new.left ≤ meter.old.left }
 {
-    if let Some(algorithm) = algorithm {
-        exec_at(block, program, algorithm, frame, meter)?;
+    let Some(algorithm) = algorithm else {
+        return Ok(());
+    };
+    let codes = program.body(algorithm);
+    match exec_compiled(codes, &program.layout, frame, meter) {
+        Some(result) => match result {
+            Ok(_) => Ok(()),
+            Err(reason) => Err(reason),
+        },
+        None => {
+            exec(&block.algorithms.as_slice()[algorithm].body, frame, meter)?;
+            Ok(())
+        }
     }
-    Ok(())
 }
 
 /// One action: its algorithm, and then its output event.
