@@ -1,15 +1,16 @@
 //! The actions of a state.
 
-ghost use Rattle.std.specs.Prelude.{◌≡◌, ◌≤◌, ◌++◌, ◌∷◌, [], IfOk, OnErr, OnOk, map, ℕ, List, Option, None, Some};
+ghost use Rattle.std.specs.Prelude.{◌≡◌, ◌++◌, ◌∷◌, [], IfOk, OnErr, OnOk, map, ℕ, List, Option, None, Some};
 ghost use Rattle.fb_types.specs.Names.{Name};
 ghost use Rattle.fb_types.specs.Charts.{Acts, Halts, Performs, Position, emitting};
 ghost use Rattle.fb_types.specs.declared.library.Action.{Action};
+ghost use Rattle.fb_st.specs.FrameRuns.{IsKept};
 ghost use Rattle.fb_st.specs.Frames.{declared_in, values_of};
-ghost use Rattle.fb_ecc.specs.Blocks.{AreShown, IsFrameOf, StillFit};
+ghost use Rattle.fb_ecc.specs.Blocks.{AreKept, AreShown, IsFrameOf, MayRun, StillFit};
 ghost use Rattle.fb_ecc.specs.Actions.{AreActions, IsAction, IsAlgorithm, IsOutput, Stopped, with_slots};
 ghost use Rattle.fb_ecc.specs.Located.{AreAt};
 ghost use Rattle.fb_ecc.specs.Indexes.{Ended, index};
-ghost use Rattle.fb_ecc.specs.Programs.{IsProgramOf, IsSharedOf};
+ghost use Rattle.fb_ecc.specs.Programs.{IsSharedOf};
 ghost use Rattle.fb_ecc.specs.Sound.{Each, IsSound};
 
 use crate::chart::Act;
@@ -87,14 +88,11 @@ fn run(
     frame: &mut Frame,
     meter: &mut Meter,
 ) -> Result<(), Reason>
-    requires sound { IsSound block.now }
-    requires program { IsProgramOf block.now program.now }
-    requires declared { IsFrameOf block.now frame.old }
+    requires may { MayRun block.now program.now frame.old }
     requires algorithm { (name : Option Name) × IsAlgorithm block.now algorithm name }
     ensures performed { (name : Option Name) (p : Position) → IsAlgorithm block.now algorithm name →
         Stopped result (Performs block.now name (Halts None)) (with_slots p frame.old meter.old.left) (with_slots p frame.new meter.new.left) }
-    ensures declared { declared_in frame.new ≡ declared_in frame.old }
-    ensures fewer { meter.new.left ≤ meter.old.left }
+    ensures kept { IsKept frame.old meter.old frame.new meter.new }
 {
     let Some(algorithm) = algorithm else {
         return Ok(());
@@ -123,16 +121,12 @@ pub(crate) fn perform(
     meter: &mut Meter,
     emits: &mut Emits,
 ) -> Result<(), Halt>
-    requires sound { IsSound block.now }
-    requires program { IsProgramOf block.now program.now }
-    requires declared { IsFrameOf block.now frame.old }
+    requires may { MayRun block.now program.now frame.old }
     requires shown { AreShown block.now shown.now }
     requires act { (a : Action) × IsAction block.now act a }
     ensures performed { (a : Action) (state : ℕ) → IsAction block.now act a →
         Ended result (Acts block.now (a ∷ []) meter.old.left) (index block.now state frame.old meter.old.left emits.old) (index block.now state frame.new meter.new.left emits.new) }
-    ensures declared { declared_in frame.new ≡ declared_in frame.old }
-    ensures fewer { meter.new.left ≤ meter.old.left }
-    ensures well_formed { StillFit block.now emits.old emits.new }
+    ensures kept { AreKept block.now frame.old meter.old emits.old frame.new meter.new emits.new }
 {
     meter.step()?;
     run(block, program, act.algorithm, frame, meter)?;
@@ -156,9 +150,7 @@ pub(crate) fn perform_all(
     requires acts { (actions : List Action) × AreActions block.now acts.now actions }
     ensures performed { (actions : List Action) (state : ℕ) → AreActions block.now acts.now actions →
         Ended result (Acts block.now actions meter.old.left) (index block.now state frame.old meter.old.left emits.old) (index block.now state frame.new meter.new.left emits.new) }
-    ensures declared { declared_in frame.new ≡ declared_in frame.old }
-    ensures fewer { meter.new.left ≤ meter.old.left }
-    ensures well_formed { StillFit block.now emits.old emits.new }
+    ensures kept { AreKept block.now frame.old meter.old emits.old frame.new meter.new emits.new }
 {
     let program = chart.program();
     let shown = chart.shown();

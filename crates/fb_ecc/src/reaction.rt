@@ -6,7 +6,7 @@ ghost use Rattle.fb_types.specs.Names.{Name};
 ghost use Rattle.fb_types.specs.Numbers.{event_at, pair_up};
 ghost use Rattle.fb_types.specs.Reactions.{with_values};
 ghost use Rattle.fb_st.specs.Frames.{declared_in, values_of};
-ghost use Rattle.fb_ecc.specs.Blocks.{IsInput, StillFit, input_named};
+ghost use Rattle.fb_ecc.specs.Blocks.{IsInput, StaysOfType, StillFit, input_named};
 ghost use Rattle.fb_ecc.specs.Links.{Linked};
 ghost use Rattle.fb_ecc.specs.Located.{AreAt};
 ghost use Rattle.fb_ecc.specs.Indexes.{Ended, IsBlockOf, index, sampled, state_at};
@@ -62,9 +62,7 @@ fn enter(
     ensures performed { let actions = actions_of block.now (state_at block.now target) in
         Ended result (Acts block.now actions meter.old.left) (index block.now target state.old.frame meter.old.left emits.old) (index block.now state.new.state state.new.frame meter.new.left emits.new) }
     ensures state { state.new.state ≡ target }
-    ensures block { IsBlockOf block.now state.new }
-    ensures fewer { meter.new.left ≤ meter.old.left }
-    ensures well_formed { StillFit block.now emits.old emits.new }
+    ensures kept { StaysOfType block.now meter.old emits.old state.new meter.new emits.new }
 {
     state.state = target;
     let acts = state.chart.rows()[target].acts.as_slice();
@@ -107,10 +105,8 @@ fn link(
     requires present { IsInput block.now present }
     ensures linked { let event = input_named block.now present in
         Linked block.now result event (index block.now state.old.state state.old.frame meter.old.left emits.old) (index block.now state.new.state state.new.frame meter.new.left emits.new) }
-    ensures block { IsBlockOf block.now state.new }
-    ensures fewer { meter.new.left ≤ meter.old.left }
+    ensures kept { StaysOfType block.now meter.old emits.old state.new meter.new emits.new }
     ensures less { IfOk result (λ went. went ≡ true → meter.new.left < meter.old.left) }
-    ensures well_formed { StillFit block.now emits.old emits.new }
 {
     let exits = state.chart.leaving(state.state);
     let program = state.chart.program();

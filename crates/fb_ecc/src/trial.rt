@@ -3,9 +3,9 @@
 ghost use Rattle.std.specs.Prelude.{◌≡◌, ◌≤◌, ◌<◌, IfOk, OnSome, IfSome, if◌then◌else◌, Ok, Some, false};
 ghost use Rattle.fb_types.specs.Charts.{guard_value, trial_of};
 ghost use Rattle.fb_st.specs.Frames.{values_of};
-ghost use Rattle.fb_ecc.specs.Blocks.{IsFrameOf, IsInput, input_named};
+ghost use Rattle.fb_ecc.specs.Blocks.{IsFrameOf, IsInput, MayRun, input_named};
 ghost use Rattle.fb_ecc.specs.Programs.{IsProgramOf};
-ghost use Rattle.fb_ecc.specs.Sound.{Each, IsSound};
+ghost use Rattle.fb_ecc.specs.Sound.{Each};
 ghost use Rattle.fb_ecc.specs.Steps.{clearing_exit, first_true, trial_at_exit};
 ghost use Rattle.fb_ecc.specs.Trials.{IsExit, transition_at, transitions_at, is_number_present};
 
@@ -83,9 +83,7 @@ pub(crate) fn first_exit(
     frame: &Frame,
     meter: &mut Meter,
 ) -> Result<Option<Exit>, Reason>
-    requires sound { IsSound block.now }
-    requires program { IsProgramOf block.now program.now }
-    requires declared { IsFrameOf block.now frame.now }
+    requires may { MayRun block.now program.now frame.now }
     requires exits { Each (IsExit block.now) exits.now }
     requires present { IsInput block.now present }
     ensures trial { let event = input_named block.now present in

@@ -13,8 +13,12 @@ use Rattle.fb_ecc.proofs.action.perform_all.Goals as goal
 abbrev unread : Act
 unread = record { algorithm = None; output = None }
 
-pub perform-requires-clause-program : goal.perform-requires-clause-program
-perform-requires-clause-program c = subst (λ (p : Program). IsProgramOf c.args.block.now p) (sym c.program-program.ensures) c.requires.chart.program
+pub perform-requires-clause-may : goal.perform-requires-clause-may
+perform-requires-clause-may c = record {
+  sound = c.requires.sound;
+  program = subst (λ (p : Program). IsProgramOf c.args.block.now p) (sym c.program-program.ensures) c.requires.chart.program;
+  declared = c.loop-act.invariant.declared ∙ c.requires.declared;
+}
 
 pub perform-requires-clause-act : goal.perform-requires-clause-act
 perform-requires-clause-act c =
@@ -51,9 +55,9 @@ loop-act-preserved c =
           c.loop-act.invariant.performed actions state are stop q
           (subst (λ (l : List Action). Acts c.args.block.now l left m stop q) (sym n.here)
           (next_acts c.args.block.now n.action (drop (i + 1) actions) m o q left stop one rest));
-      declared = c.perform.ensures.declared ∙ c.loop-act.invariant.declared;
-      fewer = let a = c.perform.ensures.fewer in let b = c.loop-act.invariant.fewer in omega arith;
-      well_formed = λ all. c.perform.ensures.well_formed (c.loop-act.invariant.well_formed all);
+      declared = c.perform.ensures.kept.declared ∙ c.loop-act.invariant.declared;
+      fewer = let a = c.perform.ensures.kept.fewer in let b = c.loop-act.invariant.fewer in omega arith;
+      well_formed = λ all. c.perform.ensures.kept.well_formed (c.loop-act.invariant.well_formed all);
     }
 
 pub returns-clause-performed : goal.returns-clause-performed

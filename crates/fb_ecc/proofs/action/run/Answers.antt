@@ -24,10 +24,10 @@ exec_compiled-requires c =
     let name = c.requires.algorithm.0 in
     let n = algorithm_here t k name (subst (λ (o : Option ℕ). IsAlgorithm t o name) c.in-Some.is c.requires.algorithm.1) in
     record {
-      layout = c.requires.program.layout ∙ sym c.requires.declared;
+      layout = c.requires.may.program.layout ∙ sym c.requires.may.declared;
       says = (
         map stmt_of n.element.body.statements,
-        body_says c.args.program.now.layout t.algorithms c.args.program.now.bodies k n.element c.body-codes.result c.requires.program.bodies n.at c.body-codes.ensures,
+        body_says c.args.program.now.layout t.algorithms c.args.program.now.bodies k n.element c.body-codes.result c.requires.may.program.bodies n.at c.body-codes.ensures,
       );
     }
 
@@ -37,9 +37,9 @@ returns-in-Ok-clause-performed c = λ name p here.
     let k : ℕ = c.in-Some.algorithm in
     let n = algorithm_here t k name (subst (λ (o : Option ℕ). IsAlgorithm t o name) c.in-Some.is here) in
     let ran = c.in-Some-exec_compiled.ensures.run (map stmt_of n.element.body.statements)
-    (body_says c.args.program.now.layout t.algorithms c.args.program.now.bodies k n.element c.body-codes.result c.requires.program.bodies n.at c.body-codes.ensures) in
+    (body_says c.args.program.now.layout t.algorithms c.args.program.now.bodies k n.element c.body-codes.result c.requires.may.program.bodies n.at c.body-codes.ensures) in
     performed_ok t k name n n.element (declared_in c.args.frame.now) p c.args.frame.now c.exec_compiled.new.frame c.args.meter.now.left c.exec_compiled.new.meter.left
-    c.in-Some-exec_compiled.result c.in-Ok.field-0 n.at c.requires.declared c.in-Ok.is ran
+    c.in-Some-exec_compiled.result c.in-Ok.field-0 n.at c.requires.may.declared c.in-Ok.is ran
 
 pub returns-in-Err-clause-performed : goal.returns-in-Err-clause-performed
 returns-in-Err-clause-performed c = λ name p here.
@@ -47,9 +47,9 @@ returns-in-Err-clause-performed c = λ name p here.
     let k : ℕ = c.in-Some.algorithm in
     let n = algorithm_here t k name (subst (λ (o : Option ℕ). IsAlgorithm t o name) c.in-Some.is here) in
     let ran = c.in-Some-exec_compiled.ensures.run (map stmt_of n.element.body.statements)
-    (body_says c.args.program.now.layout t.algorithms c.args.program.now.bodies k n.element c.body-codes.result c.requires.program.bodies n.at c.body-codes.ensures) in
+    (body_says c.args.program.now.layout t.algorithms c.args.program.now.bodies k n.element c.body-codes.result c.requires.may.program.bodies n.at c.body-codes.ensures) in
     performed_err t k name n n.element (declared_in c.args.frame.now) p c.args.frame.now c.exec_compiled.new.frame c.args.meter.now.left c.exec_compiled.new.meter.left
-    c.in-Some-exec_compiled.result c.in-Err.reason n.at c.requires.declared c.in-Err.is ran
+    c.in-Some-exec_compiled.result c.in-Err.reason n.at c.requires.may.declared c.in-Err.is ran
 
 -- ---- The text
 
@@ -70,8 +70,8 @@ exec-requires c =
     let within = subst (λ (l : List Algorithm). k < length l) (sym c.as_slice.ensures) (slice_get_within t.algorithms k n.element n.at) in
     let y : Algorithm = get_or c.as_slice.result.now k c.index-as_slice-algorithm.result in
     record {
-      known = subst (λ (ds : List Declared). AllKnown ds (body_of y.body)) (sym (c.exec_compiled.ensures.declared ∙ c.requires.declared))
-          (c.requires.sound.bodies k y (read_here t k c.as_slice.result.now c.index-as_slice-algorithm.result c.as_slice.ensures within));
+      known = subst (λ (ds : List Declared). AllKnown ds (body_of y.body)) (sym (c.exec_compiled.ensures.declared ∙ c.requires.may.declared))
+          (c.requires.may.sound.bodies k y (read_here t k c.as_slice.result.now c.index-as_slice-algorithm.result c.as_slice.ensures within));
     }
 
 pub returns-in_err-exec-in-None-clause-performed : goal.returns-in_err-exec-in-None-clause-performed
@@ -94,7 +94,7 @@ returns-in_err-exec-in-None-clause-performed c =
     let ran = subst Read (same_Some y n.element (sym there ∙ n.at)) (subst Metered same.1 (subst Framed same.0 c.exec.ensures.run)) in
     rw (x.1, x.2)
     (performed_err t k name n n.element (declared_in c.args.frame.now) p c.args.frame.now c.exec.new.frame c.args.meter.now.left c.exec.new.meter.left
-    c.exec.result c.in_err-exec-in-None.field-0.0 n.at c.requires.declared c.in_err-exec-in-None.was ran)
+    c.exec.result c.in_err-exec-in-None.field-0.0 n.at c.requires.may.declared c.in_err-exec-in-None.was ran)
 
 pub returns-in_ok-exec-in-None-clause-performed : goal.returns-in_ok-exec-in-None-clause-performed
 returns-in_ok-exec-in-None-clause-performed c = λ name p here.
@@ -113,4 +113,4 @@ returns-in_ok-exec-in-None-clause-performed c = λ name p here.
     RunsAll (types_in (declared_in c.args.frame.now)) (body_of x.body) (point c.args.frame.now c.args.meter.now) (end_of c.exec.result) (point c.exec.new.frame c.exec.new.meter) in
     let ran = subst Read (same_Some y n.element (sym there ∙ n.at)) (subst Metered same.1 (subst Framed same.0 c.exec.ensures.run)) in
     performed_ok t k name n n.element (declared_in c.args.frame.now) p c.args.frame.now c.exec.new.frame c.args.meter.now.left c.exec.new.meter.left
-    c.exec.result c.in_ok-exec-in-None.field-0 n.at c.requires.declared c.in_ok-exec-in-None.was ran
+    c.exec.result c.in_ok-exec-in-None.field-0 n.at c.requires.may.declared c.in_ok-exec-in-None.was ran

@@ -22,8 +22,12 @@ use Rattle.fb_ecc.proofs.Links.{IsRow, exits_read, row_read, trial_here, linked_
 use Rattle.fb_ecc.proofs.Trials.{fails_waiting, none_waiting, target_meant}
 use Rattle.fb_ecc.proofs.reaction.link.Goals as goal
 
-pub first_exit-requires-clause-program : goal.first_exit-requires-clause-program
-first_exit-requires-clause-program c = subst (λ (p : Program). IsProgramOf c.args.block.now p) (sym c.program-program.ensures) c.requires.block.chart.program
+pub first_exit-requires-clause-may : goal.first_exit-requires-clause-may
+first_exit-requires-clause-may c = record {
+  sound = c.requires.sound;
+  program = subst (λ (p : Program). IsProgramOf c.args.block.now p) (sym c.program-program.ensures) c.requires.block.chart.program;
+  declared = c.requires.block.declared;
+}
 
 pub first_exit-requires-clause-exits : goal.first_exit-requires-clause-exits
 first_exit-requires-clause-exits c =
@@ -39,7 +43,7 @@ pub bounds-rows-target : goal.bounds-rows-target
 bounds-rows-target c =
     let t : BasicType = c.args.block.now in
     let leads = target_meant c.args.block.now c.in-Some.exit c.requires.sound (subst (λ (o : Option Exit). IfSome o (IsExit c.args.block.now)) c.in-Some.is c.in_ok-exit.ensures.exit) in
-    let rows : (chart_of t).rows ≡ c.rows.result.now = sym (c.rows.ensures ∙ ap (λ (x : Chart). x.rows) c.enter.ensures.block.chart.chart) in
+    let rows : (chart_of t).rows ≡ c.rows.result.now = sym (c.rows.ensures ∙ ap (λ (x : Chart). x.rows) c.enter.ensures.kept.block.chart.chart) in
     subst (λ (l : List ChartState). c.in-Some.exit.target < length l) rows
     (subst (λ (n : ℕ). c.in-Some.exit.target < n) (sym (length-map t.states (row_of t))) leads.within)
 
@@ -77,7 +81,7 @@ returns-in_err-goes_on-in-Some-clause-linked c =
     let moves = Acts t (actions_of t target) left in
     let ended = subst (λ (r : Result (Unit {0}) Halt). Ended r moves m q) c.in_ok-enter-in-Some.was c.enter.ensures.performed in
     let row = subst (λ (r : ChartState). IsRow t c.in-Some.exit.target r) (sym c.index-rows-target.is)
-    (row_read t s.chart.chart c.rows.result.now c.in-Some.exit.target c.index-rows-target.result c.requires.sound c.enter.ensures.block.chart.chart c.rows.ensures
+    (row_read t s.chart.chart c.rows.result.now c.in-Some.exit.target c.index-rows-target.result c.requires.sound c.enter.ensures.kept.block.chart.chart c.rows.ensures
     leads.within) in
     let leaving_is : transitions_at t c.index-rows-target.result.exits ≡ leaving t q.state = row.leaving_is ∙ ap (λ i. leaving t (state_at t i)) (sym c.enter.ensures.state) in
     let out = c.in_err-goes_on-in-Some.ensures.fails in
@@ -103,7 +107,7 @@ returns-in_ok-goes_on-in-Some-clause-linked c =
     let moves = Acts t (actions_of t target) left in
     let ended = subst (λ (r : Result (Unit {0}) Halt). Ended r moves m q) c.in_ok-enter-in-Some.was c.enter.ensures.performed in
     let row = subst (λ (r : ChartState). IsRow t c.in-Some.exit.target r) (sym c.index-rows-target.is)
-    (row_read t s.chart.chart c.rows.result.now c.in-Some.exit.target c.index-rows-target.result c.requires.sound c.enter.ensures.block.chart.chart c.rows.ensures
+    (row_read t s.chart.chart c.rows.result.now c.in-Some.exit.target c.index-rows-target.result c.requires.sound c.enter.ensures.kept.block.chart.chart c.rows.ensures
     leads.within) in
     let leaving_is : transitions_at t c.index-rows-target.result.exits ≡ leaving t q.state = row.leaving_is ∙ ap (λ i. leaving t (state_at t i)) (sym c.enter.ensures.state) in
     linked_on t event p q end c.in_ok-goes_on-in-Some.field-0 c.goes_on.result c.in_ok-goes_on-in-Some.was

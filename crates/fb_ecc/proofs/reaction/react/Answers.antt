@@ -36,9 +36,9 @@ links-preserved c =
     record {
       linked = λ stop end rest. c.links.invariant.linked stop end (linked stop end rest);
       within = search rules;
-      block = c.link.ensures.block;
-      fewer = let a = c.link.ensures.fewer in let b = c.links.invariant.fewer in omega arith;
-      well_formed = λ all. c.link.ensures.well_formed (c.links.invariant.well_formed all);
+      block = c.link.ensures.kept.block;
+      fewer = let a = c.link.ensures.kept.fewer in let b = c.links.invariant.fewer in omega arith;
+      well_formed = λ all. c.link.ensures.kept.well_formed (c.links.invariant.well_formed all);
     }
 
 pub returns-in_err-link-clause-reacted : goal.returns-in_err-link-clause-reacted
@@ -60,7 +60,7 @@ returns-in_err-link-clause-reacted c =
     (chain_early t c.in_err-link.field-0.0 (Some event) present p m q (λ stop chain. c.links.invariant.linked stop q chain) linked))
 
 pub returns-in_err-link-clause-well_formed : goal.returns-in_err-link-clause-well_formed
-returns-in_err-link-clause-well_formed c = λ all. c.link.ensures.well_formed (c.links.invariant.well_formed all)
+returns-in_err-link-clause-well_formed c = λ all. c.link.ensures.kept.well_formed (c.links.invariant.well_formed all)
 
 pub returns-clause-reacted : goal.returns-clause-reacted
 returns-clause-reacted c =
@@ -79,4 +79,4 @@ returns-clause-reacted c =
     subst (λ (v : Values). ChartReacts t event (record p { vars = v }) None q) begun (c.links.invariant.linked None q linked)
 
 pub returns-clause-well_formed : goal.returns-clause-well_formed
-returns-clause-well_formed c = λ all. c.link.ensures.well_formed (c.links.invariant.well_formed all)
+returns-clause-well_formed c = λ all. c.link.ensures.kept.well_formed (c.links.invariant.well_formed all)

@@ -24,8 +24,12 @@ offset_bounds-acts-index c =
     let sized = c.acts_of-acts.type_inv in
     omega arith
 
-pub perform-requires-clause-program : goal.perform-requires-clause-program
-perform-requires-clause-program c = subst (λ (p : Program). IsProgramOf c.args.block.now p) (sym c.program-program.ensures) c.requires.block.chart.program
+pub perform-requires-clause-may : goal.perform-requires-clause-may
+perform-requires-clause-may c = record {
+  sound = c.requires.sound;
+  program = subst (λ (p : Program). IsProgramOf c.args.block.now p) (sym c.program-program.ensures) c.requires.block.chart.program;
+  declared = c.requires.block.declared;
+}
 
 pub perform-requires-clause-act : goal.perform-requires-clause-act
 perform-requires-clause-act c =

@@ -17,8 +17,12 @@ use Rattle.fb_ecc.proofs.Links.{exits_read}
 use Rattle.fb_ecc.proofs.Trials.{target_meant}
 use Rattle.fb_ecc.proofs.steps.clear.Goals as goal
 
-pub first_exit-requires-clause-program : goal.first_exit-requires-clause-program
-first_exit-requires-clause-program c = subst (λ (p : Program). IsProgramOf c.args.block.now p) (sym c.program-program.ensures) c.requires.block.chart.program
+pub first_exit-requires-clause-may : goal.first_exit-requires-clause-may
+first_exit-requires-clause-may c = record {
+  sound = c.requires.sound;
+  program = subst (λ (p : Program). IsProgramOf c.args.block.now p) (sym c.program-program.ensures) c.requires.block.chart.program;
+  declared = c.requires.block.declared;
+}
 
 pub first_exit-requires-clause-exits : goal.first_exit-requires-clause-exits
 first_exit-requires-clause-exits c =

@@ -37,7 +37,7 @@ returns-in_err-is_true-clause-trial c =
     let vars : Values = values_of c.args.frame.now in
     let at = slice_get-get_or exits i unread c.loop-exit-test.true in
     let is = exit_here c.args.block.now exits i unread c.requires.exits c.loop-exit-test.true in
-    let condition = condition_meant c.args.block.now f c.args.present vars c.requires.sound is c.requires.present ∙ sym c.is_true.ensures in
+    let condition = condition_meant c.args.block.now f c.args.present vars c.requires.may.sound is c.requires.present ∙ sym c.is_true.ensures in
     let x = err_from_is_err_and c.from_residual-in_err-is_true.result c.from_residual-in_err-is_true.ensures.1 in
     rw (x.1, x.2)
     (c.loop-exit.invariant.run
@@ -52,7 +52,7 @@ returns-then-branch-clause-trial c =
     let vars : Values = values_of c.args.frame.now in
     let at = slice_get-get_or exits i unread c.loop-exit-test.true in
     let is = exit_here c.args.block.now exits i unread c.requires.exits c.loop-exit-test.true in
-    let condition = condition_meant c.args.block.now f c.args.present vars c.requires.sound is c.requires.present ∙ sym c.is_true.ensures in
+    let condition = condition_meant c.args.block.now f c.args.present vars c.requires.may.sound is c.requires.present ∙ sym c.is_true.ensures in
     let shown = c.in_ok-is_true.was ∙ ap (λ (b : Bool). Ok b) c.if-branch.true in
     c.loop-exit.invariant.run
     ∙ tried c.args.block.now event vars exits i f c.loop-exit.meter.left c.step.new.self.left (Ok true) at c.in_ok-step.ensures.ok (condition ∙ shown)
@@ -66,7 +66,7 @@ returns-then-branch-clause-first c =
     let vars : Values = values_of c.args.frame.now in
     let at = slice_get-get_or exits i unread c.loop-exit-test.true in
     let is = exit_here c.args.block.now exits i unread c.requires.exits c.loop-exit-test.true in
-    let condition = condition_meant c.args.block.now f c.args.present vars c.requires.sound is c.requires.present ∙ sym c.is_true.ensures in
+    let condition = condition_meant c.args.block.now f c.args.present vars c.requires.may.sound is c.requires.present ∙ sym c.is_true.ensures in
     let holds = c.in_ok-is_true.was ∙ ap (λ (b : Bool). Ok b) c.if-branch.true in
     c.loop-exit.invariant.first ∙ first_tried c.args.block.now event vars exits i f (Ok true) at (condition ∙ holds)
 
@@ -79,7 +79,7 @@ returns-then-branch-clause-clearing c =
     let vars : Values = values_of c.args.frame.now in
     let at = slice_get-get_or exits i unread c.loop-exit-test.true in
     let is = exit_here c.args.block.now exits i unread c.requires.exits c.loop-exit-test.true in
-    let condition = condition_meant c.args.block.now f c.args.present vars c.requires.sound is c.requires.present ∙ sym c.is_true.ensures in
+    let condition = condition_meant c.args.block.now f c.args.present vars c.requires.may.sound is c.requires.present ∙ sym c.is_true.ensures in
     let holds = c.in_ok-is_true.was ∙ ap (λ (b : Bool). Ok b) c.if-branch.true in
     c.loop-exit.invariant.clearing ∙ clearing_tried c.args.block.now event vars exits i f (Ok true) at (condition ∙ holds)
 
@@ -95,7 +95,7 @@ loop-exit-preserved c =
     let vars : Values = values_of c.args.frame.now in
     let at = slice_get-get_or exits i unread c.loop-exit-test.true in
     let is = exit_here c.args.block.now exits i unread c.requires.exits c.loop-exit-test.true in
-    let condition = condition_meant c.args.block.now f c.args.present vars c.requires.sound is c.requires.present ∙ sym c.is_true.ensures in
+    let condition = condition_meant c.args.block.now f c.args.present vars c.requires.may.sound is c.requires.present ∙ sym c.is_true.ensures in
     let shown = c.in_ok-is_true.was ∙ ap (λ (b : Bool). Ok b) c.if-branch.false in
     record {
       run = c.loop-exit.invariant.run
