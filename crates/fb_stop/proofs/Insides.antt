@@ -18,7 +18,7 @@ use Rattle.fb_st.specs.Frames.{declared_in, types_in, values_of}
 use Rattle.fb_st.specs.declared.frame.Slot.{Slot}
 use Rattle.fb_ecc.specs.Indexes.{state_at}
 use Rattle.fb_ecc.specs.Sound.{IsSound, declared_by}
-use Rattle.fb_ecc.proofs.Actions.{types_declared}
+use Rattle.fb_ecc.proofs.lemmas.Actions.{types_declared}
 use Rattle.fb_stop.specs.Operations.{FaultIn}
 use Rattle.fb_stop.specs.declared.operation.Operation.{Operation}
 use Rattle.fb_stop.specs.Places.{IsNth}

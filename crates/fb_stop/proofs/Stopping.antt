@@ -9,8 +9,8 @@ use Rattle.fb_types.specs.declared.library.BasicType.{BasicType}
 use Rattle.fb_types.specs.declared.value.Reason.{Reason}
 use Rattle.fb_ecc.specs.Indexes.{state_at}
 use Rattle.fb_ecc.specs.Links.{Chain}
-use Rattle.fb_ecc.proofs.Actions.{no_next_acts}
-use Rattle.fb_ecc.proofs.Links.{fails, goes_on, stops_in}
+use Rattle.fb_ecc.proofs.lemmas.Actions.{no_next_acts}
+use Rattle.fb_ecc.proofs.lemmas.Links.{fails, goes_on, stops_in}
 use Rattle.fb_stop.specs.Sites.{ChainStops, Leads, ReactionStops, StopsAfter, StopsAt, StopsThere, entered}
 use Rattle.fb_stop.specs.declared.site.Inside.{Inside}
 use Rattle.fb_stop.specs.declared.site.ReactionStop.{ReactionStop}

@@ -7,8 +7,8 @@ use Rattle.fb_st.specs.Frames.{declared_in, values_of}
 use Rattle.fb_types.specs.declared.run.Emission.{Emission}
 use Rattle.fb_ecc.specs.Actions.{IsOutput}
 use Rattle.fb_ecc.specs.Indexes.{IsWellFormed}
-use Rattle.fb_ecc.proofs.Actions.{output_here, emitted_some, shown_here, shown_within, fit_some, on_ok, either}
-use Rattle.fb_ecc.proofs.Located.{alone, read_there}
+use Rattle.fb_ecc.proofs.lemmas.Actions.{output_here, emitted_some, shown_here, shown_within, fit_some, on_ok, either}
+use Rattle.fb_ecc.proofs.lemmas.Located.{alone, read_there}
 use Rattle.fb_ecc.proofs.action.emit.Goals as goal
 
 pub bounds-shown-event : goal.bounds-shown-event

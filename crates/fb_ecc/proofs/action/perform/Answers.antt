@@ -1,7 +1,7 @@
 use Rattle.std.proofs.Common.{[]}
 use Rattle.std.proofs.lemmas.Result.{err_from_is_err_and}
 use Rattle.fb_ecc.specs.Indexes.{index}
-use Rattle.fb_ecc.proofs.Actions.{acts_stops, acts_goes}
+use Rattle.fb_ecc.proofs.lemmas.Actions.{acts_stops, acts_goes}
 use Rattle.fb_ecc.proofs.action.perform.Goals as goal
 
 pub returns-in_err-run-clause-performed : goal.returns-in_err-run-clause-performed

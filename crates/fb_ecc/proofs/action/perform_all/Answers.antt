@@ -7,7 +7,7 @@ use Rattle.fb_ecc.specs.Indexes.{Ended, index}
 use Rattle.fb_ecc.specs.Programs.{IsProgramOf}
 use Rattle.fb_ecc.specs.declared.chart.Act.{Act}
 use Rattle.fb_ecc.specs.declared.program.Program.{Program}
-use Rattle.fb_ecc.proofs.Actions.{action_here, next_acts, no_next_acts, no_action_left, ended_early}
+use Rattle.fb_ecc.proofs.lemmas.Actions.{action_here, next_acts, no_next_acts, no_action_left, ended_early}
 use Rattle.fb_ecc.proofs.action.perform_all.Goals as goal
 
 abbrev unread : Act

@@ -11,8 +11,8 @@ use Rattle.fb_st.specs.Known.{AllKnown}
 use Rattle.fb_st.specs.declared.frame.Slot.{Slot}
 use Rattle.fb_st.specs.declared.meter.Meter.{Meter}
 use Rattle.fb_ecc.specs.Actions.{IsAlgorithm}
-use Rattle.fb_ecc.proofs.Actions.{algorithm_here, performed_err, performed_ok, read_here}
-use Rattle.fb_ecc.proofs.Programs.{body_says}
+use Rattle.fb_ecc.proofs.lemmas.Actions.{algorithm_here, performed_err, performed_ok, read_here}
+use Rattle.fb_ecc.proofs.lemmas.Programs.{body_says}
 use Rattle.fb_ecc.proofs.action.run.Goals as goal
 
 -- ---- The compiled form

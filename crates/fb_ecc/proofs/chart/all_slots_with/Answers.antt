@@ -6,7 +6,7 @@ use Rattle.fb_types.specs.declared.library.EventPort.{EventPort}
 use Rattle.fb_types.specs.declared.library.Variable.{Variable}
 use Rattle.fb_types.proofs.LoopSteps.{map_take_more}
 use Rattle.fb_ecc.specs.Located.{slots_among}
-use Rattle.fb_ecc.proofs.Indexing.{own_lists}
+use Rattle.fb_ecc.proofs.lemmas.Indexing.{own_lists}
 use Rattle.fb_ecc.proofs.chart.all_slots_with.Goals as goal
 
 pub returns : goal.returns

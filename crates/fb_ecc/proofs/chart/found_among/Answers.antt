@@ -4,7 +4,7 @@ use Rattle.fb_types.specs.Names.{Name}
 use Rattle.fb_types.specs.Blocks.{among}
 use Rattle.fb_check_names.specs.Indexes.{index_in}
 use Rattle.fb_ecc.specs.Indexed.{entry_of, picked}
-use Rattle.fb_ecc.proofs.Indexing.{picked_none, picks_found, picks_none}
+use Rattle.fb_ecc.proofs.lemmas.Indexing.{picked_none, picks_found, picks_none}
 use Rattle.fb_ecc.proofs.chart.found_among.Goals as goal
 use Rattle.fb_ecc.proofs.chart.found_among.Goals.{in-Some+in_ok-insert, in_default}
 

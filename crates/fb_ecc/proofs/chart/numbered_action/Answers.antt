@@ -1,7 +1,7 @@
 use Rattle.std.proofs.Common.{refl}
 use Rattle.fb_types.specs.declared.library.Algorithm.{Algorithm}
 use Rattle.fb_types.specs.declared.library.EventPort.{EventPort}
-use Rattle.fb_ecc.proofs.Indexing.{numbered_if_named}
+use Rattle.fb_ecc.proofs.lemmas.Indexing.{numbered_if_named}
 use Rattle.fb_ecc.proofs.chart.numbered_action.Goals as goal
 
 pub returns : goal.returns

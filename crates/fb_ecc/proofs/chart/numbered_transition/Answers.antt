@@ -1,7 +1,7 @@
 use Rattle.std.proofs.Common.{refl}
 use Rattle.fb_types.specs.declared.library.EventPort.{EventPort}
 use Rattle.fb_types.specs.declared.library.State.{State}
-use Rattle.fb_ecc.proofs.Indexing.{numbered, numbered_if_named}
+use Rattle.fb_ecc.proofs.lemmas.Indexing.{numbered, numbered_if_named}
 use Rattle.fb_ecc.proofs.chart.numbered_transition.Goals as goal
 
 pub returns : goal.returns

@@ -5,7 +5,7 @@ use Rattle.fb_types.specs.Repeated.{state_names}
 use Rattle.fb_types.specs.declared.library.Transition.{Transition}
 use Rattle.fb_check_names.specs.Indexes.{index_in}
 use Rattle.fb_ecc.specs.declared.chart.Exit.{Exit}
-use Rattle.fb_ecc.proofs.Charts.{rows_left, rows_stay}
+use Rattle.fb_ecc.proofs.lemmas.Charts.{rows_left, rows_stay}
 use Rattle.fb_ecc.proofs.chart.rows.Goals as goal
 use Rattle.fb_ecc.proofs.chart.rows.Goals.{in-Some+in_ok-add_exit, in_default}
 

@@ -3,7 +3,7 @@ use Rattle.std.proofs.lemmas.List.{take_all}
 use Rattle.fb_types.specs.Names.{Name}
 use Rattle.fb_types.specs.Blocks.{among}
 use Rattle.fb_ecc.specs.Indexed.{entry_of}
-use Rattle.fb_ecc.proofs.Located.{limited, slots_made}
+use Rattle.fb_ecc.proofs.lemmas.Located.{limited, slots_made}
 use Rattle.fb_ecc.proofs.chart.slots_with.Goals as goal
 
 pub returns : goal.returns

@@ -1,5 +1,5 @@
 use Rattle.std.proofs.Common.{◌≡◌, map, take}
-use Rattle.fb_ecc.proofs.Located.{limited}
+use Rattle.fb_ecc.proofs.lemmas.Located.{limited}
 use Rattle.fb_ecc.proofs.chart.slots_with.Given as goal
 
 abbrev pub invariant-loop-entry : goal.invariant-loop-entry

@@ -1,7 +1,7 @@
 use Rattle.std.proofs.Common.{[], ◌∷◌, length, length-append, refl, ◌∙◌, ap, arith}
 use Rattle.std.specs.Prelude.{slice_get}
 use Rattle.std.proofs.lemmas.Option.{slice_get_read}
-use Rattle.fb_ecc.proofs.Programs.{guards_more}
+use Rattle.fb_ecc.proofs.lemmas.Programs.{guards_more}
 use Rattle.fb_ecc.proofs.program.guards.Goals as goal
 
 pub loop-transition-preserved : goal.loop-transition-preserved

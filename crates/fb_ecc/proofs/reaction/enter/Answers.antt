@@ -3,7 +3,7 @@ use Rattle.fb_types.specs.Charts.{actions_of}
 use Rattle.fb_ecc.specs.Actions.{AreActions}
 use Rattle.fb_ecc.specs.Indexes.{state_at}
 use Rattle.fb_ecc.specs.declared.chart.Act.{Act}
-use Rattle.fb_ecc.proofs.Links.{row_read}
+use Rattle.fb_ecc.proofs.lemmas.Links.{row_read}
 use Rattle.fb_ecc.proofs.reaction.enter.Goals as goal
 
 pub perform_all-requires-clause-acts : goal.perform_all-requires-clause-acts

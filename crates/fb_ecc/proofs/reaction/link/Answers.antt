@@ -18,8 +18,8 @@ use Rattle.fb_ecc.specs.declared.chart.Chart.{Chart}
 use Rattle.fb_ecc.specs.declared.chart.ChartState.{ChartState}
 use Rattle.fb_ecc.specs.declared.chart.Exit.{Exit}
 use Rattle.fb_ecc.specs.declared.program.Program.{Program}
-use Rattle.fb_ecc.proofs.Links.{IsRow, exits_read, row_read, trial_here, linked_early, linked_on, goes_on, stops_in, rests, fails}
-use Rattle.fb_ecc.proofs.Trials.{fails_waiting, none_waiting, target_meant}
+use Rattle.fb_ecc.proofs.lemmas.Links.{IsRow, exits_read, row_read, trial_here, linked_early, linked_on, goes_on, stops_in, rests, fails}
+use Rattle.fb_ecc.proofs.lemmas.Trials.{fails_waiting, none_waiting, target_meant}
 use Rattle.fb_ecc.proofs.reaction.link.Goals as goal
 
 pub first_exit-requires-clause-may : goal.first_exit-requires-clause-may

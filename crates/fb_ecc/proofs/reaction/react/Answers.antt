@@ -9,7 +9,7 @@ use Rattle.fb_types.specs.declared.run.Halt.{Halt}
 use Rattle.fb_st.specs.Frames.{values_of, declared_in}
 use Rattle.fb_ecc.specs.Links.{Linked}
 use Rattle.fb_ecc.specs.Indexes.{Ended, index, sampled}
-use Rattle.fb_ecc.proofs.Links.{variables_here, chain_early}
+use Rattle.fb_ecc.proofs.lemmas.Links.{variables_here, chain_early}
 use Rattle.fb_ecc.proofs.reaction.react.Goals as goal
 
 pub links-init : goal.links-init

@@ -5,7 +5,7 @@ use Rattle.fb_types.specs.Numbers.{pair_up}
 use Rattle.fb_types.specs.Reactions.{with_values}
 use Rattle.fb_types.specs.declared.value.Value.{Value}
 use Rattle.fb_st.specs.Frames.{declared_in, values_of}
-use Rattle.fb_ecc.proofs.Located.{alone, alone_value, written_there}
+use Rattle.fb_ecc.proofs.lemmas.Located.{alone, alone_value, written_there}
 use Rattle.fb_ecc.proofs.reaction.sample.Goals as goal
 
 pub returns-in-Some-clause-sampled : goal.returns-in-Some-clause-sampled

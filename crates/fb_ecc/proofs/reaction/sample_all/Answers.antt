@@ -4,8 +4,8 @@ use Rattle.fb_types.specs.Names.{Name}
 use Rattle.fb_types.specs.Numbers.{pair_up}
 use Rattle.fb_types.specs.Reactions.{with_values}
 use Rattle.fb_st.specs.Frames.{Declared, declared_in, values_of}
-use Rattle.fb_ecc.proofs.Links.{nothing_left, samples_one, samples_none, value_here, value_past}
-use Rattle.fb_ecc.proofs.Located.{at_index, same_count, written_there}
+use Rattle.fb_ecc.proofs.lemmas.Links.{nothing_left, samples_one, samples_none, value_here, value_past}
+use Rattle.fb_ecc.proofs.lemmas.Located.{at_index, same_count, written_there}
 use Rattle.fb_ecc.proofs.reaction.sample_all.Goals as goal
 use Rattle.fb_ecc.proofs.reaction.sample_all.Goals.{in-Some, in_default}
 

@@ -6,7 +6,7 @@ use Rattle.fb_ecc.specs.Indexes.{state_at}
 use Rattle.fb_ecc.specs.Programs.{IsProgramOf}
 use Rattle.fb_ecc.specs.declared.chart.Act.{Act}
 use Rattle.fb_ecc.specs.declared.program.Program.{Program}
-use Rattle.fb_ecc.proofs.Stepwise.{act_at, acts_read, acts_within}
+use Rattle.fb_ecc.proofs.lemmas.Stepwise.{act_at, acts_read, acts_within}
 use Rattle.fb_ecc.proofs.steps.act.Goals as goal
 
 abbrev unread : Act

@@ -1,6 +1,6 @@
 use Rattle.fb_types.specs.Charts.{actions_of}
 use Rattle.fb_ecc.specs.Indexes.{state_at}
-use Rattle.fb_ecc.proofs.Stepwise.{acts_read, count_of_acts}
+use Rattle.fb_ecc.proofs.lemmas.Stepwise.{acts_read, count_of_acts}
 use Rattle.fb_ecc.proofs.steps.action_count.Goals as goal
 
 pub returns : goal.returns

@@ -1,6 +1,6 @@
 use Rattle.std.proofs.Common.{◌∙◌}
 use Rattle.fb_st.specs.Frames.{declared_in}
-use Rattle.fb_ecc.proofs.Links.{variables_here}
+use Rattle.fb_ecc.proofs.lemmas.Links.{variables_here}
 use Rattle.fb_ecc.proofs.steps.begin.Goals as goal
 
 pub returns-clause-sampled : goal.returns-clause-sampled

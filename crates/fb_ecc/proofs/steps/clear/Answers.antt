@@ -13,8 +13,8 @@ use Rattle.fb_ecc.specs.Steps.{clearing_exit, first_true, trial_at_exit}
 use Rattle.fb_ecc.specs.Trials.{IsExit, transition_at, transitions_at}
 use Rattle.fb_ecc.specs.declared.chart.Exit.{Exit}
 use Rattle.fb_ecc.specs.declared.program.Program.{Program}
-use Rattle.fb_ecc.proofs.Links.{exits_read}
-use Rattle.fb_ecc.proofs.Trials.{target_meant}
+use Rattle.fb_ecc.proofs.lemmas.Links.{exits_read}
+use Rattle.fb_ecc.proofs.lemmas.Trials.{target_meant}
 use Rattle.fb_ecc.proofs.steps.clear.Goals as goal
 
 pub first_exit-requires-clause-may : goal.first_exit-requires-clause-may

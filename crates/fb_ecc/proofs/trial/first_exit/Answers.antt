@@ -7,8 +7,8 @@ use Rattle.fb_types.specs.Numbers.{event_at}
 use Rattle.fb_types.specs.Values.{Values}
 use Rattle.fb_st.specs.Frames.{values_of}
 use Rattle.fb_ecc.specs.declared.chart.Exit.{Exit}
-use Rattle.fb_ecc.proofs.Trials.{tried, not_tried, condition_meant, exit_here}
-use Rattle.fb_ecc.proofs.Stepwise.{clearing_tried, first_tried}
+use Rattle.fb_ecc.proofs.lemmas.Trials.{tried, not_tried, condition_meant, exit_here}
+use Rattle.fb_ecc.proofs.lemmas.Stepwise.{clearing_tried, first_tried}
 use Rattle.fb_ecc.proofs.trial.first_exit.Goals as goal
 
 abbrev unread : Exit

@@ -3,8 +3,8 @@ use Rattle.fb_types.specs.Charts.{guard_value}
 use Rattle.fb_types.specs.Values.{Values}
 use Rattle.fb_types.specs.declared.text.Expr.{Expr}
 use Rattle.fb_st.specs.Frames.{values_of}
-use Rattle.fb_ecc.proofs.Trials.{transition_within, unguarded, guard_read}
-use Rattle.fb_ecc.proofs.Programs.{guard_says, transition_read}
+use Rattle.fb_ecc.proofs.lemmas.Trials.{transition_within, unguarded, guard_read}
+use Rattle.fb_ecc.proofs.lemmas.Programs.{guard_says, transition_read}
 use Rattle.fb_ecc.proofs.trial.is_guard_true.Goals as goal
 
 pub bounds-as_slice-exit : goal.bounds-as_slice-exit

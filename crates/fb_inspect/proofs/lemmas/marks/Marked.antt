@@ -19,7 +19,7 @@ use Rattle.fb_ecc.specs.Indexes.{IsStateOf, state_at}
 use Rattle.fb_ecc.specs.Sound.{IsSound}
 use Rattle.fb_ecc.specs.Steps.{clearing_index, first_or}
 use Rattle.fb_ecc.specs.Trials.{nowhere, transition_at}
-use Rattle.fb_ecc.proofs.Trials.{event_here, list_all-at, state_here}
+use Rattle.fb_ecc.proofs.lemmas.Trials.{event_here, list_all-at, state_here}
 use Rattle.fb_inspect.specs.walk.Chains.{Piece, rest_pieces, stop_pieces}
 use Rattle.fb_inspect.specs.Markings.{IsFirstLike, PiecesMark, algorithm_number, event_number, state_number, with_lost_if, with_ran_by}
 use Rattle.fb_inspect.proofs.lemmas.reactions.Showing.{emits_pieces, ran_pieces}

@@ -9,7 +9,7 @@ use Rattle.fb_types.specs.declared.library.State.{State}
 use Rattle.fb_st.proofs.lemmas.Indexes.{named_at_index}
 use Rattle.fb_ecc.specs.Indexes.{state_at}
 use Rattle.fb_ecc.specs.Sound.{IsSound}
-use Rattle.fb_ecc.proofs.Trials.{state_here}
+use Rattle.fb_ecc.proofs.lemmas.Trials.{state_here}
 
 abbrev actions_or : Option State → List Action
 actions_or o = elim o [ None ↦ [] | Some x ↦ x.actions ]

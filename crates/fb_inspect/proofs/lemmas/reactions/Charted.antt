@@ -24,8 +24,8 @@ use Rattle.fb_st.specs.declared.frame.Slot.{Slot}
 use Rattle.fb_coverage.specs.declared.marks.ChartMarks.{ChartMarks}
 use Rattle.fb_ecc.specs.Indexes.{index}
 use Rattle.fb_ecc.specs.Steps.{first_true}
-use Rattle.fb_ecc.proofs.Links.{nothing_left}
-use Rattle.fb_ecc.proofs.Trials.{cut_at}
+use Rattle.fb_ecc.proofs.lemmas.Links.{nothing_left}
+use Rattle.fb_ecc.proofs.lemmas.Trials.{cut_at}
 use Rattle.fb_inspect.specs.walk.Chains.{Piece, Showing, Clears_by, Acting, ShowsActs, ShowsChain, ShowsReaction, rest_pieces, stop_pieces}
 use Rattle.fb_inspect.specs.walk.Charting.{ChartGoes, StepGoes, sys_of}
 use Rattle.fb_inspect.specs.walk.Looks.{emission_line, pieces_text, ran_by}

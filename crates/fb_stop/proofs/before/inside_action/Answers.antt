@@ -7,7 +7,7 @@ use Rattle.fb_types.specs.Syntax.{body_of}
 use Rattle.fb_st.specs.Frames.{Declared, declared_in, types_in, values_of}
 use Rattle.fb_st.specs.Known.{AllKnown}
 use Rattle.fb_ecc.specs.Sound.{declared_by}
-use Rattle.fb_ecc.proofs.Actions.{types_declared}
+use Rattle.fb_ecc.proofs.lemmas.Actions.{types_declared}
 use Rattle.fb_stop.proofs.Insides.{action_is, in_algorithm}
 use Rattle.fb_stop.proofs.Unsaid.{found_in, if_none_map, no_action, no_body, no_state, with_body, without_algorithm}
 use Rattle.fb_stop.proofs.before.inside_action.Goals as goal

@@ -1,4 +1,4 @@
-use Rattle.fb_ecc.proofs.Acceptance.{names_once}
+use Rattle.fb_ecc.proofs.lemmas.Acceptance.{names_once}
 use Rattle.fb_ecc.proofs.numbers.Numbers.of.Goals as goal
 
 pub indexes_once-requires : goal.indexes_once-requires

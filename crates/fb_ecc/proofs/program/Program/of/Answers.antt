@@ -1,4 +1,4 @@
-use Rattle.fb_ecc.proofs.Acceptance.{sound_in_declaration}
+use Rattle.fb_ecc.proofs.lemmas.Acceptance.{sound_in_declaration}
 use Rattle.fb_ecc.proofs.program.Program.of.Goals as goal
 
 pub layout_of-requires : goal.layout_of-requires

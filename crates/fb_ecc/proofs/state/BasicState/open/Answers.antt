@@ -1,9 +1,9 @@
 use Rattle.std.proofs.Common.{refl, ◌∙◌, ap}
 use Rattle.fb_types.specs.Blocks.{variables_of}
 use Rattle.fb_st.specs.Frames.{declared_in}
-use Rattle.fb_ecc.proofs.Acceptance.{sound_in_declaration}
-use Rattle.fb_ecc.proofs.Links.{first_index}
-use Rattle.fb_ecc.proofs.Soundness.{declared_opened}
+use Rattle.fb_ecc.proofs.lemmas.Acceptance.{sound_in_declaration}
+use Rattle.fb_ecc.proofs.lemmas.Links.{first_index}
+use Rattle.fb_ecc.proofs.lemmas.Soundness.{declared_opened}
 use Rattle.fb_ecc.proofs.state.BasicState.open.Goals as goal
 
 pub frame_of-requires : goal.frame_of-requires

@@ -31,7 +31,7 @@ use Rattle.fb_types.proofs.ListTests.{passes_from}
 use Rattle.fb_types.proofs.ByIndex.{element_of_index}
 use Rattle.fb_types.proofs.TwiceLaws.{Twice-append_left, Twice-append_right}
 use Rattle.fb_types.proofs.Elements.{Contains-cons_cases, Contains-nil, Contains-here, Contains-there, Contains-map, Contains-flat_map}
-use Rattle.fb_ecc.proofs.Links.{names_declared}
+use Rattle.fb_ecc.proofs.lemmas.Links.{names_declared}
 
 -- ---- Lists
 

@@ -37,8 +37,8 @@ use Rattle.fb_ecc.specs.Located.{AreAt, slots_with, slots_with_each}
 use Rattle.fb_ecc.specs.Numbered.{number_in}
 use Rattle.fb_ecc.specs.Indexes.{index, Ended, IsWellFormed}
 use Rattle.fb_ecc.specs.Sound.{declared_as, declared_by}
-use Rattle.fb_ecc.proofs.Located.{outputs_at}
-use Rattle.fb_ecc.proofs.Trials.{IsFirst, stands, number_is}
+use Rattle.fb_ecc.proofs.lemmas.Located.{outputs_at}
+use Rattle.fb_ecc.proofs.lemmas.Trials.{IsFirst, stands, number_is}
 
 -- ---- An action, and what follows
 

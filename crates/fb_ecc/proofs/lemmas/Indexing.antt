@@ -20,7 +20,7 @@ use Rattle.fb_st.proofs.lemmas.Indexes.{position-later}
 use Rattle.fb_ecc.specs.Numbered.{number_in}
 use Rattle.fb_ecc.specs.Indexed.{entry_of, picked}
 use Rattle.fb_ecc.specs.Located.{slots_among}
-use Rattle.fb_ecc.proofs.Located.{slots_same}
+use Rattle.fb_ecc.proofs.lemmas.Located.{slots_same}
 
 -- ---- Numbers
 

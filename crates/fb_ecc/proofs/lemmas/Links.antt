@@ -35,8 +35,8 @@ use Rattle.fb_ecc.specs.declared.chart.Exit.{Exit}
 use Rattle.fb_ecc.specs.declared.chart.ChartState.{ChartState}
 use Rattle.fb_types.proofs.ByIndex.{element_at}
 use Rattle.fb_ecc.specs.declared.chart.Chart.{Chart}
-use Rattle.fb_ecc.proofs.Located.{inputs_at}
-use Rattle.fb_ecc.proofs.Trials.{transition_here, state_here, list_all-at, and_left, and_right, cut_at, event_here}
+use Rattle.fb_ecc.proofs.lemmas.Located.{inputs_at}
+use Rattle.fb_ecc.proofs.lemmas.Trials.{transition_here, state_here, list_all-at, and_left, and_right, cut_at, event_here}
 
 -- ---- Links
 

@@ -18,7 +18,7 @@ use Rattle.fb_ecc.specs.Indexed.{row_within}
 use Rattle.fb_ecc.specs.Numbered.{act_of, are_waiting, exit_of, exits_from, row_with}
 use Rattle.fb_ecc.specs.declared.chart.Exit.{Exit}
 use Rattle.fb_ecc.specs.declared.chart.ChartState.{ChartState}
-use Rattle.fb_ecc.proofs.Indexing.{some_suc}
+use Rattle.fb_ecc.proofs.lemmas.Indexing.{some_suc}
 
 -- ---- One transition more
 

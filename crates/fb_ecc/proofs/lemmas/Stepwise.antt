@@ -21,8 +21,8 @@ use Rattle.fb_ecc.specs.declared.chart.Act.{Act}
 use Rattle.fb_ecc.specs.declared.chart.Chart.{Chart}
 use Rattle.fb_ecc.specs.declared.chart.ChartState.{ChartState}
 use Rattle.fb_ecc.specs.declared.chart.Exit.{Exit}
-use Rattle.fb_ecc.proofs.Links.{row_is}
-use Rattle.fb_ecc.proofs.Trials.{cut_at}
+use Rattle.fb_ecc.proofs.lemmas.Links.{row_is}
+use Rattle.fb_ecc.proofs.lemmas.Trials.{cut_at}
 
 rest_at : (exits : List Exit) (i : ℕ) (e : Exit) → slice_get exits i ≡ Some e → drop i exits ≡ e ∷ drop (i + 1) exits
 rest_at exits i e at = cut_at exits i e (slice_get_within exits i e at) (sym (get_or_from_slice_get exits i e e at))

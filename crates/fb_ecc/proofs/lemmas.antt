@@ -1,0 +1,10 @@
+pub mod Acceptance
+pub mod Actions
+pub mod Charts
+pub mod Indexing
+pub mod Links
+pub mod Located
+pub mod Soundness
+pub mod Stepwise
+pub mod Trials
+pub mod Programs
