@@ -1,5 +1,5 @@
 -- What holds of the parts of a basic block between two steps of a reaction (IEC 61499-1, 5.2; indexes are this project's profile).
-use Rattle.std.specs.Prelude.{◌≡◌, ◌<◌, ◌≤◌, ℕ, List, All, IfSome, Option, length, option_map}
+use Rattle.std.specs.Prelude.{◌≡◌, ◌<◌, ◌≤◌, ◌++◌, ℕ, List, All, IfSome, Option, length, option_map}
 use Rattle.fb_types.specs.Names.{Name}
 use Rattle.fb_types.specs.Numbers.{event_at}
 use Rattle.fb_types.specs.declared.library.BasicType.{BasicType}
@@ -34,20 +34,26 @@ input_named t present = option_map (event_at t.ports.event_inputs) present
 abbrev pub StillFit : BasicType → List Emission → List Emission → Type 0
 StillFit t old new = All (IsWellFormed t) old → All (IsWellFormed t) new
 
+-- The list is that one, and others after it.
+abbrev pub BeginsWith : (old new : List Emission) → Type 0
+BeginsWith old new = (news : List Emission) × (new ≡ old ++ news)
+
 -- The program of a sound type may run on these variables.
 pub record MayRun (t : BasicType) (p : Program) (slots : List Slot) : Type 0 where
   pub sound : IsSound t
   pub program : IsProgramOf t p
   pub declared : IsFrameOf t slots
 
--- However actions end: the variables are those that there were, no step is gained, and what is emitted is well formed.
+-- However actions end: the variables are those that there were, no step is gained, what was emitted before comes first still, and what is emitted is well formed.
 pub record AreKept (t : BasicType) (old : List Slot) (m : Meter) (before : List Emission) (new : List Slot) (n : Meter) (after : List Emission) : Type 0 where
   pub declared : declared_in new ≡ declared_in old
   pub fewer : n.left ≤ m.left
+  pub begins : BeginsWith before after
   pub well_formed : StillFit t before after
 
--- However a link ends: the block is one of its type, no step is gained, and what is emitted is well formed.
+-- However a link ends: the block is one of its type, no step is gained, what was emitted before comes first still, and what is emitted is well formed.
 pub record StaysOfType (t : BasicType) (m : Meter) (before : List Emission) (s : BasicState) (n : Meter) (after : List Emission) : Type 0 where
   pub block : IsBlockOf t s
   pub fewer : n.left ≤ m.left
+  pub begins : BeginsWith before after
   pub well_formed : StillFit t before after

@@ -6,7 +6,7 @@ ghost use Rattle.fb_types.specs.Charts.{Acts, Halts, Performs, Position, emittin
 ghost use Rattle.fb_types.specs.declared.library.Action.{Action};
 ghost use Rattle.fb_st.specs.FrameRuns.{IsKept};
 ghost use Rattle.fb_st.specs.Frames.{declared_in, values_of};
-ghost use Rattle.fb_ecc.specs.Blocks.{AreKept, AreShown, IsFrameOf, MayRun, StillFit};
+ghost use Rattle.fb_ecc.specs.Blocks.{AreKept, AreShown, BeginsWith, IsFrameOf, MayRun, StillFit};
 ghost use Rattle.fb_ecc.specs.Actions.{AreActions, IsAction, IsAlgorithm, IsOutput, Stopped, with_slots};
 ghost use Rattle.fb_ecc.specs.Located.{AreAt};
 ghost use Rattle.fb_ecc.specs.Indexes.{Ended, index};
@@ -62,6 +62,7 @@ fn emit(
     requires event { (name : Option Name) × IsOutput block.now event name }
     ensures emitted { (name : Option Name) (state left : ℕ) → IsOutput block.now event name →
         OnOk result (index block.now state frame.now left emits.new ≡ emitting block.now name (index block.now state frame.now left emits.old)) }
+    ensures begins { BeginsWith emits.old emits.new }
     ensures well_formed { StillFit block.now emits.old emits.new }
 {
     match event {

@@ -233,7 +233,7 @@ impl Chart {
         let ports = &block.ports;
         let inputs = ports.event_inputs.as_slice();
         let outputs = ports.event_outputs.as_slice();
-        // A type has fewer than 2^32 of each, so that a slot is a number of 64 bits.
+        // for the prover: a type has fewer than 2^32 of each, so that a slot is a number of 64 bits
         ports.inputs.count();
         ports.outputs.count();
         let first_output = ports.inputs.len();

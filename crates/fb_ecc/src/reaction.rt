@@ -6,7 +6,7 @@ ghost use Rattle.fb_types.specs.Names.{Name};
 ghost use Rattle.fb_types.specs.Numbers.{event_at, pair_up};
 ghost use Rattle.fb_types.specs.Reactions.{with_values};
 ghost use Rattle.fb_st.specs.Frames.{declared_in, values_of};
-ghost use Rattle.fb_ecc.specs.Blocks.{IsInput, StaysOfType, StillFit, input_named};
+ghost use Rattle.fb_ecc.specs.Blocks.{BeginsWith, IsInput, StaysOfType, StillFit, input_named};
 ghost use Rattle.fb_ecc.specs.Links.{Linked};
 ghost use Rattle.fb_ecc.specs.Located.{AreAt};
 ghost use Rattle.fb_ecc.specs.Indexes.{Ended, IsBlockOf, index, sampled, state_at};
@@ -148,6 +148,7 @@ pub fn react(
 
     // Also where memory runs out.
     ensures block { IsBlockOf block.now state.new }
+    ensures kept { BeginsWith emits.old emits.new }
     ensures well_formed { StillFit block.now emits.old emits.new }
 {
     let event = event as usize;

@@ -5,7 +5,7 @@ ghost use Rattle.fb_types.specs.Charts.{Acts, actions_of, leaving, trial_of};
 ghost use Rattle.fb_types.specs.declared.library.Action.{Action};
 ghost use Rattle.fb_types.specs.declared.library.BasicType.{BasicType as Basic};
 ghost use Rattle.fb_st.specs.Frames.{values_of};
-ghost use Rattle.fb_ecc.specs.Blocks.{IsInput, StillFit, input_named};
+ghost use Rattle.fb_ecc.specs.Blocks.{BeginsWith, IsInput, StillFit, input_named};
 ghost use Rattle.fb_ecc.specs.Indexes.{Ended, IsBlockOf, index as index_of, sampled, state_at};
 ghost use Rattle.fb_ecc.specs.Sound.{Each, IsSound};
 ghost use Rattle.fb_ecc.specs.Steps.{IsFirst, acts_at, clearing_index, trial_by};
@@ -111,6 +111,7 @@ pub fn act(
     ensures state { state.new.state ≡ state.old.state }
     ensures block { IsBlockOf block.now state.new }
     ensures fewer { meter.new.left ≤ meter.old.left }
+    ensures kept { BeginsWith emits.old emits.new }
     ensures well_formed { StillFit block.now emits.old emits.new }
 {
     let acts = acts_of(state.chart.rows(), state.state);

@@ -1,5 +1,5 @@
 -- Actions, put together from their parts.
-use Rattle.std.proofs.Common.{◌≡◌, ℕ, zero, suc, ◌+◌, ◌<◌, ◌≤◌, true, false, cond, List, [], ◌∷◌, ◌++◌, length, get_or, drop, map, Option, Some, None, Result, Ok, Err, OnOk, OnErr, refl, sym, ◌∙◌, ap, subst, arith, add-one}
+use Rattle.std.proofs.Common.{◌≡◌, ℕ, zero, suc, ◌+◌, ◌<◌, ◌≤◌, true, false, cond, List, [], ◌∷◌, ◌++◌, length, get_or, drop, map, Option, Some, None, Result, Ok, Err, OnOk, OnErr, refl, sym, ◌∙◌, ap, subst, arith, add-one, append-nil, append_assoc}
 use Rattle.std.proofs.Math.Path.{fun_ext}
 use Rattle.std.specs.Prelude.{option_map, option_and_then, slice_get, unwrap_or}
 use Rattle.std.specs.List.{All}
@@ -33,12 +33,28 @@ use Rattle.fb_st.specs.declared.meter.Flow.{Flow}
 use Rattle.fb_st.specs.declared.meter.Flow.TheVariants as flow
 use Rattle.fb_ecc.specs.Actions.{AreActions, IsAction, IsAlgorithm, IsOutput, with_slots}
 use Rattle.fb_ecc.specs.declared.chart.Act.{Act}
+use Rattle.fb_ecc.specs.Blocks.{BeginsWith}
 use Rattle.fb_ecc.specs.Located.{AreAt, slots_with, slots_with_each}
 use Rattle.fb_ecc.specs.Numbered.{number_in}
 use Rattle.fb_ecc.specs.Indexes.{index, Ended, IsWellFormed}
 use Rattle.fb_ecc.specs.Sound.{declared_as, declared_by}
 use Rattle.fb_ecc.proofs.lemmas.Located.{outputs_at}
 use Rattle.fb_ecc.proofs.lemmas.Trials.{IsFirst, stands, number_is}
+
+-- ---- What was emitted before
+
+pub begins_same : (old : List run.Emission) → BeginsWith old old
+begins_same old = ([], sym (append-nil old))
+
+pub begins_push : (old new : List run.Emission) (e : run.Emission) → new ≡ old ++ e ∷ [] → BeginsWith old new
+begins_push old new e is = (e ∷ [], is)
+
+pub begins_unchanged : (old new : List run.Emission) → new ≡ old → BeginsWith old new
+begins_unchanged old new is = ([], is ∙ sym (append-nil old))
+
+pub begins_on : (old between new : List run.Emission) → BeginsWith old between → BeginsWith between new → BeginsWith old new
+begins_on old between new (xs, first) (ys, after) =
+    (xs ++ ys, after ∙ ap (λ (l : List run.Emission). l ++ ys) first ∙ append_assoc old xs ys)
 
 -- ---- An action, and what follows
 

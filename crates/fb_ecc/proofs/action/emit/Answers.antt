@@ -7,7 +7,7 @@ use Rattle.fb_st.specs.Frames.{declared_in, values_of}
 use Rattle.fb_types.specs.declared.run.Emission.{Emission}
 use Rattle.fb_ecc.specs.Actions.{IsOutput}
 use Rattle.fb_ecc.specs.Indexes.{IsWellFormed}
-use Rattle.fb_ecc.proofs.lemmas.Actions.{output_here, emitted_some, shown_here, shown_within, fit_some, on_ok, either}
+use Rattle.fb_ecc.proofs.lemmas.Actions.{begins_push, begins_same, begins_unchanged, output_here, emitted_some, shown_here, shown_within, fit_some, on_ok, either}
 use Rattle.fb_ecc.proofs.lemmas.Located.{alone, read_there}
 use Rattle.fb_ecc.proofs.action.emit.Goals as goal
 
@@ -55,8 +55,8 @@ returns-in-len1-clause-well_formed c =
     (grown ∙ ap (λ (vs : List Value). c.args.emits.now ++ record { event = k; values = vs } ∷ []) values) all)
     (λ kept. subst P (sym kept) all)
 
-pub returns-in-Some-clause-emitted : goal.returns-in-Some-clause-emitted
-returns-in-Some-clause-emitted c =
+pub returns-after-slots-lt1-clause-emitted : goal.returns-after-slots-lt1-clause-emitted
+returns-after-slots-lt1-clause-emitted c =
     let t = c.args.block.now in
     let k : ℕ = c.in-Some.event in
     λ name state left here.
@@ -66,8 +66,8 @@ returns-in-Some-clause-emitted c =
     on_ok c.emit_several.result c.emit_several.ensures.ok
     (λ grown. emitted_some t k name o state left c.args.frame.now c.args.emits.now c.emit_several.new.emits (outputs_with t.ports o.event) refl (grown (outputs_with t.ports o.event) are))
 
-pub returns-in-Some-clause-well_formed : goal.returns-in-Some-clause-well_formed
-returns-in-Some-clause-well_formed c =
+pub returns-after-slots-lt1-clause-well_formed : goal.returns-after-slots-lt1-clause-well_formed
+returns-after-slots-lt1-clause-well_formed c =
     let t = c.args.block.now in
     let k : ℕ = c.in-Some.event in
     let name = c.requires.event.0 in
@@ -79,3 +79,26 @@ returns-in-Some-clause-well_formed c =
     either c.emit_several.result c.emit_several.ensures.ok c.emit_several.ensures.err
     (λ grown. fit_some t k name o (values_of c.args.frame.now) c.args.emits.now c.emit_several.new.emits (outputs_with t.ports o.event) refl (grown (outputs_with t.ports o.event) are) all)
     (λ kept. subst P (sym kept) all)
+
+-- ---- What was emitted before
+
+pub returns-in-len1-clause-begins : goal.returns-in-len1-clause-begins
+returns-in-len1-clause-begins c =
+    either c.push_one.result c.push_one.ensures.ok c.push_one.ensures.err
+    (λ grown. begins_push c.args.emits.now c.push_one.new.self _ grown)
+    (λ kept. begins_unchanged c.args.emits.now c.push_one.new.self kept)
+
+pub returns-after-slots-lt1-clause-begins : goal.returns-after-slots-lt1-clause-begins
+returns-after-slots-lt1-clause-begins c =
+    let t = c.args.block.now in
+    let k : ℕ = c.in-Some.event in
+    let name = c.requires.event.0 in
+    let o = output_here t k name (subst (λ (n : Option ℕ). IsOutput t n name) c.in-Some.is c.requires.event.1) in
+    let within = shown_within t k name o c.args.shown.now c.requires.shown in
+    let are = shown_here t k name o c.args.shown.now c.as_slice-slots.result.now c.index-shown-event.result _ c.requires.shown within (c.as_slice-slots.ensures ∙ c.index-shown-event.is) c.requires.declared in
+    either c.emit_several.result c.emit_several.ensures.ok c.emit_several.ensures.err
+    (λ grown. begins_push c.args.emits.now c.emit_several.new.emits _ (grown (outputs_with t.ports o.event) are))
+    (λ kept. begins_unchanged c.args.emits.now c.emit_several.new.emits kept)
+
+pub returns-in-None-clause-begins : goal.returns-in-None-clause-begins
+returns-in-None-clause-begins c = begins_same c.args.emits.now

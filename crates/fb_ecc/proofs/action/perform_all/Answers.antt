@@ -7,7 +7,7 @@ use Rattle.fb_ecc.specs.Indexes.{Ended, index}
 use Rattle.fb_ecc.specs.Programs.{IsProgramOf}
 use Rattle.fb_ecc.specs.declared.chart.Act.{Act}
 use Rattle.fb_ecc.specs.declared.program.Program.{Program}
-use Rattle.fb_ecc.proofs.lemmas.Actions.{action_here, next_acts, no_next_acts, no_action_left, ended_early}
+use Rattle.fb_ecc.proofs.lemmas.Actions.{action_here, begins_on, begins_same, next_acts, no_next_acts, no_action_left, ended_early}
 use Rattle.fb_ecc.proofs.action.perform_all.Goals as goal
 
 abbrev unread : Act
@@ -24,6 +24,15 @@ pub perform-requires-clause-act : goal.perform-requires-clause-act
 perform-requires-clause-act c =
     let n = action_here c.args.block.now c.args.acts.now c.requires.acts.0 c.loop-act.act-index unread c.requires.acts.1 c.loop-act-test.true in
     (n.action, n.is)
+
+pub loop-act-init : goal.loop-act-init
+loop-act-init c = record {
+  performed = λ actions state are stop q rest. rest;
+  declared = refl;
+  fewer = omega arith;
+  begins = begins_same c.args.emits.now;
+  well_formed = λ all. all;
+}
 
 pub returns-in_err-perform-clause-performed : goal.returns-in_err-perform-clause-performed
 returns-in_err-perform-clause-performed c =
@@ -57,6 +66,7 @@ loop-act-preserved c =
           (next_acts c.args.block.now n.action (drop (i + 1) actions) m o q left stop one rest));
       declared = c.perform.ensures.kept.declared ∙ c.loop-act.invariant.declared;
       fewer = let a = c.perform.ensures.kept.fewer in let b = c.loop-act.invariant.fewer in omega arith;
+      begins = begins_on c.args.emits.now c.loop-act.emits c.perform.new.emits c.loop-act.invariant.begins c.perform.ensures.kept.begins;
       well_formed = λ all. c.perform.ensures.kept.well_formed (c.loop-act.invariant.well_formed all);
     }
 
@@ -67,3 +77,11 @@ returns-clause-performed c = λ actions state are.
     let over : length c.args.acts.now ≤ i = let f = c.loop-act-test.false in omega arith in
     c.loop-act.invariant.performed actions state are None m
     (subst (λ (l : List Action). Acts c.args.block.now l c.loop-act.meter.left m None m) (sym (no_action_left c.args.block.now c.args.acts.now actions i are over)) (refl, refl))
+
+pub returns-in_err-perform-clause-kept : goal.returns-in_err-perform-clause-kept
+returns-in_err-perform-clause-kept c = record {
+  declared = c.perform.ensures.kept.declared ∙ c.loop-act.invariant.declared;
+  fewer = let a = c.perform.ensures.kept.fewer in let b = c.loop-act.invariant.fewer in omega arith;
+  begins = begins_on c.args.emits.now c.loop-act.emits c.perform.new.emits c.loop-act.invariant.begins c.perform.ensures.kept.begins;
+  well_formed = λ all. c.perform.ensures.kept.well_formed (c.loop-act.invariant.well_formed all);
+}

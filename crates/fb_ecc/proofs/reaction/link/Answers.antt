@@ -18,6 +18,7 @@ use Rattle.fb_ecc.specs.declared.chart.Chart.{Chart}
 use Rattle.fb_ecc.specs.declared.chart.ChartState.{ChartState}
 use Rattle.fb_ecc.specs.declared.chart.Exit.{Exit}
 use Rattle.fb_ecc.specs.declared.program.Program.{Program}
+use Rattle.fb_ecc.proofs.lemmas.Actions.{begins_same}
 use Rattle.fb_ecc.proofs.lemmas.Links.{IsRow, exits_read, row_read, trial_here, linked_early, linked_on, goes_on, stops_in, rests, fails}
 use Rattle.fb_ecc.proofs.lemmas.Trials.{fails_waiting, none_waiting, target_meant}
 use Rattle.fb_ecc.proofs.reaction.link.Goals as goal
@@ -134,3 +135,21 @@ returns-in_err-exit-clause-linked c =
     let tried = trial_here c.args.block.now c.leaving-exits.result.now event p _ has.leaving_is c.in_err-exit.ensures.trial in
     let x = err_from_is_err_and c.from_residual.result c.from_residual.ensures.1 in
     rw (x.1, x.2) (fails c.args.block.now event p c.first_exit.new.meter.left c.in_err-exit.field-0.0 tried)
+
+-- ---- What is kept where no action is performed
+
+pub returns-in-None-clause-kept : goal.returns-in-None-clause-kept
+returns-in-None-clause-kept c = record {
+  block = c.requires.block;
+  fewer = c.first_exit.ensures.fewer;
+  begins = begins_same c.args.emits.now;
+  well_formed = λ all. all;
+}
+
+pub returns-in_err-exit-clause-kept : goal.returns-in_err-exit-clause-kept
+returns-in_err-exit-clause-kept c = record {
+  block = c.requires.block;
+  fewer = c.first_exit.ensures.fewer;
+  begins = begins_same c.args.emits.now;
+  well_formed = λ all. all;
+}

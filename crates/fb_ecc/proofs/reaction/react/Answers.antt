@@ -9,6 +9,7 @@ use Rattle.fb_types.specs.declared.run.Halt.{Halt}
 use Rattle.fb_st.specs.Frames.{values_of, declared_in}
 use Rattle.fb_ecc.specs.Links.{Linked}
 use Rattle.fb_ecc.specs.Indexes.{Ended, index, sampled}
+use Rattle.fb_ecc.proofs.lemmas.Actions.{begins_on, begins_same}
 use Rattle.fb_ecc.proofs.lemmas.Links.{variables_here, chain_early}
 use Rattle.fb_ecc.proofs.reaction.react.Goals as goal
 
@@ -22,6 +23,7 @@ links-init c = record {
       declared = c.sample.ensures.declared ∙ c.requires.block.declared;
     };
   fewer = omega arith;
+  begins = begins_same c.args.emits.now;
   well_formed = λ all. all;
 }
 
@@ -38,6 +40,7 @@ links-preserved c =
       within = search rules;
       block = c.link.ensures.kept.block;
       fewer = let a = c.link.ensures.kept.fewer in let b = c.links.invariant.fewer in omega arith;
+      begins = begins_on c.args.emits.now c.links.emits c.link.new.emits c.links.invariant.begins c.link.ensures.kept.begins;
       well_formed = λ all. c.link.ensures.kept.well_formed (c.links.invariant.well_formed all);
     }
 
@@ -80,3 +83,9 @@ returns-clause-reacted c =
 
 pub returns-clause-well_formed : goal.returns-clause-well_formed
 returns-clause-well_formed c = λ all. c.link.ensures.kept.well_formed (c.links.invariant.well_formed all)
+
+pub returns-in_err-link-clause-kept : goal.returns-in_err-link-clause-kept
+returns-in_err-link-clause-kept c = begins_on c.args.emits.now c.links.emits c.link.new.emits c.links.invariant.begins c.link.ensures.kept.begins
+
+pub returns-clause-kept : goal.returns-clause-kept
+returns-clause-kept c = begins_on c.args.emits.now c.links.emits c.link.new.emits c.links.invariant.begins c.link.ensures.kept.begins

@@ -3,6 +3,7 @@ use Rattle.std.specs.Prelude.{All, IfSome, option_map}
 use Rattle.fb_types.specs.Charts.{Position}
 use Rattle.fb_types.specs.Numbers.{event_at}
 use Rattle.fb_types.specs.declared.value.Reason.{Reason}
+use Rattle.fb_ecc.specs.Blocks.{BeginsWith}
 use Rattle.fb_ecc.specs.Links.{Chain}
 use Rattle.fb_ecc.specs.Indexes.{IsBlockOf, IsWellFormed, index}
 use Rattle.fb_ecc.proofs.reaction.react.Given as goal
@@ -16,6 +17,7 @@ invariant-links l = record {
   within : IfSome l.present (λ event. event < length l.block.ports.event_inputs);
   block : IsBlockOf l.block l.state;
   fewer : l.meter.left ≤ l.initial.meter.left;
+  begins : BeginsWith l.initial.emits l.emits;
   well_formed : All (IsWellFormed l.block) l.initial.emits → All (IsWellFormed l.block) l.emits;
 }
 
