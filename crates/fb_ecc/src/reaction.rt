@@ -19,24 +19,9 @@ use crate::trial::first_exit;
 use fb_st::{Frame, Meter};
 use fb_types::{BasicType, Emits, Halt, Reason, Value};
 
-/// Gives the variables of slots the values that were sampled. Mostly there is one variable, and then there is no call.
+/// Gives the variables of slots the values that were sampled.
 #[inline(always)]
 pub(crate) fn sample(slots: &[usize], values: &[Value], frame: &mut Frame)
-    ensures sampled { (names : List Name) → AreAt (declared_in frame.old) names slots.now → values_of frame.new ≡ with_values (pair_up names values.now) (values_of frame.old) }
-    ensures declared { declared_in frame.new ≡ declared_in frame.old }
-{
-    if let [slot] = slots {
-        if let Some(value) = values.first() {
-            frame.put_at(*slot, value);
-            return;
-        }
-    }
-    sample_all(slots, values, frame);
-}
-
-/// The same as `sample`, for any variables.
-#[inline(never)]
-fn sample_all(slots: &[usize], values: &[Value], frame: &mut Frame)
     ensures sampled { (names : List Name) → AreAt (declared_in frame.old) names slots.now → values_of frame.new ≡ with_values (pair_up names values.now) (values_of frame.old) }
     ensures declared { declared_in frame.new ≡ declared_in frame.old }
 {

@@ -7,8 +7,6 @@ use Rattle.std.proofs.lemmas.Option.{slice_get-get_or, slice_get-map}
 use Rattle.fb_types.specs.Names.{Name, with_value}
 use Rattle.fb_types.specs.Blocks.{goes_with, variable_names, inputs_with, outputs_with}
 use Rattle.fb_types.specs.Flat.{zero_value}
-use Rattle.fb_types.specs.Numbers.{pair_up}
-use Rattle.fb_types.specs.Reactions.{with_values}
 use Rattle.fb_types.specs.Values.{Values}
 use Rattle.fb_types.specs.declared.library.BasicType.{BasicType}
 use Rattle.fb_types.specs.declared.library.Variable.{Variable}
@@ -156,10 +154,6 @@ alone ds (n ∷ []) (j ∷ []) are one =
     (at.0, at.1, ap (λ (m : Name). m ∷ []) same)
 alone ds (n ∷ m ∷ ns) (j ∷ []) are one = absurd (cc)
 alone ds names (j ∷ l ∷ slots) are one = absurd (omega arith)
-
-pub alone_value : (n : Name) (vs : List Value) (v : Value) (vars : Values) → slice_get vs 0 ≡ Some v → with_values (pair_up (n ∷ []) vs) vars ≡ with_value n v vars
-alone_value n [] v vars at = absurd (cc)
-alone_value n (w ∷ vs) v vars at = let same : w ≡ v = cc in ap (λ (x : Value). with_value n x vars) same
 
 -- the values of one name more
 pub values_more :

@@ -18,10 +18,10 @@ links-init c = record {
   linked = λ stop q chain. chain;
   within = c.requires.event;
   block = record {
-      state = c.requires.block.state;
-      chart = c.requires.block.chart;
-      declared = c.sample.ensures.declared ∙ c.requires.block.declared;
-    };
+    state = c.requires.block.state;
+    chart = c.requires.block.chart;
+    declared = c.sample.ensures.declared ∙ c.requires.block.declared;
+  };
   fewer = omega arith;
   begins = begins_same c.args.emits.now;
   well_formed = λ all. all;

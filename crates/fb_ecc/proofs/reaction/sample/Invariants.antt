@@ -4,7 +4,7 @@ use Rattle.fb_types.specs.Numbers.{pair_up}
 use Rattle.fb_types.specs.Reactions.{with_values}
 use Rattle.fb_st.specs.Frames.{values_of, declared_in}
 use Rattle.fb_ecc.specs.Located.{AreAt}
-use Rattle.fb_ecc.proofs.reaction.sample_all.Given as goal
+use Rattle.fb_ecc.proofs.reaction.sample.Given as goal
 
 -- the rest of the values makes of the variables what all values make of them from the start
 abbrev pub invariant-loop-index : goal.invariant-loop-index
