@@ -1,5 +1,5 @@
 -- A run that goes on, and what comes after.
-use Rattle.std.proofs.Common.{◌≡◌, ℕ, ◌<◌, All, List, [], ◌∷◌, ◌++◌, map, refl, sym, ap, subst, ◌∙◌, append_assoc, append-nil, Option, None}
+use Rattle.std.proofs.Common.{◌≡◌, ℕ, ◌<◌, All, List, [], ◌∷◌, ◌++◌, map, refl, sym, ap, subst, ◌∙◌, append_assoc, append-nil, length, Option, Some, None, arith}
 use Rattle.std.proofs.lemmas.List.Elements.{All-nil, All-append, All-push}
 use Rattle.fb_types.specs.Headline.{Inputs, system_of}
 use Rattle.fb_types.specs.Numbers.{line_of}
@@ -7,7 +7,7 @@ use Rattle.fb_types.specs.Machines.{Each}
 use Rattle.fb_types.specs.States.{Config}
 use Rattle.fb_types.specs.States as model
 use Rattle.fb_types.specs.Systems.{System}
-use Rattle.fb_types.specs.Simulation.{Taken, TakesLeast, NothingAfter, Chain, RestsAt, Ending, after, last, lines_of, ending_by, ending_of}
+use Rattle.fb_types.specs.Simulation.{Taken, TakesLeast, NothingAfter, Chain, RestsAt, Ending, AtHorizon, AtStop, after, last, lines_of, ending_by, ending_of}
 use Rattle.fb_types.specs.declared.run.Line.{Line}
 use Rattle.fb_types.specs.declared.run.StopMark.{StopMark}
 use Rattle.fb_types.specs.declared.value.Reason.{Reason}
@@ -48,6 +48,17 @@ lines_after xs ys old mid new before now =
 pub lines_more : (ts : List Taken) (t : Taken) (old mid new : List model.Line) → mid ≡ old ++ lines_of ts → new ≡ mid ++ t.effect.lines → new ≡ old ++ lines_of (ts ++ t ∷ [])
 lines_more ts t old mid new before now = lines_after ts (t ∷ []) old mid new before (now ∙ ap (λ z. mid ++ z) (sym (append-nil t.effect.lines)))
 
+-- ---- Where no line is there
+
+no_lines : {X : Type 0} (os ls : List X) → os ++ ls ≡ [] → ls ≡ []
+no_lines [] ls is = is
+no_lines (x ∷ os) ls is = absurd cc
+
+-- if there is no line now, none was there before, and none came
+pub none_came : (sys : System) (old new : List Line) (ls : List model.Line) → length new < 1 → map (line_of sys) new ≡ map (line_of sys) old ++ ls → ls ≡ []
+none_came sys old [] ls few is = no_lines (map (line_of sys) old) ls (sym is)
+none_came sys old (x ∷ new) ls few is = absurd (omega (arith, few))
+
 -- ---- A run that goes on
 
 module _ (i : Inputs) (horizon limit : ℕ) where
@@ -71,6 +82,24 @@ module _ (i : Inputs) (horizon limit : ℕ) where
     below = All-push (λ (u : Taken). u.key.tick < horizon) [] t (All-nil (λ (u : Taken). u.key.tick < horizon)) below;
     leads = refl;
   })
+
+  -- One event more, which stops its resource.
+  pub record Halts (c d : Config) (ts : List Taken) (t : Taken) (r : Reason) : Type 0 where
+    pub chain : Chain (system_of i) limit c (ts ++ t ∷ [])
+    pub below : All (λ (u : Taken). u.key.tick < horizon) (ts ++ t ∷ [])
+    pub leads : last c (ts ++ t ∷ []) ≡ after d t
+    pub ending : ending_of horizon (ts ++ t ∷ []) ≡ AtStop t.key.tick t.key.resource r
+
+  pub halts : (c d : Config) (ts : List Taken) (t : Taken) (r : Reason) → Reaches i horizon limit c d ts → TakesLeast (system_of i) limit d t → t.effect.stop ≡ Some r
+      → t.key.tick < horizon → Halts c d ts t r
+  halts c d ts t r before takes stops below = record {
+    chain =
+        chain_append (system_of i) limit ts (t ∷ []) c before.going before.chain
+        (subst (λ (z : Config). Chain (system_of i) limit z (t ∷ [])) (sym before.leads) (takes, subst (λ (s : Option Reason). NothingAfter s []) (sym stops) refl, tt));
+    below = All-push (λ (u : Taken). u.key.tick < horizon) ts t before.below below;
+    leads = last_append ts (t ∷ []) c ∙ ap (λ (z : Config). after z t) before.leads;
+    ending = ending_append horizon ts (t ∷ []) before.going ∙ ap (λ (s : Option Reason). ending_by s t.key (AtHorizon horizon)) stops;
+  }
 
   -- What was taken from c to d, and from there on what completes the run.
   pub record Joins (c : Config) (ts us : List Taken) (stop : Option StopMark) : Type 0 where

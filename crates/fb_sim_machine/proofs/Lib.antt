@@ -1,7 +1,9 @@
 pub mod AgendaIs
 pub mod DeliverIs
+pub mod GivenIs
 pub mod Joined
 pub mod Nexts
+pub mod OneStep
 pub mod OpenIs
 pub mod ReadyIs
 pub mod TakenIs

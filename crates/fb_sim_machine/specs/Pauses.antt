@@ -1,14 +1,18 @@
 -- How a machine pauses (this project's profile).
-use Rattle.std.specs.Prelude.{◌≡◌, ◌<◌, ◌++◌, ℕ, List, length, map, Some, None}
+use Rattle.std.specs.Prelude.{◌≡◌, ◌<◌, ◌≤◌, ◌++◌, ◌∷◌, ℕ, List, [], length, map, All, Some, None}
 use Rattle.fb_types.specs.Headline.{Inputs, system_of}
 use Rattle.fb_types.specs.Numbers.{line_of}
-use Rattle.fb_types.specs.Simulation.{Taken, lines_of}
+use Rattle.fb_types.specs.Keys.{NoneBelow}
+use Rattle.fb_types.specs.Machines.{Each}
+use Rattle.fb_types.specs.Simulation.{Taken, Chain, AtStop, ending_of, last, lines_of}
 use Rattle.fb_types.specs.States.{Config}
 use Rattle.fb_sim_machine.specs.Completions.{Completes, Reaches}
 use Rattle.fb_sim_machine.specs.Counts.{fuel_of_all}
 use Rattle.fb_sim_machine.specs.Machines.{IsAt}
 use Rattle.fb_sim_machine.specs.declared.machine.Machine.{Machine}
 use Rattle.fb_sim_machine.specs.declared.pause.Pause.{Pause}
+use Rattle.fb_sim_machine.specs.declared.pause.Step.{Step}
+use Rattle.fb_sim_machine.specs.declared.pause.Step.TheVariants.{Nothing, Took, Stopped}
 use Rattle.fb_sim_machine.specs.declared.pause.Pause.TheVariants.{Lines, Horizon, Stop}
 
 -- The run has continued from a configuration to one where the machine is now; or it is complete.
@@ -26,3 +30,35 @@ abbrev pub IsSooner : (horizon limit : ℕ) (old new : Machine) → Pause → Ty
 IsSooner horizon limit old new Lines = fuel_of_all horizon limit new.meters.items < fuel_of_all horizon limit old.meters.items
 IsSooner horizon limit old new Horizon = Unit {0}
 IsSooner horizon limit old new (Stop m) = Unit {0}
+
+-- ---- Where a machine stands when it pauses
+
+-- From a configuration this was taken, and the machine is at what it leads to. Only the last event may have stopped its
+-- resource.
+pub record HasGone (i : Inputs) (limit : ℕ) (c : Config) (old new : Machine) (taken : List Taken) : Type 0 where
+  pub chain : Chain (system_of i) limit c taken
+  pub at : IsAt i (last c taken).state (last c taken).agenda new
+  pub lines : map (line_of (system_of i)) new.queues.outbox.lines.items ≡ map (line_of (system_of i)) old.queues.outbox.lines.items ++ lines_of taken
+
+-- Why it pauses there. With Lines at least one event was taken, and with one line asked for only the last one gave lines.
+abbrev pub PausesFor : (i : Inputs) (horizon many : ℕ) (c : Config) (new : Machine) → List Taken → Pause → Type 0
+PausesFor i horizon many c new taken Lines =
+    Each (λ t. t.effect.stop ≡ None) taken × (before : List Taken) × (t : Taken) × (taken ≡ before ++ t ∷ [])
+    × (many ≤ length new.queues.outbox.lines.items) × (many ≡ 1 → lines_of before ≡ [])
+PausesFor i horizon many c new taken Horizon = Each (λ t. t.effect.stop ≡ None) taken × NoneBelow (last c taken).agenda horizon
+PausesFor i horizon many c new taken (Stop m) = (m.resource < length (system_of i).resource_names) × (ending_of horizon taken ≡ AtStop m.tick m.resource m.reason)
+
+-- All that a pause says: what was taken is below the horizon.
+abbrev pub Stands : (i : Inputs) (horizon limit many : ℕ) (c : Config) (old new : Machine) → Pause → Type 0
+Stands i horizon limit many c old new p =
+    (taken : List Taken) × HasGone i limit c old new taken × All (λ t. t.key.tick < horizon) taken × PausesFor i horizon many c new taken p
+
+-- ---- One event
+
+-- The least event was taken, if its tick is below the horizon; else the machine is as it was.
+abbrev pub Steps : (i : Inputs) (horizon limit : ℕ) (c : Config) (old new : Machine) → Step → Type 0
+Steps i horizon limit c old new Nothing = NoneBelow c.agenda horizon × IsAt i c.state c.agenda new × (new.queues.outbox.lines.items ≡ old.queues.outbox.lines.items)
+Steps i horizon limit c old new (Took tick) = (t : Taken) × HasGone i limit c old new (t ∷ []) × (t.key.tick ≡ tick) × (tick < horizon) × (t.effect.stop ≡ None)
+Steps i horizon limit c old new (Stopped m) =
+    (t : Taken) × HasGone i limit c old new (t ∷ []) × (t.key.tick ≡ m.tick) × (m.tick < horizon) × (t.key.resource ≡ m.resource) × (t.effect.stop ≡ Some m.reason)
+    × (m.resource < length (system_of i).resource_names)

@@ -17,4 +17,4 @@ mod open;
 pub mod pause;
 
 pub use machine::Machine;
-pub use pause::Pause;
+pub use pause::{Pause, Step};

@@ -1,26 +1,30 @@
 //! The state of a run of all resources, and taking one event after another.
 
-ghost use Rattle.std.specs.Prelude.{◌≡◌, ◌^◌, ◌≤◌, ℕ, [], IfOk, None, OnOk};
+ghost use Rattle.std.specs.Prelude.{◌≡◌, ◌^◌, ◌<◌, ◌≤◌, ℕ, [], ◌∷◌, IfNone, IfOk, IfSome, None, OnErr, OnOk};
 ghost use Rattle.std.specs.Bool.{OnTrue};
-ghost use Rattle.fb_types.specs.Headline.{Inputs};
-ghost use Rattle.fb_types.specs.Keys.{without};
+ghost use Rattle.fb_agenda.specs.Agendas.{IsLeast, waiting};
+ghost use Rattle.fb_system.specs.Stimuli.{IsGivenRow};
+ghost use Rattle.fb_types.specs.Headline.{Inputs, system_of};
+ghost use Rattle.fb_types.specs.Keys.{stimulus_key, with_all, without};
+ghost use Rattle.fb_types.specs.declared.key.Key as keys;
+ghost use Rattle.fb_types.specs.declared.run.Event.TheVariants as events;
 ghost use Rattle.fb_types.specs.States.{Config, State};
 ghost use Rattle.fb_types.specs.States as model;
-ghost use Rattle.fb_types.specs.OfSystem.{IsResource};
+ghost use Rattle.fb_types.specs.OfSystem.{IsResource, path_at, resource_at};
 ghost use Rattle.fb_laws.specs.OfSystem.{IsTypedEvent};
 ghost use Rattle.fb_net.specs.Events.{IsEventIn, IsKeyOf, event_of};
 ghost use Rattle.fb_resource.specs.Takings.{IsRaised};
 ghost use Rattle.fb_sim_machine.specs.Machines.{IsAt, IsReady, IsTaken, with_raised};
-ghost use Rattle.fb_sim_machine.specs.Pauses.{IsSooner, Pauses};
+ghost use Rattle.fb_sim_machine.specs.Pauses.{IsSooner, Pauses, Stands, Steps};
 ghost use Rattle.fb_sim_machine.specs.Runs.{IsSpent};
 
 use crate::deliver::deliver;
-use crate::pause::Pause;
+use crate::pause::{Pause, Step};
 use fb_agenda::Least;
 use fb_net::Tree;
 use fb_resource::{Queues, Taken, TickCounts, find_next, put_next, take};
 use fb_system::System;
-use fb_types::{Line, Reason, StopMark};
+use fb_types::{GivenRow, Line, Reason, StopMark};
 use std::alloc::AllocError;
 
 /// The one agenda of all resources, with the counts of their messages and what takings give, and the blocks and the
@@ -131,6 +135,8 @@ impl Machine {
         ensures pauses { IfOk result (λ p. (c : Config) → IsAt system.now c.state c.agenda self.old → Pauses system.now horizon limit c self.old self.new p) }
         ensures ready { OnOk result ((tick : ℕ) × IsReady system.now limit tick self.new) }
         ensures sooner { IfOk result (IsSooner horizon limit self.old self.new) }
+        ensures stands { IfOk result (λ p. (c : Config) → IsAt system.now c.state c.agenda self.old → Stands system.now horizon limit many c self.old self.new p) }
+        ensures early { OnOk result ((tick : ℕ) → tick ≤ horizon → IsReady system.now limit tick self.old → (t : ℕ) × (t ≤ horizon) × IsReady system.now limit t self.new) }
     {
         let mut least = Least::new();
         let mut found = self.queues.agenda.take_least_into(horizon, &mut least);
@@ -151,6 +157,70 @@ impl Machine {
             found = find_next(&mut self.queues.agenda, horizon, taken.raised, &mut least)?;
         }
         Ok(Pause::Horizon)
+    }
+
+    /// Takes the least event, if its tick is below the horizon, and appends its lines to those that are there.
+    ///
+    /// # Errors
+    /// When memory runs out, or a link has carried 2^128 messages.
+    pub fn take_next(
+        &mut self,
+        system: &System,
+        horizon: u64,
+        limit: u64,
+    ) -> Result<Step, AllocError>
+        requires ready { (tick : ℕ) × IsReady system.now limit tick self.old }
+        requires represents { (c : Config) × IsAt system.now c.state c.agenda self.old }
+        requires early { horizon ≤ 10 ^ 12 }
+        requires few { limit ≤ 10 ^ 7 }
+        ensures steps { IfOk result (λ s. (c : Config) → IsAt system.now c.state c.agenda self.old → Steps system.now horizon limit c self.old self.new s) }
+        ensures early { OnOk result ((tick : ℕ) → tick ≤ horizon → IsReady system.now limit tick self.old → (t : ℕ) × (t ≤ horizon) × IsReady system.now limit t self.new) }
+    {
+        let mut least = Least::new();
+        if !self.queues.agenda.take_least_into(horizon, &mut least) {
+            return Ok(Step::Nothing);
+        }
+        let (tick, resource) = (least.key.tick, least.key.resource);
+        match self.take_event(system, limit, &mut least)? {
+            Some(reason) => Ok(Step::Stopped(StopMark {
+                tick,
+                resource,
+                reason,
+            })),
+            None => Ok(Step::Took(tick)),
+        }
+    }
+
+    /// The tick and the resource of the least event, if one waits below the horizon. It stays where it is.
+    pub fn first(&self, horizon: u64) -> Option<(u64, u32)>
+        ensures some { IfSome result (λ f. (k : keys.Key) × (k.tick ≡ f.0) × (k.resource ≡ f.1) × IsLeast self.now.queues.agenda k × (f.0 < horizon)) }
+        ensures none { IfNone result ((j : keys.Key) → j.tick < horizon → waiting self.now.queues.agenda j ≡ None) }
+    {
+        let key = self.queues.agenda.first()?;
+        if key.tick < horizon {
+            Some((key.tick, key.resource))
+        } else {
+            None
+        }
+    }
+
+    /// Puts a row that was given, at a tick in milliseconds.
+    ///
+    /// # Errors
+    /// When memory runs out. The machine is then as it was.
+    pub fn give(&mut self, system: &System, tick: u64, given: GivenRow) -> Result<(), AllocError>
+        requires row { IsGivenRow (system_of system.now) given }
+        requires typed { IsTypedEvent system.now (event_of system.now (events.Given given)) }
+        ensures given { OnOk result ((s : State) (a : model.Agenda) → IsAt system.now s a self.old
+            → IsAt system.now s (with_all ((stimulus_key tick (resource_at system.now (path_at system.now given.target.instance)) given.row, event_of system.now (events.Given given)) ∷ []) a) self.new) }
+        ensures ready { OnOk result ((limit : ℕ) (from : ℕ) → from ≤ tick → IsReady system.now limit from self.old → IsReady system.now limit from self.new) }
+        ensures lines { self.new.queues.outbox.lines.items ≡ self.old.queues.outbox.lines.items }
+        ensures err { OnErr result (self.new ≡ self.old) }
+    {
+        // for the prover: what holds of each system
+        system.facts();
+        let resource = system.resource(given.target.instance) as u32;
+        self.queues.agenda.put_given(tick, resource, given)
     }
 
     /// The lines that are there.

@@ -12,3 +12,14 @@ pub enum Pause {
     /// A resource has stopped.
     Stop(StopMark),
 }
+
+/// What came of taking one event.
+#[derive(Clone, Copy)]
+pub enum Step {
+    /// Nothing waits below the horizon.
+    Nothing,
+    /// The least event was taken, at this tick in milliseconds.
+    Took(u64),
+    /// The least event was taken, and stopped its resource.
+    Stopped(StopMark),
+}

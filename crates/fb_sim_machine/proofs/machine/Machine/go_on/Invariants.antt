@@ -1,4 +1,5 @@
-use Rattle.std.proofs.Common.{◌≡◌, ℕ, ◌≤◌}
+use Rattle.std.proofs.Common.{◌≡◌, ℕ, ◌≤◌, []}
+use Rattle.fb_types.specs.Simulation.{lines_of}
 use Rattle.fb_types.specs.States.{Config}
 use Rattle.fb_agenda.specs.Agendas.{Contents}
 use Rattle.fb_resource.specs.Takings.{Finds}
@@ -18,6 +19,8 @@ invariant-events l = record {
   ready : (tick : ℕ) × IsReady l.system l.limit tick (on_agenda was l.self);
   represents : (c : Config) × IsAt l.system c.state c.agenda (on_agenda was l.self);
   comes : (c : Config) → IsAt l.system c.state c.agenda l.fn.self → Pauses l.system l.horizon l.limit c l.fn.self (on_agenda was l.self) Lines;
+  quiet : (c : Config) (is : IsAt l.system c.state c.agenda l.fn.self) → l.many ≡ 1 → lines_of (comes c is).1 ≡ [];
+  ahead : (tick : ℕ) → tick ≤ l.horizon → IsReady l.system l.limit tick l.fn.self → (t : ℕ) × (t ≤ l.horizon) × IsReady l.system l.limit t (on_agenda was l.self);
   left : fuel_of_all l.horizon l.limit l.self.meters.items ≤ fuel_of_all l.horizon l.limit l.fn.self.meters.items;
 }
 
