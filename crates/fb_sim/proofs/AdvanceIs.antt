@@ -12,7 +12,7 @@ use Rattle.fb_trace.specs.Progress.{IsPartWritten}
 use Rattle.fb_window.specs.declared.cores.CoreState.{CoreState}
 use Rattle.fb_sim.specs.Advances.{Advances, AdvancesBy, AdvancesOn, Finishes, FinishesBy, FinishesOn, HasAdvanced, IsNext, RunsTo, stop_line}
 use Rattle.fb_sim.specs.Rounds.{AreAll, Begin, IsShort, RunsOn, text_of}
-use Rattle.fb_sim.specs.Sessions.{Session}
+use Rattle.fb_sim.specs.Views.{SimulationView}
 use Rattle.fb_sim.specs.declared.rounds.all_rounds.Finish.TheVariants.{AtEnd, AtMark}
 use Rattle.fb_sim.specs.declared.options.Options.{Options}
 use Rattle.fb_trace.specs.declared.last.Outcome.{Outcome}
@@ -24,7 +24,7 @@ use Rattle.fb_sim.specs.declared.rounds.tally.Written.{Written}
 use Rattle.fb_sim.specs.declared.state.Stage.TheVariants as going
 use Rattle.fb_sim.proofs.Texts.{lines_text-append, part-after, part-before}
 
-module _ (s : Session) (to : ℕ) (ls out : List Line) (was : AreAll s.inputs s.steps s.to ls (AtHorizon s.to)) where
+module _ (s : SimulationView) (to : ℕ) (ls out : List Line) (was : AreAll s.inputs s.steps s.to ls (AtHorizon s.to)) where
   -- all lines to the later tick
   abbrev pub next_all : (end : Ending) → AreAll s.inputs s.steps to (ls ++ out) end → IsNext s to (text_of s.inputs s.form out ++ stop_line (system_of s.inputs) end) end
   next_all end all = record {
@@ -68,10 +68,10 @@ module _ (s : Session) (to : ℕ) (ls out : List Line) (was : AreAll s.inputs s.
 -- ---- On to a later tick
 
 -- the options of the run to there
-abbrev pub onward : Session → ℕ → Options
+abbrev pub onward : SimulationView → ℕ → Options
 onward s to = record { horizon = to; steps = s.steps; workers = s.workers; form = s.form }
 
-module _ (s : Session) (to : ℕ) (later : s.to < to) (ls : List Line) (was : AreAll s.inputs s.steps s.to ls (AtHorizon s.to)) (old : Option (List ℕ)) where
+module _ (s : SimulationView) (to : ℕ) (later : s.to < to) (ls : List Line) (was : AreAll s.inputs s.steps s.to ls (AtHorizon s.to)) (old : Option (List ℕ)) where
   pub advanced_end : (new : Option (List ℕ)) (core : CoreState) (n : Written) → RunsOn s.inputs (onward s to) ls old new (Ok (AtEnd core, n))
       → RunsTo s (record s { to = to; stage = going.Running }) to old new (Ok (End to, n))
   advanced_end new core n r = (
@@ -133,7 +133,7 @@ module _ (s : Session) (to : ℕ) (later : s.to < to) (ls : List Line) (was : Ar
 
 -- ---- Ending
 
-pub short_end : (s : Session) (old new : Option (List ℕ)) (e : RunError) → IsShort old new (last_line (system_of s.inputs) (AtHorizon s.to)) 0 e → FinishesOn s old new (Err e)
+pub short_end : (s : SimulationView) (old new : Option (List ℕ)) (e : RunError) → IsShort old new (last_line (system_of s.inputs) (AtHorizon s.to)) 0 e → FinishesOn s old new (Err e)
 short_end s old new (Write k) p = record {
   count = p.1.count;
   short = p.1.short;
@@ -148,41 +148,41 @@ short_end s old new Failed bad = absurd bad
 -- ---- In the functions
 
 -- the error that `?` passes on
-passed_on : (s t : Session) (to : ℕ) (old new : Option (List ℕ)) (e : RunError) → AdvancesOn s t to old new (Err e) → (r : Result (Outcome × Written) RunError) → IsErrAnd r (λ f. f ≡ e) → RunsTo s t to old new r
+passed_on : (s t : SimulationView) (to : ℕ) (old new : Option (List ℕ)) (e : RunError) → AdvancesOn s t to old new (Err e) → (r : Result (Outcome × Written) RunError) → IsErrAnd r (λ f. f ≡ e) → RunsTo s t to old new r
 passed_on s t to old new e h (Ok x) bad = absurd bad
 passed_on s t to old new e h (Err f) is = subst (λ (x : RunError). AdvancesOn s t to old new (Err x)) (sym is) h
 
 -- A call that fails leaves the simulation as it was when its core had been taken out.
-pub fails_on : (v s : Session) → v ≡ s → s.stage ≡ going.Failed → (to : ℕ) (old new : Option (List ℕ)) (e : RunError) → AdvancesOn (record v { stage = going.Running }) (record v { stage = going.Failed }) to old new (Err e)
+pub fails_on : (v s : SimulationView) → v ≡ s → s.stage ≡ going.Failed → (to : ℕ) (old new : Option (List ℕ)) (e : RunError) → AdvancesOn (record v { stage = going.Running }) (record v { stage = going.Failed }) to old new (Err e)
     → (r : Result (Outcome × Written) RunError) → IsErrAnd r (λ f. f ≡ e) → RunsTo (record s { stage = going.Running }) s to old new r
 fails_on v s same failed to old new e h r is =
     let t : record s { stage = going.Failed } ≡ s = ap (λ (p : Stage). record s { stage = p }) (sym failed) in
     let a : AdvancesOn (record s { stage = going.Running }) (record s { stage = going.Failed }) to old new (Err e) =
-    subst (λ (x : Session). AdvancesOn (record x { stage = going.Running }) (record x { stage = going.Failed }) to old new (Err e)) same h in
-    passed_on (record s { stage = going.Running }) s to old new e (subst (λ (x : Session). AdvancesOn (record s { stage = going.Running }) x to old new (Err e)) t a) r is
+    subst (λ (x : SimulationView). AdvancesOn (record x { stage = going.Running }) (record x { stage = going.Failed }) to old new (Err e)) same h in
+    passed_on (record s { stage = going.Running }) s to old new e (subst (λ (x : SimulationView). AdvancesOn (record s { stage = going.Running }) x to old new (Err e)) t a) r is
 
-pub goes_on : (v s t : Session) → v ≡ s → (to : ℕ) (old new : Option (List ℕ)) (o : Outcome) (w : Written) → RunsTo (record v { stage = going.Running }) t to old new (Ok (o, w)) → RunsTo (record s { stage = going.Running }) t to old new (Ok (o, w))
-goes_on v s t same to old new o w h = subst (λ (x : Session). RunsTo (record x { stage = going.Running }) t to old new (Ok (o, w))) same h
+pub goes_on : (v s t : SimulationView) → v ≡ s → (to : ℕ) (old new : Option (List ℕ)) (o : Outcome) (w : Written) → RunsTo (record v { stage = going.Running }) t to old new (Ok (o, w)) → RunsTo (record s { stage = going.Running }) t to old new (Ok (o, w))
+goes_on v s t same to old new o w h = subst (λ (x : SimulationView). RunsTo (record x { stage = going.Running }) t to old new (Ok (o, w))) same h
 
 -- the error of the last line
-pub unfinished : (v s : Session) → v ≡ s → v.stage ≡ going.Running → (old new : Option (List ℕ)) (e : RunError) → IsShort old new (last_line (system_of v.inputs) (AtHorizon v.to)) 0 e
+pub unfinished : (v s : SimulationView) → v ≡ s → v.stage ≡ going.Running → (old new : Option (List ℕ)) (e : RunError) → IsShort old new (last_line (system_of v.inputs) (AtHorizon v.to)) 0 e
     → (r : Result Outcome RunError) → IsErrAnd r (λ f. f ≡ e) → Finishes s old new r
 unfinished v s same running old new e h r is =
-    subst (λ (x : Session). Finishes x old new r) same (subst (λ (p : Stage). FinishesBy p v old new r) (sym running) (given r is))
+    subst (λ (x : SimulationView). Finishes x old new r) same (subst (λ (p : Stage). FinishesBy p v old new r) (sym running) (given r is))
   where
     given : (q : Result Outcome RunError) → IsErrAnd q (λ f. f ≡ e) → FinishesOn v old new q
     given (Ok x) bad = absurd bad
     given (Err f) is = subst (λ (x : RunError). FinishesOn v old new (Err x)) (sym is) (short_end v old new e h)
 
 -- A later tick.
-pub gets_there : (s t : Session) → s.stage ≡ going.Running → (to : ℕ) → to ≤ 10 ^ 12 → (old new : Option (List ℕ)) (o : Outcome) → HasAdvanced s t to old new o → Advances s t to old new (Ok o)
+pub gets_there : (s t : SimulationView) → s.stage ≡ going.Running → (to : ℕ) → to ≤ 10 ^ 12 → (old new : Option (List ℕ)) (o : Outcome) → HasAdvanced s t to old new o → Advances s t to old new (Ok o)
 gets_there s t running to early old new o h = record {
   bad = λ late. absurd (omega (arith, early, late));
   by = λ _. subst (λ (p : Stage). AdvancesBy p s t to old new (Ok o)) (sym running) (inl h);
 }
 
 -- A later tick that it does not come to.
-pub fails_there : (s t : Session) → s.stage ≡ going.Running → (to : ℕ) → to ≤ 10 ^ 12 → (old new : Option (List ℕ)) (e : RunError) → RunsTo s t to old new (Err e)
+pub fails_there : (s t : SimulationView) → s.stage ≡ going.Running → (to : ℕ) → to ≤ 10 ^ 12 → (old new : Option (List ℕ)) (e : RunError) → RunsTo s t to old new (Err e)
     → Advances s t to old new (Err e)
 fails_there s t running to early old new e h = record {
   bad = λ late. absurd (omega (arith, early, late));

@@ -15,14 +15,14 @@ use Rattle.fb_types.proofs.SimulationLaws.{one-simulation}
 use Rattle.fb_sim_machine.proofs.Joined.{lines_of-append}
 use Rattle.fb_trace.specs.Progress.{IsPartWritten, bounded}
 use Rattle.fb_sim.specs.Advances.{IsNext, stop_line}
-use Rattle.fb_sim.specs.Sessions.{Session}
+use Rattle.fb_sim.specs.Views.{SimulationView}
 use Rattle.fb_sim.specs.declared.options.Options.{Options}
 use Rattle.fb_trace.specs.declared.last.Outcome.{Outcome}
 use Rattle.fb_trace.specs.declared.last.Outcome.TheVariants.{End, Stop}
 use Rattle.fb_sim.specs.declared.outcome.RunError.{RunError}
 use Rattle.fb_sim.specs.declared.outcome.RunError.TheVariants.{Refused, Memory, Write, BadOption, Failed}
 use Rattle.fb_sim.proofs.Texts.{lines_text-append, part-after, part-before}
-use Rattle.fb_sim.specs.Reports.{Came, Comes, GoesOn, HasBroken, HasCome, HasReported, Hears, IsAsFar, hundredth, report_text, session}
+use Rattle.fb_sim.specs.Reports.{Came, Comes, GoesOn, HasBroken, HasCome, HasReported, Hears, IsAsFar, hundredth, report_text, view_at}
 use Rattle.fb_sim.specs.declared.with_progress.ReportTally.{ReportTally}
 use Rattle.fb_sim.proofs.Simulations.{horizon_is, later_begins, stop_is_early, stopped_later, stops}
 
@@ -45,16 +45,16 @@ module _ (i : Inputs) (o : Options) where
   }
 
   module _ (from to : ℕ) (text bytes : List ℕ) (come : HasCome i o from text) where
-    same_takings : (end : Ending) (n : IsNext (session i o from) to bytes end) → come.takings ≡ n.before
+    same_takings : (end : Ending) (n : IsNext (view_at i o from) to bytes end) → come.takings ≡ n.before
     same_takings end n = one-simulation (system_of i) (stimuli_of i) from o.steps come.takings n.before come.simulation n.was
 
     -- the lines that were written and those that come next
-    pub next_lines : (end : Ending) (n : IsNext (session i o from) to bytes end) → length (lines_of n.takings) ≡ length (lines_of come.takings) + length n.rest
+    pub next_lines : (end : Ending) (n : IsNext (view_at i o from) to bytes end) → length (lines_of n.takings) ≡ length (lines_of come.takings) + length n.rest
     next_lines end n =
         ap length n.split ∙ length-append (lines_of n.before) n.rest ∙ ap (λ (ts : List Taken). length (lines_of ts) + length n.rest) (sym (same_takings end n))
 
     -- what was written and what comes next
-    pub next_text : (end : Ending) (n : IsNext (session i o from) to bytes end) → text ++ bytes ≡ lines_text o.form (system_of i) (lines_of n.takings) ++ stop_line (system_of i) end
+    pub next_text : (end : Ending) (n : IsNext (view_at i o from) to bytes end) → text ++ bytes ≡ lines_text o.form (system_of i) (lines_of n.takings) ++ stop_line (system_of i) end
     next_text end n =
         let sys = system_of i in
         let same : come.takings ≡ n.before = same_takings end n in
@@ -65,7 +65,7 @@ module _ (i : Inputs) (o : Options) where
         ∙ sym (append_assoc (lines_text o.form sys (lines_of n.before)) (lines_text o.form sys n.rest) (stop_line sys end))
         ∙ ap (λ (a : List ℕ). a ++ stop_line sys end) (sym both)
 
-    abbrev pub come_next : IsNext (session i o from) to bytes (AtHorizon to) → HasCome i o to (text ++ bytes)
+    abbrev pub come_next : IsNext (view_at i o from) to bytes (AtHorizon to) → HasCome i o to (text ++ bytes)
     come_next n = record {
       takings = n.takings;
       simulation = n.simulation;
@@ -73,7 +73,7 @@ module _ (i : Inputs) (o : Options) where
       text_is = next_text (AtHorizon to) n ∙ append-nil (lines_text o.form (system_of i) (lines_of n.takings));
     }
 
-    pub come_stop : (horizon tick r : ℕ) (reason : Reason) → to ≤ horizon → IsNext (session i o from) to bytes (AtStop tick r reason) → IsTrace i o.form horizon o.steps (text ++ bytes) (AtStop tick r reason)
+    pub come_stop : (horizon tick r : ℕ) (reason : Reason) → to ≤ horizon → IsNext (view_at i o from) to bytes (AtStop tick r reason) → IsTrace i o.form horizon o.steps (text ++ bytes) (AtStop tick r reason)
     come_stop horizon tick r reason early n = record {
       takings = n.takings;
       simulation = stopped_later (system_of i) (stimuli_of i) o.steps to horizon tick r reason early n.takings (sym n.ending) n.simulation;
@@ -119,10 +119,10 @@ module _ (i : Inputs) (o : Options) where
       }
 
   -- what must be written on the way begins the trace
-  pub come_part : AreGood i → (from to horizon : ℕ) (text bytes : List ℕ) → to ≤ horizon → HasCome i o from text → (end : Ending) → IsNext (session i o from) to bytes end → Fronts horizon (text ++ bytes)
+  pub come_part : AreGood i → (from to horizon : ℕ) (text bytes : List ℕ) → to ≤ horizon → HasCome i o from text → (end : Ending) → IsNext (view_at i o from) to bytes end → Fronts horizon (text ++ bytes)
   come_part good from to horizon text bytes early come end n = go end n.ending n
     where
-      at_stop : (tick r : ℕ) (reason : Reason) → IsNext (session i o from) to bytes (AtStop tick r reason) → Fronts horizon (text ++ bytes)
+      at_stop : (tick r : ℕ) (reason : Reason) → IsNext (view_at i o from) to bytes (AtStop tick r reason) → Fronts horizon (text ++ bytes)
       at_stop tick r reason m =
           let t = come_stop from to text bytes come horizon tick r reason early m in
           record {
@@ -131,18 +131,18 @@ module _ (i : Inputs) (o : Options) where
             trace = subst (λ (x : List ℕ). IsTrace i o.form horizon o.steps x (AtStop tick r reason)) (sym (append-nil (text ++ bytes))) t;
           }
 
-      at_horizon : (h : ℕ) → h ≡ to → IsNext (session i o from) to bytes (AtHorizon h) → Fronts horizon (text ++ bytes)
+      at_horizon : (h : ℕ) → h ≡ to → IsNext (view_at i o from) to bytes (AtHorizon h) → Fronts horizon (text ++ bytes)
       at_horizon h is m =
-          come_front good to horizon (text ++ bytes) early (come_next from to text bytes come (subst (λ (k : ℕ). IsNext (session i o from) to bytes (AtHorizon k)) is m))
+          come_front good to horizon (text ++ bytes) early (come_next from to text bytes come (subst (λ (k : ℕ). IsNext (view_at i o from) to bytes (AtHorizon k)) is m))
 
-      go : (e : Ending) → e ≡ ending_of to n.takings → IsNext (session i o from) to bytes e → Fronts horizon (text ++ bytes)
+      go : (e : Ending) → e ≡ ending_of to n.takings → IsNext (view_at i o from) to bytes e → Fronts horizon (text ++ bytes)
       go (AtHorizon h) is m = at_horizon h (horizon_is to n.takings h is) m
       go (AtStop tick r reason) is m = at_stop tick r reason m
 
 -- ---- From hundredth to hundredth
 
 -- the same, with the horizon named otherwise
-abbrev pub next_at : (s : Session) (to : ℕ) (bytes : List ℕ) (h k : ℕ) → h ≡ k → IsNext s to bytes (AtHorizon h) → IsNext s to bytes (AtHorizon k)
+abbrev pub next_at : (s : SimulationView) (to : ℕ) (bytes : List ℕ) (h k : ℕ) → h ≡ k → IsNext s to bytes (AtHorizon h) → IsNext s to bytes (AtHorizon k)
 next_at s to bytes h k e n = record {
   before = n.before;
   takings = n.takings;
@@ -155,15 +155,15 @@ next_at s to bytes h k e n = record {
 }
 
 -- a simulation as its own inputs say
-pub at_own : (s : Session) (i : Inputs) (o : Options) (to : ℕ) → s ≡ session i o to → s ≡ session s.inputs o to
-at_own s i o to at = at ∙ ap (λ (j : Inputs). session j o to) (sym (ap (λ (z : Session). z.inputs) at))
+pub at_own : (s : SimulationView) (i : Inputs) (o : Options) (to : ℕ) → s ≡ view_at i o to → s ≡ view_at s.inputs o to
+at_own s i o to at = at ∙ ap (λ (j : Inputs). view_at j o to) (sym (ap (λ (z : SimulationView). z.inputs) at))
 
 -- the result of a step of the loop, as the inputs are called before the loop
 pub comes_so :
-    (s : Session) (i : Inputs) (o : Options) (to : ℕ) → s ≡ session i o to → (t : Session) (first out new quiet err reported : Option (List ℕ)) (k l : ℕ) (n m : ReportTally) (r : Result Outcome RunError)
+    (s : SimulationView) (i : Inputs) (o : Options) (to : ℕ) → s ≡ view_at i o to → (t : SimulationView) (first out new quiet err reported : Option (List ℕ)) (k l : ℕ) (n m : ReportTally) (r : Result Outcome RunError)
     → ((f : Option (List ℕ)) → (q : Option (List ℕ)) → Came s.inputs o f out q err k n → Comes s.inputs o t f new q reported l m r) → Came i o first out quiet err k n → Comes i o t first new quiet reported l m r
 comes_so s i o to at t first out new quiet err reported k l n m r comes came =
-    let e : s.inputs ≡ i = ap (λ (z : Session). z.inputs) at in
+    let e : s.inputs ≡ i = ap (λ (z : SimulationView). z.inputs) at in
     subst (λ (j : Inputs). Comes j o t first new quiet reported l m r) e (comes first quiet (subst (λ (j : Inputs). Came j o first out quiet err k n) (sym e) came))
 
 pub hundredth_first : (h : ℕ) → hundredth h 0 ≡ 0
@@ -243,46 +243,46 @@ module _ (i : Inputs) (o : Options) (first out quiet err : Option (List ℕ)) (n
       }
 
   -- and the simulation has not moved
-  pub same_session : next ≤ now → session i o now ≡ session i o next
-  same_session b = ap (session i o) (sym (same_tick b))
+  pub same_view : next ≤ now → view_at i o now ≡ view_at i o next
+  same_view b = ap (view_at i o) (sym (same_tick b))
 
   -- the count of bytes after a text
   more_bytes : (bytes : List ℕ) → bounded (n.bytes + length bytes) ≡ bounded (length (c.text ++ bytes))
   more_bytes bytes = let e = c.bytes_are in rw length-append (omega (arith, e))
 
   -- and that of lines
-  more_lines : (bytes : List ℕ) (k : IsNext (session i o now) next bytes (AtHorizon next)) → bounded (n.lines + length k.rest) ≡ bounded (length (lines_of k.takings))
+  more_lines : (bytes : List ℕ) (k : IsNext (view_at i o now) next bytes (AtHorizon next)) → bounded (n.lines + length k.rest) ≡ bounded (length (lines_of k.takings))
   more_lines bytes k =
       let e = c.lines_are in
       let f : length (lines_of k.takings) ≡ length (lines_of c.come.takings) + length k.rest = next_lines i o now next c.text bytes c.come (AtHorizon next) k in
       omega (arith, e, f)
 
   -- a simulation at the tick of this many hundredths, on the way to the next
-  pub goes_here : (s t : Session) (tick : ℕ) (mid : Option (List ℕ)) (m : ReportTally) (r : Result Outcome RunError) → s ≡ session i o now → tick ≡ next → GoesOn s t tick out mid n m r
-      → GoesOn (session i o now) t next out mid n m r
+  pub goes_here : (s t : SimulationView) (tick : ℕ) (mid : Option (List ℕ)) (m : ReportTally) (r : Result Outcome RunError) → s ≡ view_at i o now → tick ≡ next → GoesOn s t tick out mid n m r
+      → GoesOn (view_at i o now) t next out mid n m r
   goes_here s t tick mid m r at is goes =
-      subst (λ (z : Session). GoesOn z t next out mid n m r) at (subst (λ (k : ℕ). GoesOn s t k out mid n m r) is goes)
+      subst (λ (z : SimulationView). GoesOn z t next out mid n m r) at (subst (λ (k : ℕ). GoesOn s t k out mid n m r) is goes)
 
   -- it is reported that the run has reached the next hundredth
-  pub hears_more : (mid : Option (List ℕ)) (t : Session) (m : ReportTally) (k : ℕ) (heard : Bool) (new : Option (List ℕ)) → GoesOn (session i o now) t next out mid n m (Ok (End k)) → m.is_heard ≡ true
+  pub hears_more : (mid : Option (List ℕ)) (t : SimulationView) (m : ReportTally) (k : ℕ) (heard : Bool) (new : Option (List ℕ)) → GoesOn (view_at i o now) t next out mid n m (Ok (End k)) → m.is_heard ≡ true
       → Hears heard err new (report_text o.horizon next m.lines) → Hears heard quiet new (c.reports ++ report_text o.horizon next m.lines)
   hears_more mid t m k heard new r is h =
       heard_more heard quiet err new c.reports (report_text o.horizon next m.lines) (λ e. cc) (subst (λ (b : Bool). Hears b quiet err c.reports) (sym r.4.2 ∙ is) c.hears) h
 
   -- or not, as standard error did not take an earlier report
-  pub hears_no_more : (mid : Option (List ℕ)) (t : Session) (m : ReportTally) (k : ℕ) → GoesOn (session i o now) t next out mid n m (Ok (End k)) → m.is_heard ≡ false
+  pub hears_no_more : (mid : Option (List ℕ)) (t : SimulationView) (m : ReportTally) (k : ℕ) → GoesOn (view_at i o now) t next out mid n m (Ok (End k)) → m.is_heard ≡ false
       → Hears false quiet err (c.reports ++ report_text o.horizon next m.lines)
   hears_no_more mid t m k r is =
       heard_no_more quiet err c.reports (report_text o.horizon next m.lines) (λ e. cc) (subst (λ (b : Bool). Hears b quiet err c.reports) (sym r.4.2 ∙ is) c.hears)
 
   -- the run goes on to the next hundredth
-  pub came_more : (t : Session) (mid : Option (List ℕ)) (m : ReportTally) (k : ℕ) (heard : Bool) (new : Option (List ℕ)) → now < next
-      → GoesOn (session i o now) t next out mid n m (Ok (End k)) → Hears heard quiet new (c.reports ++ report_text o.horizon next m.lines)
+  pub came_more : (t : SimulationView) (mid : Option (List ℕ)) (m : ReportTally) (k : ℕ) (heard : Bool) (new : Option (List ℕ)) → now < next
+      → GoesOn (view_at i o now) t next out mid n m (Ok (End k)) → Hears heard quiet new (c.reports ++ report_text o.horizon next m.lines)
       → Comes i o t first mid quiet new (suc count) (record m { is_heard = heard }) (Ok (End next))
   came_more t mid m k heard new later r hears =
       let bytes = r.0 in
       let at : k ≡ next = horizon_is next r.1.takings k r.1.ending in
-      let y : IsNext (session i o now) next bytes (AtHorizon next) = next_at (session i o now) next bytes k next at r.1 in
+      let y : IsNext (view_at i o now) next bytes (AtHorizon next) = next_at (view_at i o now) next bytes k next at r.1 in
       let come = come_next i o now next c.text bytes c.come y in
       let lines_are : m.lines ≡ bounded (length (lines_of come.takings)) = r.4.1 ∙ more_lines bytes y in
       let written : bytes ≡ lines_text o.form (system_of i) y.rest = y.text ∙ append-nil (lines_text o.form (system_of i) y.rest) in
@@ -313,10 +313,10 @@ module _ (i : Inputs) (o : Options) (first out quiet err : Option (List ℕ)) (n
   }
 
   -- the run stops on the way
-  pub came_stop : count ≤ 100 → next ≤ o.horizon → (t : Session) (mid : Option (List ℕ)) (m : ReportTally) (mark : StopMark) → GoesOn (session i o now) t next out mid n m (Ok (Stop mark))
+  pub came_stop : count ≤ 100 → next ≤ o.horizon → (t : SimulationView) (mid : Option (List ℕ)) (m : ReportTally) (mark : StopMark) → GoesOn (view_at i o now) t next out mid n m (Ok (Stop mark))
       → Comes i o t first mid quiet err (suc count) m (Ok (Stop mark))
   came_stop few early t mid m mark r = (
-    ap (λ (s : Session). s.stage) r.3,
+    ap (λ (s : SimulationView). s.stage) r.3,
     record {
       bytes = c.text ++ r.0;
       got = Appends-trans first out mid c.text r.0 c.got r.2;
@@ -327,7 +327,7 @@ module _ (i : Inputs) (o : Options) (first out quiet err : Option (List ℕ)) (n
   )
 
   -- The run was out of memory on the way, when this part was written.
-  broken_at : (mid : Option (List ℕ)) (part rest : List ℕ) (end : Ending) → IsNext (session i o now) next (part ++ rest) end → Appends out mid part → HasBroken i o first mid count Memory
+  broken_at : (mid : Option (List ℕ)) (part rest : List ℕ) (end : Ending) → IsNext (view_at i o now) next (part ++ rest) end → Appends out mid part → HasBroken i o first mid count Memory
   broken_at mid part rest end k got = record {
     text = c.text;
     come = c.come;
@@ -337,7 +337,7 @@ module _ (i : Inputs) (o : Options) (first out quiet err : Option (List ℕ)) (n
   }
 
   -- The writer failed on the way.
-  cut_at : (mid : Option (List ℕ)) (bytes : List ℕ) (end : Ending) (w k : ℕ) → IsNext (session i o now) next bytes end → IsPartWritten out mid bytes w → HasBroken i o first mid count (Write k)
+  cut_at : (mid : Option (List ℕ)) (bytes : List ℕ) (end : Ending) (w k : ℕ) → IsNext (view_at i o now) next bytes end → IsPartWritten out mid bytes w → HasBroken i o first mid count (Write k)
   cut_at mid bytes end w k x p =
       let part = take p.count bytes in
       let rest = drop p.count bytes in
@@ -350,14 +350,14 @@ module _ (i : Inputs) (o : Options) (first out quiet err : Option (List ℕ)) (n
         left = λ b. record {
           rest = rest;
           end = end;
-          next = subst (λ (t : List ℕ). IsNext (session i o now) next t end) both x;
+          next = subst (λ (t : List ℕ). IsNext (view_at i o now) next t end) both x;
           missing = let s = p.short in rw length-drop (omega arith);
         };
       }
 
   -- the run finds no memory on the way, or can't write
-  pub came_failed : AreGood i → count ≤ 100 → next ≤ o.horizon → (t : Session) (mid : Option (List ℕ)) (m : ReportTally) (e : RunError)
-      → GoesOn (session i o now) t next out mid n m (Err e) → Comes i o t first mid quiet err (suc count) m (Err e)
+  pub came_failed : AreGood i → count ≤ 100 → next ≤ o.horizon → (t : SimulationView) (mid : Option (List ℕ)) (m : ReportTally) (e : RunError)
+      → GoesOn (view_at i o now) t next out mid n m (Err e) → Comes i o t first mid quiet err (suc count) m (Err e)
   came_failed good few later t mid m Memory r =
       let sys = system_of i in
       let part = lines_text o.form sys r.0 in

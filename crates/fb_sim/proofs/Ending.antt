@@ -11,7 +11,7 @@ use Rattle.fb_sim.specs.Given.{Given}
 use Rattle.fb_sim.specs.Rounds.{FailsRun, after_bytes}
 use Rattle.fb_sim.specs.Serial.{AreWithin, Declares}
 use Rattle.fb_trace.specs.Progress.{IsPartWritten}
-use Rattle.fb_sim.specs.Sessions.{Session}
+use Rattle.fb_sim.specs.Views.{SimulationView}
 use Rattle.fb_sim.specs.declared.options.Options.{Options}
 use Rattle.fb_trace.specs.declared.last.Outcome.{Outcome}
 use Rattle.fb_trace.specs.declared.last.Outcome.TheVariants.{End, Stop}
@@ -19,7 +19,7 @@ use Rattle.fb_sim.specs.declared.outcome.RunError.{RunError}
 use Rattle.fb_sim.specs.declared.outcome.RunError.TheVariants.{Refused, Memory, Write, BadOption, Failed}
 use Rattle.fb_sim.specs.declared.state.Stage.{Stage}
 use Rattle.fb_sim.proofs.Texts.{part-after}
-use Rattle.fb_sim.specs.Reports.{AreReports, Came, Comes, Ends, Fails, HasBroken, HasCome, HasReported, Hears, IsAsFar, Reports, hundredth, session}
+use Rattle.fb_sim.specs.Reports.{AreReports, Came, Comes, Ends, Fails, HasBroken, HasCome, HasReported, Hears, IsAsFar, Reports, hundredth, view_at}
 use Rattle.fb_sim.specs.declared.with_progress.ReportTally.{ReportTally}
 use Rattle.fb_sim.proofs.Coming.{come_end, heard_none, hundredth_last}
 
@@ -47,14 +47,14 @@ module _ (i : Inputs) (o : Options) (first mid quiet err : Option (List ℕ)) (n
   trace : IsTrace i o.form o.horizon o.steps (c.text ++ last) (AtHorizon o.horizon)
   trace = come_end i o o.horizon c.text come
 
-  ended : (new : Option (List ℕ)) (y : Outcome) → Finishes (session i o o.horizon) mid new (Ok y) → Ends i o first new (Ok y)
+  ended : (new : Option (List ℕ)) (y : Outcome) → Finishes (view_at i o o.horizon) mid new (Ok y) → Ends i o first new (Ok y)
   ended new y f = subst (λ (z : Outcome). Ends i o first new (Ok z)) (sym f.0) (record {
     bytes = c.text ++ last;
     got = Appends-trans first mid new c.text last c.got f.1;
     trace = trace;
   })
 
-  cut_off : (new : Option (List ℕ)) (e : RunError) → Finishes (session i o o.horizon) mid new (Err e) → Fails i o first new (after_bytes n.bytes e)
+  cut_off : (new : Option (List ℕ)) (e : RunError) → Finishes (view_at i o o.horizon) mid new (Err e) → Fails i o first new (after_bytes n.bytes e)
   cut_off new (Write k) f = record { bytes = c.text ++ last; end = AtHorizon o.horizon; got = part-after c.text c.got c.bytes_are f; trace = trace }
   cut_off new (Refused x) bad = absurd bad
   cut_off new Memory bad = absurd bad
@@ -74,16 +74,16 @@ module _ (i : Inputs) (o : Options) (first mid quiet err : Option (List ℕ)) (n
     left = λ b. absurd (omega (arith, b));
   }
 
-  cut_reported : (new : Option (List ℕ)) (e : RunError) → Finishes (session i o o.horizon) mid new (Err e) → HasReported i o first new quiet err n.is_heard (Err (after_bytes n.bytes e))
+  cut_reported : (new : Option (List ℕ)) (e : RunError) → Finishes (view_at i o o.horizon) mid new (Err e) → HasReported i o first new quiet err n.is_heard (Err (after_bytes n.bytes e))
   cut_reported new (Write k) f = all_reported new (Err (after_bytes n.bytes (Write k))) (cut_at new k f (after_bytes n.bytes (Write k)))
   cut_reported new (Refused x) bad = absurd bad
   cut_reported new Memory bad = absurd bad
   cut_reported new BadOption bad = absurd bad
   cut_reported new Failed bad = absurd bad
 
-module _ (i : Inputs) (o : Options) (t : Session) (first mid quiet err : Option (List ℕ)) (m : ReportTally) where
-  at_last : (new : Option (List ℕ)) (r : Result Outcome RunError) → t ≡ session i o (hundredth o.horizon 100) → Finishes t mid new r → Finishes (session i o o.horizon) mid new r
-  at_last new r at f = subst (λ (s : Session). Finishes s mid new r) (at ∙ ap (session i o) (hundredth_last o.horizon)) f
+module _ (i : Inputs) (o : Options) (t : SimulationView) (first mid quiet err : Option (List ℕ)) (m : ReportTally) where
+  at_last : (new : Option (List ℕ)) (r : Result Outcome RunError) → t ≡ view_at i o (hundredth o.horizon 100) → Finishes t mid new r → Finishes (view_at i o o.horizon) mid new r
+  at_last new r at f = subst (λ (s : SimulationView). Finishes s mid new r) (at ∙ ap (view_at i o) (hundredth_last o.horizon)) f
 
   stopped : (new : Option (List ℕ)) (r : Result Outcome RunError) (p : Stage) → t.stage ≡ p → Finishes t mid new r → FinishesBy p t mid new r
   stopped new r p at f = subst (λ (q : Stage). FinishesBy q t mid new r) at f

@@ -15,7 +15,7 @@ pub mod Rising
 pub mod RoundIs
 pub mod RunIs
 pub mod Seen
-pub mod SessionIs
+pub mod ViewIs
 mod Simulations
 pub mod Texts
 pub mod WindowIs

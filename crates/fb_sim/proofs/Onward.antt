@@ -8,7 +8,7 @@ use Rattle.fb_trace.specs.Progress.{bounded}
 use Rattle.fb_sim.specs.Advances.{IsNext, RunsTo}
 use Rattle.fb_sim.specs.Reports.{GoesOn}
 use Rattle.fb_sim.specs.Rounds.{after_bytes}
-use Rattle.fb_sim.specs.Sessions.{Session}
+use Rattle.fb_sim.specs.Views.{SimulationView}
 use Rattle.fb_trace.specs.declared.last.Outcome.{Outcome}
 use Rattle.fb_sim.specs.declared.outcome.RunError.{RunError}
 use Rattle.fb_sim.specs.declared.outcome.RunError.TheVariants.{Refused, Memory, Write, BadOption, Failed}
@@ -19,7 +19,7 @@ use Rattle.fb_sim.specs.declared.with_progress.ReportTally.{ReportTally}
 counted_on : (n w k : ℕ) → w ≡ bounded k → bounded (n + w) ≡ bounded (n + k)
 counted_on n w k e = omega (arith, e)
 
-module _ (s t : Session) (to : ℕ) (old new : Option (List ℕ)) (n m : ReportTally) where
+module _ (s t : SimulationView) (to : ℕ) (old new : Option (List ℕ)) (n m : ReportTally) where
   pub goes_well : (o : Outcome) (w : Written) → RunsTo s t to old new (Ok (o, w)) → m ≡ record n { bytes = bounded (n.bytes + w.bytes); lines = bounded (n.lines + w.lines) }
       → GoesOn s t to old new n m (Ok o)
   goes_well o w h is = (

@@ -17,7 +17,7 @@ use Rattle.fb_laws.specs.Finality.{Edge, until, lines_from, IsFinalIn, core_of}
 use Rattle.fb_window.specs.Settling.{lists_of}
 use Rattle.fb_window.specs.declared.cores.CoreState as cores
 use Rattle.fb_sim.specs.Rounds.{AreAll, HasCome, IsFinished}
-use Rattle.fb_sim.specs.Sessions.{Session, IsAhead, HasStoppedAt}
+use Rattle.fb_sim.specs.Views.{SimulationView, IsAhead, HasStoppedAt}
 use Rattle.fb_sim.specs.declared.rounds.all_rounds.Finish.TheVariants.{AtEnd}
 use Rattle.fb_types.specs.declared.run.StopMark.{StopMark}
 use Rattle.fb_sim.proofs.Edges.{all_before}
@@ -104,16 +104,16 @@ stopped_of i limit t mark ls all = record { lines = ls; all = all }
 -- ---- On the way to a later tick
 
 -- What is known of a simulation whose core has been taken out.
-pub record OnWay (s : Session) (to : ℕ) (core : cores.CoreState) : Type 0 where
+pub record OnWay (s : SimulationView) (to : ℕ) (core : cores.CoreState) : Type 0 where
   pub later : s.to < to
   pub lines : List Line
   pub was : AreAll s.inputs s.steps s.to lines (AtHorizon s.to)
   pub come : HasCome s.inputs s.steps to core lines
 
-pub on_way : (v s : Session) → v ≡ s → AreGood v.inputs → (to : ℕ) (core : cores.CoreState) → IsAhead s.inputs s.steps s.to core → s.to < to → OnWay v to core
+pub on_way : (v s : SimulationView) → v ≡ s → AreGood v.inputs → (to : ℕ) (core : cores.CoreState) → IsAhead s.inputs s.steps s.to core → s.to < to → OnWay v to core
 on_way v s same good to core ahead later =
-    let a = subst (λ (x : Session). IsAhead x.inputs x.steps x.to core) (sym same) ahead in
-    let l = subst (λ (x : Session). x.to < to) (sym same) later in
+    let a = subst (λ (x : SimulationView). IsAhead x.inputs x.steps x.to core) (sym same) ahead in
+    let l = subst (λ (x : SimulationView). x.to < to) (sym same) later in
     record {
       later = l;
       lines = a.lines;

@@ -2,7 +2,7 @@ pub mod Given
 pub mod OneAgenda
 pub mod Serial
 pub mod Rounds
-pub mod Sessions
+pub mod Views
 pub mod Advances
 pub mod Reports
 pub mod Texts

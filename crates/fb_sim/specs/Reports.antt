@@ -11,7 +11,7 @@ use Rattle.fb_sim.specs.Given.{Given}
 use Rattle.fb_sim.specs.Rounds.{IsShort}
 use Rattle.fb_trace.specs.End as trace
 use Rattle.fb_sim.specs.Serial.{Declares}
-use Rattle.fb_sim.specs.Sessions.{Session}
+use Rattle.fb_sim.specs.Views.{SimulationView}
 use Rattle.fb_sim.specs.declared.options.Options.{Options}
 use Rattle.fb_trace.specs.declared.last.Outcome.{Outcome}
 use Rattle.fb_trace.specs.declared.last.Outcome.TheVariants.{End, Stop}
@@ -63,8 +63,8 @@ ReportsTo i o (suc n) reports =
     (first : List ℕ) × (next : List ℕ) × ReportsTo i o n first × ReportsAt i o (hundredth o.horizon n) (hundredth o.horizon (suc n)) next × (reports ≡ first ++ next)
 
 -- the simulation of the inputs, at a tick
-abbrev pub session : Inputs → Options → ℕ → Session
-session i o to = record { inputs = i; steps = o.steps; workers = o.workers; form = o.form; to = to; stage = going.Running }
+abbrev pub view_at : Inputs → Options → ℕ → SimulationView
+view_at i o to = record { inputs = i; steps = o.steps; workers = o.workers; form = o.form; to = to; stage = going.Running }
 
 -- where a writer failed, some bytes of a text were not written
 abbrev pub HasMissing : RunError → (rest : List ℕ) → Type 0
@@ -78,7 +78,7 @@ HasMissing Failed rest = ⊥
 pub record HasPart (i : Inputs) (o : Options) (count : ℕ) (e : RunError) (part : List ℕ) : Type 0 where
   pub rest : List ℕ
   pub end : Ending
-  pub next : IsNext (session i o (hundredth o.horizon count)) (hundredth o.horizon (suc count)) (part ++ rest) end
+  pub next : IsNext (view_at i o (hundredth o.horizon count)) (hundredth o.horizon (suc count)) (part ++ rest) end
   pub missing : HasMissing e rest
 
 -- The run failed when all lines of the first hundredths were written, but not all of the next one.
@@ -120,7 +120,7 @@ abbrev pub Counted : (n m : ReportTally) → (text : List ℕ) (lines : List Lin
 Counted n m text lines = (m.bytes ≡ bounded (n.bytes + length text)) × (m.lines ≡ bounded (n.lines + length lines)) × (m.is_heard ≡ n.is_heard)
 
 -- What comes up to the later tick was written; or a part of it, and then memory ran out or the writer failed.
-abbrev pub GoesOn : (s t : Session) (to : ℕ) → (old new : Option (List ℕ)) → (n m : ReportTally) → Result Outcome RunError → Type 0
+abbrev pub GoesOn : (s t : SimulationView) (to : ℕ) → (old new : Option (List ℕ)) → (n m : ReportTally) → Result Outcome RunError → Type 0
 GoesOn s t to old new n m (Ok o) =
     (text : List ℕ)
     × (next : IsNext s to text (trace.ending_of o))
@@ -191,8 +191,8 @@ Fails i o old new BadOption = ⊥
 Fails i o old new Failed = ⊥
 
 -- The run has come this many hundredths far, or has stopped or failed on the way.
-abbrev pub Comes : (i : Inputs) (o : Options) (t : Session) (first out quiet err : Option (List ℕ)) (count : ℕ) (m : ReportTally) → Result Outcome RunError → Type 0
-Comes i o t first out quiet err count m (Ok (End h)) = Came i o first out quiet err count m × (t ≡ session i o (hundredth o.horizon count))
+abbrev pub Comes : (i : Inputs) (o : Options) (t : SimulationView) (first out quiet err : Option (List ℕ)) (count : ℕ) (m : ReportTally) → Result Outcome RunError → Type 0
+Comes i o t first out quiet err count m (Ok (End h)) = Came i o first out quiet err count m × (t ≡ view_at i o (hundredth o.horizon count))
 Comes i o t first out quiet err count m (Ok (Stop mark)) =
     (t.stage ≡ going.Stopped mark) × HasWritten i o first out (AtStop mark.tick mark.resource mark.reason) × HasReported i o first out quiet err m.is_heard (Ok (Stop mark))
 Comes i o t first out quiet err count m (Err e) = Fails i o first out e × HasReported i o first out quiet err m.is_heard (Err e)

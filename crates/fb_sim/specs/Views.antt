@@ -16,11 +16,11 @@ use Rattle.fb_sim.specs.Rounds.{HasCome, AreAll}
 use Rattle.fb_sim.specs.contracts.state.Stage as stage_row
 use Rattle.fb_sim.specs.declared.state.Stage.{Stage}
 use Rattle.fb_sim.specs.declared.state.Stage.TheVariants as going
-use Rattle.fb_sim.specs.declared.state.SessionState.{SessionState}
-use Rattle.fb_sim.specs.declared.state.SessionState.TheVariants as state
+use Rattle.fb_sim.specs.declared.state.SimulationState.{SimulationState}
+use Rattle.fb_sim.specs.declared.state.SimulationState.TheVariants as state
 
 -- Inputs, the limit on the steps of a tick, the number of workers, the form of the trace, and the greatest tick that was advanced to.
-pub record Session : Type 0 where
+pub record SimulationView : Type 0 where
   pub inputs : Inputs
   pub steps : ℕ
   pub workers : ℕ
@@ -28,22 +28,22 @@ pub record Session : Type 0 where
   pub to : ℕ
   pub stage : Stage
 
--- a session is stored as its six parts
-abbrev pub session_code : Coded Session
-session_code =
+-- a simulation is stored as its six parts
+abbrev pub view_code : Coded SimulationView
+view_code =
     code_by (Inputs × (ℕ × (ℕ × (Form × (ℕ × Stage)))))
     (coded× system.the_row.coded (coded× coded_ℕ (coded× coded_ℕ (coded× form.the_row.coded (coded× coded_ℕ stage_row.the_row.coded)))))
     (λ s. (s.inputs, (s.steps, (s.workers, (s.form, (s.to, s.stage))))))
     (λ p. record { inputs = p.0; steps = p.1.0; workers = p.1.1.0; form = p.1.1.1.0; to = p.1.1.1.1.0; stage = p.1.1.1.1.1 })
     (λ _. refl)
 
-abbrev pub stage_of : SessionState → Stage
+abbrev pub stage_of : SimulationState → Stage
 stage_of (state.Open core) = going.Running
 stage_of (state.Stopped mark) = going.Stopped mark
 stage_of state.Failed = going.Failed
 
 -- the core, where there is one
-abbrev pub core_in : SessionState → Option CoreState
+abbrev pub core_in : SimulationState → Option CoreState
 core_in (state.Open core) = Some core
 core_in (state.Stopped mark) = None
 core_in state.Failed = None
@@ -59,13 +59,13 @@ pub record HasStoppedAt (i : Inputs) (limit to : ℕ) (mark : StopMark) : Type 0
   pub lines : List Line
   pub all : AreAll i limit to lines (AtStop mark.tick mark.resource mark.reason)
 
-abbrev pub IsAtTick : (i : Inputs) (limit to : ℕ) → SessionState → Type 0
+abbrev pub IsAtTick : (i : Inputs) (limit to : ℕ) → SimulationState → Type 0
 IsAtTick i limit to (state.Open core) = IsAhead i limit to core
 IsAtTick i limit to (state.Stopped mark) = HasStoppedAt i limit to mark
 IsAtTick i limit to state.Failed = Unit {0}
 
 -- Its options are in their ranges, and it is where it says.
-pub record IsSession (i : Inputs) (limit workers to : ℕ) (s : SessionState) : Type 0 where
+pub record IsSimulationState (i : Inputs) (limit workers to : ℕ) (s : SimulationState) : Type 0 where
   pub some_steps : 1 ≤ limit
   pub few_steps : limit ≤ 10 ^ 7
   pub some_workers : 1 ≤ workers

@@ -2,7 +2,7 @@
 
 ghost use Rattle.std.specs.Prelude.{◌≡◌, ◌^◌, ◌<◌, ◌≤◌, IfOk, IfErr};
 ghost use Rattle.fb_sim.specs.Advances.{Advances, Finishes, IsOpened, FailsToOpen, RunsTo};
-ghost use Rattle.fb_sim.specs.Sessions.{IsAhead};
+ghost use Rattle.fb_sim.specs.Views.{IsAhead};
 ghost use Rattle.fb_sim.specs.declared.state.Stage.TheVariants as going;
 
 use crate::options::{Inputs, Options};
@@ -12,7 +12,7 @@ use crate::rounds::all_rounds::{Finish, run_on};
 use crate::rounds::tally::Written;
 use crate::rounds::workers::{TextJobs, Workers};
 use crate::runs::{close, open_core};
-use crate::state::{SessionState, Stage};
+use crate::state::{SimulationState, Stage};
 use fb_phase::Gate;
 use fb_system::System;
 use fb_trace::Outcome;
@@ -34,19 +34,19 @@ pub struct Simulation {
     workers: u64,
     form: Form,
     to: u64,
-    state: SessionState,
+    state: SimulationState,
 }
 
 impl Model for Simulation {
-    ghost use Rattle.fb_sim.specs.Sessions.{Session, session_code, stage_of, IsSession};
+    ghost use Rattle.fb_sim.specs.Views.{SimulationView, view_code, stage_of, IsSimulationState};
 
-    ghost Value = { Session };
+    ghost Value = { SimulationView };
 
-    ghost coded = { session_code };
+    ghost coded = { view_code };
 
     ghost view = { λ s. record { inputs = s.system; steps = s.steps; workers = s.workers; form = s.form; to = s.to; stage = stage_of s.state } };
 
-    ghost invariant = { λ s. IsSession s.system s.steps s.workers s.to s.state };
+    ghost invariant = { λ s. IsSimulationState s.system s.steps s.workers s.to s.state };
 }
 
 impl Simulation {
@@ -83,7 +83,7 @@ impl Simulation {
             workers,
             form,
             to: 0,
-            state: SessionState::Open(core),
+            state: SimulationState::Open(core),
         })
     }
 
@@ -163,13 +163,13 @@ impl Simulation {
         match finish {
             Finish::AtEnd(core) => {
                 self.to = to;
-                self.state.put(SessionState::Open(core));
+                self.state.put(SimulationState::Open(core));
                 Ok((Outcome::End(to), written))
             }
             Finish::AtMark(mark) => {
                 close(out, &self.system, Outcome::Stop(mark), written.bytes)?;
                 self.to = to;
-                self.state.put(SessionState::Stopped(mark));
+                self.state.put(SimulationState::Stopped(mark));
                 Ok((Outcome::Stop(mark), written))
             }
         }

@@ -1,8 +1,8 @@
 //! How far a simulation is.
 
 ghost use Rattle.std.specs.Prelude.{◌≡◌};
-ghost use Rattle.fb_sim.specs.Sessions.{core_in, stage_of};
-ghost use Rattle.fb_sim.specs.declared.state.SessionState.TheVariants.{Failed};
+ghost use Rattle.fb_sim.specs.Views.{core_in, stage_of};
+ghost use Rattle.fb_sim.specs.declared.state.SimulationState.TheVariants.{Failed};
 
 use fb_types::StopMark;
 use fb_window::Core;
@@ -10,7 +10,7 @@ use std::mem;
 
 /// How far a simulation is, with its core.
 #[derive(Drop)]
-pub(crate) enum SessionState {
+pub(crate) enum SimulationState {
     /// Every clock is at the tick that was advanced to.
     Open(Core),
     /// A resource has stopped.
@@ -30,15 +30,15 @@ pub enum Stage {
     Failed,
 }
 
-impl SessionState {
+impl SimulationState {
     /// How far it is, without the core.
     pub(crate) fn stage(&self) -> Stage
         ensures { result ≡ stage_of self.now }
     {
         match self {
-            SessionState::Open(_) => Stage::Running,
-            SessionState::Stopped(mark) => Stage::Stopped(*mark),
-            SessionState::Failed => Stage::Failed,
+            SimulationState::Open(_) => Stage::Running,
+            SimulationState::Stopped(mark) => Stage::Stopped(*mark),
+            SimulationState::Failed => Stage::Failed,
         }
     }
 
@@ -47,14 +47,14 @@ impl SessionState {
         ensures core { result ≡ core_in self.old }
         ensures left { self.new ≡ Failed }
     {
-        match mem::replace(self, SessionState::Failed) {
-            SessionState::Open(core) => Some(core),
-            SessionState::Stopped(_) | SessionState::Failed => None,
+        match mem::replace(self, SimulationState::Failed) {
+            SimulationState::Open(core) => Some(core),
+            SimulationState::Stopped(_) | SimulationState::Failed => None,
         }
     }
 
     /// Puts another state in its place.
-    pub(crate) fn put(&mut self, next: SessionState)
+    pub(crate) fn put(&mut self, next: SimulationState)
         ensures { self.new ≡ next }
     {
         *self = next;

@@ -7,7 +7,7 @@ ghost use Rattle.fb_sim.specs.Serial.{AreWithin, Writes};
 ghost use Rattle.fb_sim.specs.Rounds.{FailsRun};
 ghost use Rattle.fb_trace.specs.Progress.{bounded};
 ghost use Rattle.fb_sim.specs.declared.state.Stage.TheVariants as going;
-ghost use Rattle.fb_sim.specs.Reports.{AreReports, Came, Comes, Ends, GoesOn, HasReported, Hears, hundredth, report_text, session};
+ghost use Rattle.fb_sim.specs.Reports.{AreReports, Came, Comes, Ends, GoesOn, HasReported, Hears, hundredth, report_text, view_at};
 
 use crate::options::{Inputs, Options};
 use crate::outcome::RunError;
@@ -109,7 +109,7 @@ fn go_to_next<R: Threads + Wait + Sync, W: Write, E: Write>(
     requires within { AreWithin options }
     requires good { AreGood simulation.old.inputs }
     requires count { count < 100 }
-    requires at { simulation.old ≡ session simulation.old.inputs options (hundredth options.horizon count) }
+    requires at { simulation.old ≡ view_at simulation.old.inputs options (hundredth options.horizon count) }
     ensures { (first : Option (List ℕ)) → (quiet : Option (List ℕ)) → Came simulation.old.inputs options first (W.contents out.old) quiet (E.contents err.old) count tally.old
         → Comes simulation.old.inputs options simulation.new first (W.contents out.new) quiet (E.contents err.new) (count + 1) tally.new result }
 {
@@ -142,7 +142,7 @@ fn go_far<R: Threads + Wait + Sync, W: Write, E: Write>(
 ) -> (Result<Outcome, RunError>, ReportTally)
     requires within { AreWithin options }
     requires good { AreGood simulation.old.inputs }
-    requires first { simulation.old ≡ session simulation.old.inputs options 0 }
+    requires first { simulation.old ≡ view_at simulation.old.inputs options 0 }
     ensures { Comes simulation.old.inputs options simulation.new (W.contents out.old) (W.contents out.new) (E.contents err.old) (E.contents err.new) 100 result.1 result.0 }
 {
     let mut tally = ReportTally {
@@ -180,7 +180,7 @@ fn go_through<R: Threads + Wait + Sync, W: Write, E: Write>(
 ) -> ReportedRun
     requires within { AreWithin options }
     requires good { AreGood simulation.inputs }
-    requires first { simulation ≡ session simulation.inputs options 0 }
+    requires first { simulation ≡ view_at simulation.inputs options 0 }
     ensures ends { Ends simulation.inputs options (W.contents out.old) (W.contents out.new) result.end }
     ensures reported { HasReported simulation.inputs options (W.contents out.old) (W.contents out.new) (E.contents err.old) (E.contents err.new) result.is_heard result.end }
 {

@@ -1,22 +1,22 @@
 use Rattle.std.proofs.Common.{◌≡◌, ◌∙◌, ◌+◌, ℕ, Ok, Err, sym, ap, subst, arith}
 use Rattle.fb_types.specs.Headline.{Inputs}
 use Rattle.fb_laws.specs.Sound.{AreGood}
-use Rattle.fb_sim.specs.Sessions.{Session}
+use Rattle.fb_sim.specs.Views.{SimulationView}
 use Rattle.fb_trace.specs.declared.last.Outcome.{Outcome}
 use Rattle.fb_trace.specs.declared.last.Outcome.TheVariants.{End}
-use Rattle.fb_sim.specs.Reports.{Came, Comes, hundredth, session}
+use Rattle.fb_sim.specs.Reports.{Came, Comes, hundredth, view_at}
 use Rattle.fb_sim.proofs.Coming.{at_own, came_first, comes_so, hundredth_first}
 use Rattle.fb_sim.proofs.with_progress.go_far.Goals as goal
 
 pub loop-count-init : goal.loop-count-init
 loop-count-init g c = record {
-  at = c.requires.first ∙ ap (session c.args.simulation.now.inputs c.args.options) (sym (hundredth_first c.args.options.horizon));
+  at = c.requires.first ∙ ap (view_at c.args.simulation.now.inputs c.args.options) (sym (hundredth_first c.args.options.horizon));
   came = came_first c.args.simulation.now.inputs c.args.options (g.W.Write.contents c.args.out.now) (g.E.Write.contents c.args.err.now);
 }
 
 pub go_to_next-requires-clause-good : goal.go_to_next-requires-clause-good
 go_to_next-requires-clause-good g c κs w =
-    subst (λ (j : Inputs). AreGood j) (sym (ap (λ (z : Session). z.inputs) c.loop-count.invariant.at)) c.requires.good
+    subst (λ (j : Inputs). AreGood j) (sym (ap (λ (z : SimulationView). z.inputs) c.loop-count.invariant.at)) c.requires.good
 
 pub go_to_next-requires-clause-at : goal.go_to_next-requires-clause-at
 go_to_next-requires-clause-at g c κs w =
@@ -80,5 +80,5 @@ returns g c =
     let most = c.loop-count.auto.count-end in
     let all : c.loop-count.count ≡ 100 = omega (arith, least, most) in (
       subst (λ (k : ℕ). Came i o first out quiet err k c.loop-count.tally) all c.loop-count.invariant.came,
-      subst (λ (k : ℕ). c.loop-count.simulation ≡ session i o (hundredth o.horizon k)) all c.loop-count.invariant.at,
+      subst (λ (k : ℕ). c.loop-count.simulation ≡ view_at i o (hundredth o.horizon k)) all c.loop-count.invariant.at,
     )

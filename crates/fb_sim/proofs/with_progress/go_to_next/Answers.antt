@@ -2,7 +2,7 @@ use Rattle.std.proofs.Common.{◌≡◌, ◌∙◌, ◌≤◌, ◌<◌, ◌++◌
 use Rattle.fb_trace.specs.declared.last.Outcome.{Outcome}
 use Rattle.fb_trace.specs.declared.last.Outcome.TheVariants.{End, Stop}
 use Rattle.fb_sim.specs.Reports.{Comes, GoesOn, Hears, hundredth, report_text}
-use Rattle.fb_sim.proofs.Coming.{came_failed, came_more, came_same, came_stop, goes_here, hears_more, hears_no_more, same_session}
+use Rattle.fb_sim.proofs.Coming.{came_failed, came_more, came_same, came_stop, goes_here, hears_more, hears_no_more, same_view}
 use Rattle.fb_sim.proofs.with_progress.go_to_next.Goals as goal
 
 pub returns-then-tick-before : goal.returns-then-tick-before
@@ -17,7 +17,7 @@ returns-then-tick-before g c first quiet came =
     let late : hundredth o.horizon (suc c.args.count) ≤ hundredth o.horizon c.args.count =
     subst (λ (k : ℕ). k ≤ hundredth o.horizon c.args.count) tick (subst (λ (k : ℕ). c.hundredth-tick.result ≤ k) before c.if-tick-before.true) in
     let stays = came_same i o first out quiet err c.args.tally.now c.args.count came late in
-    let at = c.requires.at ∙ same_session i o first out quiet err c.args.tally.now c.args.count came late in
+    let at = c.requires.at ∙ same_view i o first out quiet err c.args.tally.now c.args.count came late in
     subst (λ (k : ℕ). Comes i o c.args.simulation.now first out quiet err k c.args.tally.now (Ok (End (hundredth o.horizon k)))) (sym more) (stays, at)
 
 pub returns-then-tally : goal.returns-then-tally

@@ -1,7 +1,7 @@
 use Rattle.std.proofs.Common.{◌∙◌, ap, sym}
-use Rattle.fb_sim.specs.Sessions.{Session}
+use Rattle.fb_sim.specs.Views.{SimulationView}
 use Rattle.fb_sim.proofs.Seen.{has_core}
 use Rattle.fb_sim.proofs.simulation.Simulation.go_on.Goals as goal
 
 pub unreachable-requires : goal.unreachable-requires
-unreachable-requires g c = has_core c.self.inside.state (ap (λ (s : Session). s.stage) c.self.view_is ∙ c.requires.running) (sym c.take.ensures.core ∙ c.in-None.is)
+unreachable-requires g c = has_core c.self.inside.state (ap (λ (s : SimulationView). s.stage) c.self.view_is ∙ c.requires.running) (sym c.take.ensures.core ∙ c.in-None.is)

@@ -1,14 +1,14 @@
 use Rattle.std.proofs.Common.{Ok, sym, subst}
 use Rattle.fb_sim.specs.Advances.{RunsTo}
 use Rattle.fb_sim.specs.Rounds.{RunsOn}
-use Rattle.fb_sim.specs.Sessions.{IsAtTick, stage_of}
+use Rattle.fb_sim.specs.Views.{IsAtTick, stage_of}
 use Rattle.fb_sim.specs.declared.rounds.all_rounds.Finish.{Finish}
 use Rattle.fb_sim.specs.declared.rounds.all_rounds.Finish.TheVariants.{AtEnd, AtMark}
 use Rattle.fb_trace.specs.declared.last.Outcome.TheVariants.{End, Stop}
 use Rattle.fb_sim.specs.declared.state.Stage.TheVariants as going
-use Rattle.fb_sim.specs.declared.state.SessionState.{SessionState}
+use Rattle.fb_sim.specs.declared.state.SimulationState.{SimulationState}
 use Rattle.fb_sim.proofs.AdvanceIs.{onward, advanced_end, advanced_stop, broken_on, short_stop, fails_on, goes_on}
-use Rattle.fb_sim.proofs.SessionIs.{on_way, ahead_of, stopped_of}
+use Rattle.fb_sim.proofs.ViewIs.{on_way, ahead_of, stopped_of}
 use Rattle.fb_sim.proofs.Seen.{seen}
 use Rattle.fb_sim.proofs.simulation.Simulation.run_to.Goals as goal
 
@@ -42,7 +42,7 @@ invariant_of-self g c =
       some_workers = c.self.invariant.some_workers;
       few_workers = c.self.invariant.few_workers;
       early = c.requires.early;
-      at = subst (λ (s : SessionState). IsAtTick v.inputs v.steps c.args.to s) (sym c.put.ensures) (ahead_of v.inputs v.steps c.args.to c.in-AtEnd.core _ ran.1);
+      at = subst (λ (s : SimulationState). IsAtTick v.inputs v.steps c.args.to s) (sym c.put.ensures) (ahead_of v.inputs v.steps c.args.to c.in-AtEnd.core _ ran.1);
     }
 
 pub returns-in-AtEnd : goal.returns-in-AtEnd
@@ -56,7 +56,7 @@ returns-in-AtEnd g c =
     let s = c.args.self.now in
     let gone = advanced_end (record v { stage = going.Running }) c.args.to way.later way.lines way.was old new c.in-AtEnd.core c.in_ok-finish.written ran in
     let n = c.in_ok-finish.written in
-    subst (λ (x : SessionState). RunsTo (record s { stage = going.Running }) (record v { to = c.args.to; stage = stage_of x }) c.args.to old new (Ok (End c.args.to, n))) (sym c.put.ensures)
+    subst (λ (x : SimulationState). RunsTo (record s { stage = going.Running }) (record v { to = c.args.to; stage = stage_of x }) c.args.to old new (Ok (End c.args.to, n))) (sym c.put.ensures)
     (goes_on v s (record v { to = c.args.to; stage = going.Running }) c.self.view_is c.args.to old new (End c.args.to) n gone)
 
 pub close-requires : goal.close-requires
@@ -96,7 +96,7 @@ invariant_of-self-in-AtMark g c =
       some_workers = c.self.invariant.some_workers;
       few_workers = c.self.invariant.few_workers;
       early = c.requires.early;
-      at = subst (λ (s : SessionState). IsAtTick v.inputs v.steps c.args.to s) (sym c.put-in-AtMark.ensures) (stopped_of v.inputs v.steps c.args.to c.in-AtMark.mark _ ran.1.1);
+      at = subst (λ (s : SimulationState). IsAtTick v.inputs v.steps c.args.to s) (sym c.put-in-AtMark.ensures) (stopped_of v.inputs v.steps c.args.to c.in-AtMark.mark _ ran.1.1);
     }
 
 pub returns : goal.returns
@@ -112,5 +112,5 @@ returns g c =
     let s = c.args.self.now in
     let gone = advanced_stop (record v { stage = going.Running }) c.args.to way.later way.lines way.was old mid new mark c.in_ok-finish.written ran c.in_ok-close-in-AtMark.ensures.whole in
     let n = c.in_ok-finish.written in
-    subst (λ (x : SessionState). RunsTo (record s { stage = going.Running }) (record v { to = c.args.to; stage = stage_of x }) c.args.to old new (Ok (Stop mark, n))) (sym c.put-in-AtMark.ensures)
+    subst (λ (x : SimulationState). RunsTo (record s { stage = going.Running }) (record v { to = c.args.to; stage = stage_of x }) c.args.to old new (Ok (Stop mark, n))) (sym c.put-in-AtMark.ensures)
     (goes_on v s (record v { to = c.args.to; stage = going.Stopped mark }) c.self.view_is c.args.to old new (Stop mark) n gone)
