@@ -24,7 +24,7 @@ use Rattle.fb_laws.specs.Typed.{IsTypedEvent}
 use Rattle.fb_laws.proofs.Initials.{stimuli-typed}
 use Rattle.fb_net.specs.Events.{event_of}
 use Rattle.fb_resource.specs.Waiting.{MayWait}
-use Rattle.fb_resource.proofs.PostLaws.{meaning_put, order_put, port_path}
+use Rattle.fb_resource.proofs.lemmas.PostLaws.{meaning_put, order_put, port_path}
 use Rattle.fb_sim_machine.specs.Machines.{IsAt, IsReady}
 use Rattle.fb_sim_machine.specs.declared.machine.Machine.{Machine}
 use Rattle.fb_sim_machine.proofs.Nexts.{on_agenda}

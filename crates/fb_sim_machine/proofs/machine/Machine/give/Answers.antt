@@ -4,7 +4,7 @@ use Rattle.fb_types.specs.Keys.{stimulus_key, with_all}
 use Rattle.fb_types.specs.declared.run.Event.TheVariants.{Given}
 use Rattle.fb_agenda.specs.Agendas.{Contents}
 use Rattle.fb_net.specs.Events.{event_of}
-use Rattle.fb_resource.proofs.OpenIs.{named_resource, narrow_resource}
+use Rattle.fb_resource.proofs.lemmas.OpenIs.{named_resource, narrow_resource}
 use Rattle.fb_sim_machine.specs.Machines.{IsAt}
 use Rattle.fb_sim_machine.proofs.GivenIs.{at_put, given_waits, ready_put}
 use Rattle.fb_sim_machine.proofs.Nexts.{on_agenda}

@@ -3,7 +3,7 @@ use Rattle.std.specs.Prelude.{option_map}
 use Rattle.fb_types.specs.Keys.{without}
 use Rattle.fb_net.specs.Events.{event_of}
 use Rattle.fb_resource.specs.Takings.{Finds}
-use Rattle.fb_resource.proofs.Finding.{finds_taken}
+use Rattle.fb_resource.proofs.lemmas.Finding.{finds_taken}
 use Rattle.fb_sim_machine.proofs.AgendaIs.{at_left, machine_left}
 use Rattle.fb_sim_machine.proofs.Nexts.{at_alike, machine_alike}
 use Rattle.fb_sim_machine.proofs.OneStep.{one_gone}
