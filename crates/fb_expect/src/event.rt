@@ -111,7 +111,7 @@ fn port_of(text: &[u8]) -> Option<(&[u8], &[u8])>
 }
 
 /// The entry whose text in a form this is, with its line feed.
-pub(crate) fn read_entry(form: Form, text: &[u8]) -> Option<Entry<'_>>
+pub fn read_entry(form: Form, text: &[u8]) -> Option<Entry<'_>>
     ensures { IfSome result (λ e. IsLine form text.now (event_of e)) }
 {
     let (tick, resource, text) = start_of(after_head(form, text)?)?;

@@ -158,7 +158,7 @@ fn are_found(conditions: &[Condition], must_meet: bool, values: &[u8]) -> bool
 
 /// Whether a line meets a pattern.
 #[tactic(auto, unfolding(crate::specs::Patterns::meets))]
-pub(crate) fn meets(pattern: &Pattern, entry: &Entry<'_>) -> bool
+pub fn meets(pattern: &Pattern, entry: &Entry<'_>) -> bool
     ensures { result ≡ spec.meets pattern.now (event_of entry.now) }
 {
     is_at(pattern, entry) && are_found(pattern.conditions.as_slice(), true, entry.values)

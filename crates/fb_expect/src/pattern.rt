@@ -335,7 +335,7 @@ fn in_upper(alloc: Global, text: &[u8]) -> Result<Vec<u8>, AllocError>
 }
 
 /// The pattern that a text is, in any letter case, where it is one.
-pub(crate) fn pattern_of(alloc: Global, text: &str) -> Result<Option<Pattern>, AllocError>
+pub fn pattern_of(alloc: Global, text: &str) -> Result<Option<Pattern>, AllocError>
     ensures { IfOk result (λ p. p ≡ spec.pattern_of text.now) }
 {
     let text = in_upper(alloc, text.as_bytes())?;
