@@ -59,17 +59,6 @@ impl Forest {
     ghost use Rattle.fb_net.specs.contracts.shell.Shell.{the_row as shell_row};
     ghost use Rattle.fb_net.specs.contracts.resource.Forest.{the_row};
 
-    /// The index of an application's instance among the blocks of the resource, in which the instance is.
-    #[inline(always)]
-    fn root(&self, index: u32) -> usize
-        ensures { result ≡ seat_in self.now.roots index }
-    {
-        match self.roots.get(index as usize) {
-            Some(root) => *root,
-            None => 0,
-        }
-    }
-
     /// The way to the block of an instance that is in the resource: an index among `blocks`, and the indexes below,
     /// each among the components of the block before.
     #[inline(always)]
@@ -81,7 +70,10 @@ impl Forest {
         system.facts();
         match system.route(instance) {
             [] => unreachable!(),
-            [index, below @ ..] => (self.root(*index), below),
+            [index, below @ ..] => {
+                let first = self.roots.get(*index as usize).copied().unwrap_or(0);
+                (first, below)
+            }
         }
     }
 
