@@ -1,8 +1,8 @@
 -- What each step of taking an event rests on, and what it leaves.
-use Rattle.std.specs.Prelude.{◌≡◌, ◌≢◌, ◌<◌, ◌≤◌, ℕ, Bool, List, Some, true, false, Result, length, map}
+use Rattle.std.specs.Prelude.{◌≡◌, ◌≢◌, ◌<◌, ◌≤◌, ℕ, Bool, List, Some, true, false, Result, length}
 use Rattle.fb_types.specs.Blocks.{Basic, Event as EventOf, Kind}
 use Rattle.fb_types.specs.Headline.{Inputs, system_of}
-use Rattle.fb_types.specs.Numbers.{emission_of, line_of, path_at, ports_at}
+use Rattle.fb_types.specs.Numbers.{path_at, ports_at}
 use Rattle.fb_types.specs.Reactions.{Outcome, World}
 use Rattle.fb_types.specs.Systems.{System}
 use Rattle.fb_types.specs.declared.event_kind.EventKind.{EventKind}
@@ -12,10 +12,9 @@ use Rattle.fb_types.specs.declared.run.Emission.{Emission}
 use Rattle.fb_types.specs.declared.run.Event.{Event}
 use Rattle.fb_types.specs.declared.run.Halt.{Halt}
 use Rattle.fb_types.specs.declared.run.Target.{Target}
-use Rattle.fb_types.specs.declared.value.Value.{Value}
 use Rattle.fb_laws.specs.Typed.{IsTypedEvent, IsTypedSystem}
 use Rattle.fb_system.specs.Ports.{IsCompositeAt, IsPort}
-use Rattle.fb_net.specs.Arrivals.{Arrives, AreTypedAt, ComesTo, HasReacted, IsReady, WritesAndEmits}
+use Rattle.fb_net.specs.Arrivals.{Arrives, AreTypedAt, ComesTo, HasReacted, IsReady}
 use Rattle.fb_net.specs.Emitting.{HasEmitted}
 use Rattle.fb_net.specs.Events.{HasTaken, IsEventIn, Remembered, event_of}
 use Rattle.fb_net.specs.Outs.{StillAreOuts}
@@ -128,13 +127,6 @@ pub record HasArrived (old : Taking) (at : Target) (left : ℕ) (end : Result (U
 -- An instance has emitted, and all that was put out belongs to the system.
 abbrev pub EmitsWell : Taking → (instance : ℕ) → List Emission → Taking → Type 0
 EmitsWell old k es new = HasEmitted old.system.now old.key.now k old.forest.now old.outbox.now es new.forest.now new.outbox.now
-
--- A basic block has written the event that it took, with the values that it sampled, and what it emits.
-pub record HasWritten (old : Taking) (at : Target) (values : List Value) (es : List Emission) (new : Taking) : Type 0 where
-  pub wrote : WritesAndEmits old.system.now old.key.now at.instance
-      (line_of (system_in old) (record { key = old.key.now; taken = true; instance = at.instance; event = at.event; values = values }))
-      (map (emission_of (ports_in old at.instance)) es) old.forest.now old.outbox.now new.forest.now new.outbox.now
-  pub outs : ArePutOut old new
 
 -- An event was taken: what it came to, what it puts out, and how many steps are left.
 pub record WasTaken (old : Taking) (e : Event) (left : ℕ) (end : Result (Unit {0}) Halt) (new : Taking) (after : ℕ) : Type 0 where

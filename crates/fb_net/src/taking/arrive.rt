@@ -1,12 +1,9 @@
 //! The arrival of an event at a port of an instance.
 
-ghost use Rattle.std.specs.Prelude.{◌≡◌, ◌∷◌, [], All, false, true, length, IfErr, OnOk, Some};
-ghost use Rattle.fb_types.specs.Blocks.{Basic};
+ghost use Rattle.std.specs.Prelude.{◌≡◌, false, true, IfErr, OnOk};
 ghost use Rattle.fb_event.specs.Reactions.{PassesTo};
 ghost use Rattle.fb_net.specs.Arrivals.{AreTypedAt, entering, leaving, reacting, sampling};
-ghost use Rattle.fb_net.specs.OfSystem.{names_in};
-ghost use Rattle.fb_net.specs.Steps.{HasArrived, HasDone, HasWritten, MayArrive, MayBegin, MayChart, MayCross, MayReact, MaySample, StaysWhole, ports_in};
-ghost use Rattle.fb_system.specs.Lines.{IsEmission};
+ghost use Rattle.fb_net.specs.Steps.{HasArrived, HasDone, MayBegin, MayChart, MayCross, MayReact, MaySample, StaysWhole};
 ghost use Rattle.fb_system.specs.OfSystem.{IsTarget, IsWith};
 ghost use Rattle.fb_net.specs.Worlds.{InForest};
 
@@ -119,25 +116,6 @@ impl Taking<'_> {
         self.emit_one(at.instance, Emission { event, values })
     }
 
-    /// Writes the line of an event that was taken at an event input of a basic block, and emits what its reaction emits.
-    #[inline(always)]
-    fn write_and_emit(
-        &mut self,
-        at: Target,
-        values: Values,
-        emits: &mut Emits,
-    ) -> Result<(), AllocError>
-        requires index { MayArrive self.old at }
-        requires input { at.is_output ≡ false }
-        requires counted { length values ≡ length (names_in self.old.system.now at) }
-        requires emissions { All (IsEmission (ports_in self.old at.instance)) emits.old }
-        ensures wrote { OnOk result (HasWritten self.old at values emits.old self.new) }
-        ensures whole { StaysWhole self.old self.new }
-    {
-        write_taken(self.outbox, self.system, self.key, at, values)?;
-        self.emit_all(at.instance, emits)
-    }
-
     /// An event arrives at an event input of a basic block. `emits` is room for what it emits.
     ///
     /// # Errors
@@ -166,7 +144,8 @@ impl Taking<'_> {
             meter,
             emits,
         );
-        self.write_and_emit(at, values, emits)?;
+        write_taken(self.outbox, self.system, self.key, at, values)?;
+        self.emit_all(at.instance, emits)?;
         end
     }
 
