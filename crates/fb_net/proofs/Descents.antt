@@ -1,5 +1,5 @@
 -- One step down the trees, on the way to a block.
-use Rattle.std.proofs.Common.{◌≡◌, ℕ, ◌-◌, ◌≤◌, List, [], ◌∷◌, length, get_or, take, drop, refl, ap, ◌∙◌, sym, arith, subst}
+use Rattle.std.proofs.Common.{◌≡◌, ℕ, ◌-◌, ◌<◌, ◌≤◌, List, [], ◌∷◌, length, get_or, take, drop, refl, ap, ◌∙◌, sym, arith, subst}
 use Rattle.std.proofs.lemmas.List.{take_rest}
 use Rattle.std.proofs.lemmas.Option.{none-some, same_Some}
 use Rattle.std.specs.Prelude.{Option, Some, None, slice_get, slice_set}
@@ -60,6 +60,18 @@ module _ {R : Type 0} (Ends : Block → R → Block → Type 0) (blocks : List B
   changed_below inner new r more is c =
       below_changed new r more (subst (λ way. Changed Ends (components_of b) way r new) (parted rest more)
       (subst (λ cs. Changed Ends cs (get_or rest 0 0 ∷ take (length rest - 1) (drop 1 rest)) r new) is c))
+
+-- ---- The block at the first index
+
+pub first_there : (blocks : List Block) (first : ℕ) (rest : List ℕ) (b : Block) → block_at blocks (first ∷ rest) ≡ Some b → slice_get blocks first ≡ None → ⊥
+first_there blocks first [] b stood none = none-some b (sym none ∙ stood)
+first_there blocks first (next ∷ rest) b stood none =
+    none-some b (sym (ap (option_and_then (λ a. block_at (components_of a) (next ∷ rest))) none) ∙ stood)
+
+-- it is the one on the way, where the way goes no further
+pub here_is : (blocks : List Block) (first : ℕ) (rest : List ℕ) (slot b : Block) → length rest < 1 → slice_get blocks first ≡ Some slot → block_at blocks (first ∷ rest) ≡ Some b → slot ≡ b
+here_is blocks first [] slot b none represents stood = same_Some slot b (sym represents ∙ stood)
+here_is blocks first (p ∷ ps) slot b none represents stood = absurd (omega (arith, none))
 
 -- A block is on a way, of which an own part was found.
 pub record StoodAt (blocks : List Block) (way : List ℕ) (own : Block) : Type 0 where

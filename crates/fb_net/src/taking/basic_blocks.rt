@@ -79,46 +79,20 @@ fn react_at(
     ensures fewer { meter.new.left ≤ meter.old.left }
     ensures well_formed { let IsFit = IsWellFormed block.now in All IsFit emits.old → All IsFit emits.new }
 {
-    match below {
-        [] => react_here(blocks, first, block, event, values, meter, emits),
-        [next, rest @ ..] => {
-            let Some(slot) = blocks.get_mut(first) else {
-                unreachable!()
-            };
-            match slot.components_mut() {
-                Some(components) => {
-                    let next = *next as usize;
-                    react_at(components, next, rest, block, event, values, meter, emits)
-                }
-                None => unreachable!(),
-            }
-        }
-    }
-}
-
-/// The reaction of the basic block at an index among `blocks`.
-#[inline(always)]
-fn react_here(
-    blocks: &mut Items<Block>,
-    first: usize,
-    block: &BasicType,
-    event: u32,
-    values: &[Value],
-    meter: &mut Meter,
-    emits: &mut Emits,
-) -> Result<(), Halt>
-    requires sound { IsSound block.now }
-    requires event { event < length block.now.ports.event_inputs }
-    requires ready { IsReadyAt block.now blocks.old (first ∷ []) }
-    ensures reacted { Changed (HasCharted block.now event values.now meter.old.left emits.old meter.new.left emits.new) blocks.old (first ∷ []) result blocks.new }
-    ensures fewer { meter.new.left ≤ meter.old.left }
-    ensures well_formed { let IsFit = IsWellFormed block.now in All IsFit emits.old → All IsFit emits.new }
-{
     let Some(slot) = blocks.get_mut(first) else {
         unreachable!()
     };
-    match slot {
-        Block::Basic(state) => react(state, block, event, values, meter, emits),
-        Block::Event(_) | Block::Composite(_) => unreachable!(),
+    match below {
+        [] => match slot {
+            Block::Basic(state) => react(state, block, event, values, meter, emits),
+            Block::Event(_) | Block::Composite(_) => unreachable!(),
+        },
+        [next, rest @ ..] => match slot.components_mut() {
+            Some(components) => {
+                let next = *next as usize;
+                react_at(components, next, rest, block, event, values, meter, emits)
+            }
+            None => unreachable!(),
+        },
     }
 }

@@ -80,46 +80,21 @@ fn react_at(
     ensures reacted { Changed (HasTurned (λ s. reaction_to s event tick inputs.now) ask.new emits.new) blocks.old (first ∷ below.now) result blocks.new }
     ensures only_memory { IfErr result (λ halt. halt ≡ Halt.Memory) }
 {
-    match below {
-        [] => react_here(blocks, first, event, tick, inputs, emits, ask),
-        [next, rest @ ..] => {
-            let Some(slot) = blocks.get_mut(first) else {
-                unreachable!()
-            };
-            match slot.components_mut() {
-                Some(components) => {
-                    let next = *next as usize;
-                    react_at(components, next, rest, event, tick, inputs, emits, ask)
-                }
-                None => unreachable!(),
-            }
-        }
-    }
-}
-
-/// The reaction of the event block at an index among `blocks`.
-#[inline(always)]
-fn react_here(
-    blocks: &mut Items<Block>,
-    first: usize,
-    event: u32,
-    tick: u64,
-    inputs: &[Value],
-    emits: &mut Emits,
-    ask: &mut TimerAsk,
-) -> Result<(), Halt>
-    requires early { tick ≤ 10 ^ 12 }
-    requires event { IsTypedAt inputs.now blocks.old (first ∷ []) }
-    requires fresh { emits.old ≡ [] }
-    ensures reacted { Changed (HasTurned (λ s. reaction_to s event tick inputs.now) ask.new emits.new) blocks.old (first ∷ []) result blocks.new }
-    ensures only_memory { IfErr result (λ halt. halt ≡ Halt.Memory) }
-{
     let Some(slot) = blocks.get_mut(first) else {
         unreachable!()
     };
-    match slot {
-        Block::Event(state) => react(state, event, tick, inputs, emits, ask),
-        Block::Basic(_) | Block::Composite(_) => unreachable!(),
+    match below {
+        [] => match slot {
+            Block::Event(state) => react(state, event, tick, inputs, emits, ask),
+            Block::Basic(_) | Block::Composite(_) => unreachable!(),
+        },
+        [next, rest @ ..] => match slot.components_mut() {
+            Some(components) => {
+                let next = *next as usize;
+                react_at(components, next, rest, event, tick, inputs, emits, ask)
+            }
+            None => unreachable!(),
+        },
     }
 }
 
@@ -178,43 +153,20 @@ fn expire_at(
     ensures reacted { Changed (HasTurned (λ s. expiry_of s tick) ask.new emits.new) blocks.old (first ∷ below.now) result blocks.new }
     ensures only_memory { IfErr result (λ halt. halt ≡ Halt.Memory) }
 {
-    match below {
-        [] => expire_here(blocks, first, tick, emits, ask),
-        [next, rest @ ..] => {
-            let Some(slot) = blocks.get_mut(first) else {
-                unreachable!()
-            };
-            match slot.components_mut() {
-                Some(components) => {
-                    let next = *next as usize;
-                    expire_at(components, next, rest, tick, emits, ask)
-                }
-                None => unreachable!(),
-            }
-        }
-    }
-}
-
-/// The reaction of the event block at an index among `blocks` to its timer.
-#[inline(always)]
-fn expire_here(
-    blocks: &mut Items<Block>,
-    first: usize,
-    tick: u64,
-    emits: &mut Emits,
-    ask: &mut TimerAsk,
-) -> Result<(), Halt>
-    requires early { tick ≤ 10 ^ 12 }
-    requires event { IsEventAt blocks.old (first ∷ []) }
-    requires fresh { emits.old ≡ [] }
-    ensures reacted { Changed (HasTurned (λ s. expiry_of s tick) ask.new emits.new) blocks.old (first ∷ []) result blocks.new }
-    ensures only_memory { IfErr result (λ halt. halt ≡ Halt.Memory) }
-{
     let Some(slot) = blocks.get_mut(first) else {
         unreachable!()
     };
-    match slot {
-        Block::Event(state) => expire(state, tick, emits, ask),
-        Block::Basic(_) | Block::Composite(_) => unreachable!(),
+    match below {
+        [] => match slot {
+            Block::Event(state) => expire(state, tick, emits, ask),
+            Block::Basic(_) | Block::Composite(_) => unreachable!(),
+        },
+        [next, rest @ ..] => match slot.components_mut() {
+            Some(components) => {
+                let next = *next as usize;
+                expire_at(components, next, rest, tick, emits, ask)
+            }
+            None => unreachable!(),
+        },
     }
 }
