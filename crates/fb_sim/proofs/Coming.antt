@@ -24,7 +24,7 @@ use Rattle.fb_sim.specs.declared.outcome.RunError.TheVariants.{Refused, Memory, 
 use Rattle.fb_sim.proofs.Texts.{lines_text-append, part-after, part-before}
 use Rattle.fb_sim.specs.Reports.{Came, Comes, GoesOn, HasBroken, HasCome, HasReported, Hears, IsAsFar, hundredth, report_text, view_at}
 use Rattle.fb_sim.specs.declared.with_progress.ReportTally.{ReportTally}
-use Rattle.fb_sim.proofs.Simulations.{horizon_is, later_begins, stop_is_early, stopped_later, stops}
+use Rattle.fb_sim_machine.proofs.Simulations.{horizon_is, later_begins, stop_is_early, stopped_later, stops}
 
 module _ (i : Inputs) (o : Options) where
   abbrev pub come_first : HasCome i o 0 []

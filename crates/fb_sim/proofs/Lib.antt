@@ -16,7 +16,6 @@ pub mod RoundIs
 pub mod RunIs
 pub mod Seen
 pub mod ViewIs
-mod Simulations
 pub mod Texts
 pub mod WindowIs
 pub mod MergedText

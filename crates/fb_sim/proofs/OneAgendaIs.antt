@@ -25,7 +25,7 @@ use Rattle.fb_sim.specs.declared.options.Options.{Options}
 use Rattle.fb_sim.specs.declared.outcome.RunError.{RunError}
 use Rattle.fb_sim.specs.declared.outcome.RunError.TheVariants.{Refused, Memory, Write, BadOption, Failed}
 use Rattle.fb_sim.proofs.RunIs.{both_counted, both_got, joined}
-use Rattle.fb_sim.proofs.Simulations.{begins}
+use Rattle.fb_sim_machine.proofs.Simulations.{begins}
 use Rattle.fb_sim.proofs.Texts.{part-after}
 
 -- From the opening the machine has come this far, and the writer has got the text of all lines, of this many bytes.

@@ -19,24 +19,24 @@ pub lines_of-append : (ts us : List Taken) → lines_of (ts ++ us) ≡ lines_of 
 lines_of-append [] us = refl
 lines_of-append (t ∷ ts) us = ap (λ (ls : List model.Line). t.effect.lines ++ ls) (lines_of-append ts us) ∙ sym (append_assoc t.effect.lines (lines_of ts) (lines_of us))
 
-each_append : {A : Type 0} (P : A → Type 0) (xs ys : List A) → Each P xs → Each P ys → Each P (xs ++ ys)
+pub each_append : {A : Type 0} (P : A → Type 0) (xs ys : List A) → Each P xs → Each P ys → Each P (xs ++ ys)
 each_append P [] ys a b = b
 each_append P (x ∷ xs) ys a b = (a.0, each_append P xs ys a.1 b)
 
-last_append : (xs ys : List Taken) (c : Config) → last c (xs ++ ys) ≡ last (last c xs) ys
+pub last_append : (xs ys : List Taken) (c : Config) → last c (xs ++ ys) ≡ last (last c xs) ys
 last_append [] ys c = refl
 last_append (t ∷ ts) ys c = last_append ts ys (after c t)
 
 -- none of them stops its resource
-abbrev Going : List Taken → Type 0
+abbrev pub Going : List Taken → Type 0
 Going ts = Each (λ t. t.effect.stop ≡ None) ts
 
-chain_append : (sys : System) (limit : ℕ) (xs ys : List Taken) (c : Config) → Going xs → Chain sys limit c xs → Chain sys limit (last c xs) ys → Chain sys limit c (xs ++ ys)
+pub chain_append : (sys : System) (limit : ℕ) (xs ys : List Taken) (c : Config) → Going xs → Chain sys limit c xs → Chain sys limit (last c xs) ys → Chain sys limit c (xs ++ ys)
 chain_append sys limit [] ys c g x y = y
 chain_append sys limit (t ∷ ts) ys c g x y =
     (x.0, subst (λ (s : Option Reason). NothingAfter s (ts ++ ys)) (sym g.0) tt, chain_append sys limit ts ys (after c t) g.1 x.2 y)
 
-ending_append : (horizon : ℕ) (xs ys : List Taken) → Going xs → ending_of horizon (xs ++ ys) ≡ ending_of horizon ys
+pub ending_append : (horizon : ℕ) (xs ys : List Taken) → Going xs → ending_of horizon (xs ++ ys) ≡ ending_of horizon ys
 ending_append horizon [] ys g = refl
 ending_append horizon (t ∷ ts) ys g = ap (λ (s : Option Reason). ending_by s t.key (ending_of horizon (ts ++ ys))) g.0 ∙ ending_append horizon ts ys g.1
 

@@ -4,6 +4,8 @@ pub mod GivenIs
 pub mod Joined
 pub mod Nexts
 pub mod OneStep
+pub mod Onward
 pub mod OpenIs
 pub mod ReadyIs
+pub mod Simulations
 pub mod TakenIs

@@ -8,7 +8,7 @@ use Rattle.fb_types.specs.Simulation.{Taken, Chain, AtStop, ending_of, last, lin
 use Rattle.fb_types.specs.States.{Config}
 use Rattle.fb_sim_machine.specs.Completions.{Completes, Reaches}
 use Rattle.fb_sim_machine.specs.Counts.{fuel_of_all}
-use Rattle.fb_sim_machine.specs.Machines.{IsAt}
+use Rattle.fb_sim_machine.specs.Machines.{IsAt, IsReady}
 use Rattle.fb_sim_machine.specs.declared.machine.Machine.{Machine}
 use Rattle.fb_sim_machine.specs.declared.pause.Pause.{Pause}
 use Rattle.fb_sim_machine.specs.declared.pause.Step.{Step}
@@ -40,25 +40,45 @@ pub record HasGone (i : Inputs) (limit : ℕ) (c : Config) (old new : Machine) (
   pub at : IsAt i (last c taken).state (last c taken).agenda new
   pub lines : map (line_of (system_of i)) new.queues.outbox.lines.items ≡ map (line_of (system_of i)) old.queues.outbox.lines.items ++ lines_of taken
 
--- Why it pauses there. With Lines at least one event was taken, and with one line asked for only the last one gave lines.
-abbrev pub PausesFor : (i : Inputs) (horizon many : ℕ) (c : Config) (new : Machine) → List Taken → Pause → Type 0
-PausesFor i horizon many c new taken Lines =
+-- From a tick on at which the old machine could take events, the new one can from this later tick on, and none of the events was taken after it.
+pub record IsLater (i : Inputs) (limit from t : ℕ) (new : Machine) (taken : List Taken) : Type 0 where
+  pub later : from ≤ t
+  pub ready : IsReady i limit t new
+  pub before : All (λ u. u.key.tick ≤ t) taken
+
+-- The same, whatever tick below the horizon that was.
+abbrev pub Onward : (i : Inputs) (horizon limit t : ℕ) (old new : Machine) → List Taken → Type 0
+Onward i horizon limit t old new taken = (from : ℕ) → from ≤ horizon → IsReady i limit from old → IsLater i limit from t new taken
+
+-- Why it pauses there. With Lines at least one event was taken. If one line was asked for, only that event gave lines, and none did where the horizon
+-- was reached.
+abbrev pub PausesFor : (i : Inputs) (horizon limit many : ℕ) (c : Config) (old new : Machine) → List Taken → Pause → Type 0
+PausesFor i horizon limit many c old new taken Lines =
     Each (λ t. t.effect.stop ≡ None) taken × (before : List Taken) × (t : Taken) × (taken ≡ before ++ t ∷ [])
-    × (many ≤ length new.queues.outbox.lines.items) × (many ≡ 1 → lines_of before ≡ [])
-PausesFor i horizon many c new taken Horizon = Each (λ t. t.effect.stop ≡ None) taken × NoneBelow (last c taken).agenda horizon
-PausesFor i horizon many c new taken (Stop m) = (m.resource < length (system_of i).resource_names) × (ending_of horizon taken ≡ AtStop m.tick m.resource m.reason)
+    × (many ≤ length new.queues.outbox.lines.items) × (many ≡ 1 → lines_of before ≡ []) × Each (λ l. l.key ≡ t.key) t.effect.lines
+    × Onward i horizon limit t.key.tick old new taken
+PausesFor i horizon limit many c old new taken Horizon =
+    Each (λ t. t.effect.stop ≡ None) taken × NoneBelow (last c taken).agenda horizon × (many ≡ 1 → lines_of taken ≡ [])
+    × ((from : ℕ) → from ≤ horizon → IsReady i limit from old → (t : ℕ) × (t ≤ horizon) × IsLater i limit from t new taken)
+PausesFor i horizon limit many c old new taken (Stop m) =
+    (m.resource < length (system_of i).resource_names) × (ending_of horizon taken ≡ AtStop m.tick m.resource m.reason) × (m.tick < horizon)
+    × Onward i horizon limit m.tick old new taken
 
 -- All that a pause says: what was taken is below the horizon.
 abbrev pub Stands : (i : Inputs) (horizon limit many : ℕ) (c : Config) (old new : Machine) → Pause → Type 0
 Stands i horizon limit many c old new p =
-    (taken : List Taken) × HasGone i limit c old new taken × All (λ t. t.key.tick < horizon) taken × PausesFor i horizon many c new taken p
+    (taken : List Taken) × HasGone i limit c old new taken × All (λ t. t.key.tick < horizon) taken × PausesFor i horizon limit many c old new taken p
 
 -- ---- One event
 
 -- The least event was taken, if its tick is below the horizon; else the machine is as it was.
 abbrev pub Steps : (i : Inputs) (horizon limit : ℕ) (c : Config) (old new : Machine) → Step → Type 0
-Steps i horizon limit c old new Nothing = NoneBelow c.agenda horizon × IsAt i c.state c.agenda new × (new.queues.outbox.lines.items ≡ old.queues.outbox.lines.items)
-Steps i horizon limit c old new (Took tick) = (t : Taken) × HasGone i limit c old new (t ∷ []) × (t.key.tick ≡ tick) × (tick < horizon) × (t.effect.stop ≡ None)
+Steps i horizon limit c old new Nothing =
+    NoneBelow c.agenda horizon × IsAt i c.state c.agenda new × (new.queues.outbox.lines.items ≡ old.queues.outbox.lines.items)
+    × ((from : ℕ) → IsReady i limit from old → IsReady i limit from new)
+Steps i horizon limit c old new (Took tick) =
+    (t : Taken) × HasGone i limit c old new (t ∷ []) × (t.key.tick ≡ tick) × (tick < horizon) × (t.effect.stop ≡ None)
+    × ((from : ℕ) → IsReady i limit from old → (from ≤ tick) × IsReady i limit tick new)
 Steps i horizon limit c old new (Stopped m) =
     (t : Taken) × HasGone i limit c old new (t ∷ []) × (t.key.tick ≡ m.tick) × (m.tick < horizon) × (t.key.resource ≡ m.resource) × (t.effect.stop ≡ Some m.reason)
-    × (m.resource < length (system_of i).resource_names)
+    × (m.resource < length (system_of i).resource_names) × ((from : ℕ) → IsReady i limit from old → from ≤ m.tick)

@@ -136,8 +136,9 @@ impl Machine {
         ensures ready { OnOk result ((tick : ℕ) × IsReady system.now limit tick self.new) }
         ensures sooner { IfOk result (IsSooner horizon limit self.old self.new) }
         ensures stands { IfOk result (λ p. (c : Config) → IsAt system.now c.state c.agenda self.old → Stands system.now horizon limit many c self.old self.new p) }
-        ensures early { OnOk result ((tick : ℕ) → tick ≤ horizon → IsReady system.now limit tick self.old → (t : ℕ) × (t ≤ horizon) × IsReady system.now limit t self.new) }
     {
+        // for the prover: what holds of each system
+        system.facts();
         let mut least = Least::new();
         let mut found = self.queues.agenda.take_least_into(horizon, &mut least);
         'events: while found {
@@ -173,8 +174,7 @@ impl Machine {
         requires represents { (c : Config) × IsAt system.now c.state c.agenda self.old }
         requires early { horizon ≤ 10 ^ 12 }
         requires few { limit ≤ 10 ^ 7 }
-        ensures steps { IfOk result (λ s. (c : Config) → IsAt system.now c.state c.agenda self.old → Steps system.now horizon limit c self.old self.new s) }
-        ensures early { OnOk result ((tick : ℕ) → tick ≤ horizon → IsReady system.now limit tick self.old → (t : ℕ) × (t ≤ horizon) × IsReady system.now limit t self.new) }
+        ensures { IfOk result (λ s. (c : Config) → IsAt system.now c.state c.agenda self.old → Steps system.now horizon limit c self.old self.new s) }
     {
         let mut least = Least::new();
         if !self.queues.agenda.take_least_into(horizon, &mut least) {

@@ -5,16 +5,19 @@ use Rattle.fb_types.specs.Keys.{NoneBelow, without}
 use Rattle.fb_types.specs.Numbers.{line_of}
 use Rattle.fb_types.specs.Simulation.{AtStop, Taken, after}
 use Rattle.fb_types.specs.States.{Config}
+use Rattle.fb_laws.proofs.Accepting.{sound_of}
+use Rattle.fb_laws.proofs.Effects.{takes_good}
 use Rattle.fb_net.specs.Events.{event_of}
 use Rattle.fb_resource.specs.Takings.{Finds, with_next}
 use Rattle.fb_resource.proofs.lemmas.Finding.{finds_taken}
 use Rattle.fb_resource.proofs.lemmas.Lone.{due_next}
 use Rattle.fb_sim_machine.specs.Machines.{IsAt}
-use Rattle.fb_sim_machine.specs.Pauses.{Pauses}
+use Rattle.fb_sim_machine.specs.Pauses.{IsLater, Pauses}
 use Rattle.fb_sim_machine.specs.declared.pause.Pause.TheVariants.{Stop}
 use Rattle.fb_sim_machine.proofs.Joined.{completes_after, halts, lines_more, none_came, reaches_more, reaches_none}
 use Rattle.fb_sim_machine.proofs.AgendaIs.{all_falls, at_left, completes_rest, completes_stop, machine_left, takes_least}
 use Rattle.fb_sim_machine.proofs.Nexts.{at_alike, machine_alike, on_agenda}
+use Rattle.fb_sim_machine.proofs.Onward.{later_more, later_none}
 use Rattle.fb_sim_machine.proofs.machine.Machine.go_on.Goals as goal
 
 -- The first event was looked for on the agenda of the beginning.
@@ -37,7 +40,7 @@ events-init c =
         sym (append-nil (map (line_of (system_of c.args.system.now)) c.args.self.now.queues.outbox.lines.items)),
       );
       quiet = λ start at one. refl;
-      ahead = λ tick le ready. (tick, le, ready);
+      ahead = λ from le ready. (from, le, λ start at. later_none c.args.system.now c.args.limit from c.args.self.now ready);
       left = omega arith;
     }
 
@@ -128,7 +131,21 @@ returns-in-Some-clause-pauses c start is =
           (completes_stop i c.args.horizon c.args.limit d _ c.in-Some.reason _ _ least (taken.stops ∙ c.in-Some.is) finds.below taken.lines),
     ))
 
+pub returns-in-Some-clause-ready : goal.returns-in-Some-clause-ready
+returns-in-Some-clause-ready c =
+    let i = c.args.system.now in
+    let inv = c.events.invariant in
+    let k = c.events.least.key in
+    let e = c.events.least.event in
+    let was = on_agenda inv.was c.events.self in
+    let finds = subst (λ (b : Bool). Finds c.args.horizon inv.was b k e c.events.self.queues.agenda) c.events-test.true inv.finds in
+    let t = c.take.new.self in
+    let raised = c.in_ok-taken.taken.raised in
+    let z = c.take.new.least in
+    (k.tick, machine_alike i t (with_next raised z.key z.event t.queues.agenda) c.put_next.new.agenda c.in_ok-put_next.ensures.put c.args.limit k.tick (c.put_next.ensures.due ∙ sym (due_next raised z.key z.event t.queues.agenda)) c.in_ok-taken.ensures.ready)
+
 pub returns-in-Some-clause-stands : goal.returns-in-Some-clause-stands
+unfolding returns-in-Some-clause-ready
 returns-in-Some-clause-stands c start is =
     let i = c.args.system.now in
     let inv = c.events.invariant in
@@ -160,32 +177,13 @@ returns-in-Some-clause-stands c start is =
       (
         subst (λ n. n < length (system_of i).resource_names) (sym moment.1) named,
         halts.ending ∙ ap (λ n. AtStop n k.resource reason) (sym moment.0) ∙ ap (λ n. AtStop z.key.tick n reason) (sym moment.1),
+        subst (λ n. n < c.args.horizon) (sym moment.0) finds.below,
+        λ from le ready.
+            let ahead = inv.ahead from le ready in
+            subst (λ n. IsLater i c.args.limit from n new (comes.1 ++ t ∷ [])) (sym moment.0)
+            (later_more i c.args.limit from ahead.0 was new comes.1 t e (ahead.2 start is) finds.found (returns-in-Some-clause-ready c).1),
       ),
     )
-
-pub returns-in-Some-clause-ready : goal.returns-in-Some-clause-ready
-returns-in-Some-clause-ready c =
-    let i = c.args.system.now in
-    let inv = c.events.invariant in
-    let k = c.events.least.key in
-    let e = c.events.least.event in
-    let was = on_agenda inv.was c.events.self in
-    let finds = subst (λ (b : Bool). Finds c.args.horizon inv.was b k e c.events.self.queues.agenda) c.events-test.true inv.finds in
-    let t = c.take.new.self in
-    let raised = c.in_ok-taken.taken.raised in
-    let z = c.take.new.least in
-    (k.tick, machine_alike i t (with_next raised z.key z.event t.queues.agenda) c.put_next.new.agenda c.in_ok-put_next.ensures.put c.args.limit k.tick (c.put_next.ensures.due ∙ sym (due_next raised z.key z.event t.queues.agenda)) c.in_ok-taken.ensures.ready)
-
-pub returns-in-Some-clause-early : goal.returns-in-Some-clause-early
-unfolding returns-in-Some-clause-ready
-returns-in-Some-clause-early c tick le was =
-    let inv = c.events.invariant in
-    let k = c.events.least.key in
-    let finds = subst (λ (b : Bool). Finds c.args.horizon inv.was b k c.events.least.event c.events.self.queues.agenda) c.events-test.true inv.finds in
-    let below = finds.below in
-    (k.tick, omega (arith, below), (returns-in-Some-clause-ready c).1)
-
--- ---- Many lines
 
 pub returns-then-len-many-clause-pauses : goal.returns-then-len-many-clause-pauses
 returns-then-len-many-clause-pauses c start is =
@@ -210,24 +208,6 @@ returns-then-len-many-clause-pauses c start is =
       lines_more comes.1 t _ _ _ comes.4 taken.lines,
     )
 
-pub returns-then-len-many-clause-stands : goal.returns-then-len-many-clause-stands
-unfolding returns-then-len-many-clause-pauses
-returns-then-len-many-clause-stands c start is =
-    let inv = c.events.invariant in
-    let comes = inv.comes start is in
-    let pauses = returns-then-len-many-clause-pauses c start is in
-    let new = on_agenda c.put_next-then-len-many.new.agenda c.take.new.self in
-    let counted = c.take.new.self.queues.outbox.lines.ok.0 in (
-      pauses.1,
-      record {
-        chain = pauses.3.chain;
-        at = subst (λ (x : Config). IsAt c.args.system.now x.state x.agenda new) (sym pauses.3.leads) pauses.2;
-        lines = pauses.4;
-      },
-      pauses.3.below,
-      (pauses.3.going, comes.1, _, refl, omega (arith, c.if-len-many.true, c.len.ensures, counted), λ one. inv.quiet start is one),
-    )
-
 pub returns-then-len-many-clause-ready : goal.returns-then-len-many-clause-ready
 returns-then-len-many-clause-ready c =
     let i = c.args.system.now in
@@ -241,14 +221,43 @@ returns-then-len-many-clause-ready c =
     let z = c.take.new.least in
     (k.tick, machine_alike i t (with_next raised z.key z.event t.queues.agenda) c.put_next-then-len-many.new.agenda c.in_ok-put_next-2.ensures.put c.args.limit k.tick (c.put_next-then-len-many.ensures.due ∙ sym (due_next raised z.key z.event t.queues.agenda)) c.in_ok-taken.ensures.ready)
 
-pub returns-then-len-many-clause-early : goal.returns-then-len-many-clause-early
-unfolding returns-then-len-many-clause-ready
-returns-then-len-many-clause-early c tick le was =
+pub returns-then-len-many-clause-stands : goal.returns-then-len-many-clause-stands
+unfolding returns-then-len-many-clause-pauses returns-then-len-many-clause-ready
+returns-then-len-many-clause-stands c start is =
+    let i = c.args.system.now in
     let inv = c.events.invariant in
     let k = c.events.least.key in
-    let finds = subst (λ (b : Bool). Finds c.args.horizon inv.was b k c.events.least.event c.events.self.queues.agenda) c.events-test.true inv.finds in
-    let below = finds.below in
-    (k.tick, omega (arith, below), (returns-then-len-many-clause-ready c).1)
+    let e = c.events.least.event in
+    let was = on_agenda inv.was c.events.self in
+    let finds = subst (λ (b : Bool). Finds c.args.horizon inv.was b k e c.events.self.queues.agenda) c.events-test.true inv.finds in
+    let comes = inv.comes start is in
+    let d = comes.0 in
+    let taken = c.in_ok-taken.ensures.taken d.state d.agenda (at_left i k d was c.events.self.queues.agenda comes.2 finds.left) in
+    let t : Taken = record { key = k; event = event_of i e; effect = taken.effect } in
+    let pauses = returns-then-len-many-clause-pauses c start is in
+    let new = on_agenda c.put_next-then-len-many.new.agenda c.take.new.self in
+    let counted = c.take.new.self.queues.outbox.lines.ok.0 in (
+      pauses.1,
+      record {
+        chain = pauses.3.chain;
+        at = subst (λ (x : Config). IsAt i x.state x.agenda new) (sym pauses.3.leads) pauses.2;
+        lines = pauses.4;
+      },
+      pauses.3.below,
+      (
+        pauses.3.going,
+        comes.1,
+        t,
+        refl,
+        omega (arith, c.if-len-many.true, c.len.ensures, counted),
+        λ one. inv.quiet start is one,
+        (takes_good (system_of i) (sound_of i (record { accepted = c.facts.ensures.accepted; limits = c.facts.ensures.limits })) k c.args.limit d.state (event_of i e)
+            (inv.ready.1.queues.order.waits k e finds.found).event.here taken.effect taken.takes).lines,
+        λ from le ready.
+            let ahead = inv.ahead from le ready in
+            later_more i c.args.limit from ahead.0 was new comes.1 t e (ahead.2 start is) finds.found (returns-then-len-many-clause-ready c).1,
+      ),
+    )
 
 pub returns-then-len-many-clause-sooner : goal.returns-then-len-many-clause-sooner
 returns-then-len-many-clause-sooner c =
@@ -325,7 +334,18 @@ events-preserved c =
           let t : Taken = record { key = k; event = event_of i e; effect = taken.effect } in
           let counted = machine.queues.outbox.lines.ok.0 in
           none_came (system_of i) _ machine.queues.outbox.lines.items _ (omega (arith, c.if-len-many.false, c.len.ensures, counted, one)) (lines_more comes.1 t _ _ _ comes.4 taken.lines);
-      ahead = λ tick le ready. let below = finds.below in (k.tick, omega (arith, below), c.in_ok-taken.ensures.ready);
+      ahead = λ from le ready.
+          let ahead = inv.ahead from le ready in
+          let below = finds.below in (
+            k.tick,
+            omega (arith, below),
+            λ start is.
+                let comes = inv.comes start is in
+                let d = comes.0 in
+                let taken = c.in_ok-taken.ensures.taken d.state d.agenda (at_left i k d was c.events.self.queues.agenda comes.2 finds.left) in
+                later_more i c.args.limit from ahead.0 was (on_agenda (with_next raised z.key z.event machine.queues.agenda) machine) comes.1
+                (record { key = k; event = event_of i e; effect = taken.effect }) e (ahead.2 start is) finds.found c.in_ok-taken.ensures.ready,
+          );
       left = omega (arith, falls, left);
     }
 
@@ -357,6 +377,18 @@ returns-clause-stands c start is =
       (
         comes.3.going,
         subst (λ (x : Config). NoneBelow x.agenda c.args.horizon) (sym comes.3.leads) (λ j lt. comes.2.agenda j ∙ ap (option_map (event_of i)) (finds.none j lt)),
+        λ one. inv.quiet start is one,
+        λ from le ready.
+            let ahead = inv.ahead from le ready in
+            let there = ahead.2 start is in (
+              ahead.0,
+              ahead.1,
+              record {
+                later = there.later;
+                ready = machine_alike i c.events.self inv.was c.events.self.queues.agenda finds.kept c.args.limit ahead.0 inv.due there.ready;
+                before = there.before;
+              },
+            ),
       ),
     )
 
@@ -365,10 +397,3 @@ returns-clause-ready c =
     let inv = c.events.invariant in
     let finds = subst (λ (b : Bool). Finds c.args.horizon inv.was b c.events.least.key c.events.least.event c.events.self.queues.agenda) c.events-test.false inv.finds in
     (inv.ready.0, machine_alike c.args.system.now c.events.self inv.was c.events.self.queues.agenda finds.kept c.args.limit inv.ready.0 inv.due inv.ready.1)
-
-pub returns-clause-early : goal.returns-clause-early
-returns-clause-early c tick le was =
-    let inv = c.events.invariant in
-    let finds = subst (λ (b : Bool). Finds c.args.horizon inv.was b c.events.least.key c.events.least.event c.events.self.queues.agenda) c.events-test.false inv.finds in
-    let there = inv.ahead tick le was in
-    (there.0, there.1, machine_alike c.args.system.now c.events.self inv.was c.events.self.queues.agenda finds.kept c.args.limit there.0 inv.due there.2)

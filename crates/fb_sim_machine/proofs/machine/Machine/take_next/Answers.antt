@@ -11,8 +11,8 @@ use Rattle.fb_sim_machine.proofs.machine.Machine.take_next.Goals as goal
 
 -- ---- Nothing waits below the horizon
 
-pub returns-then-not-take_least_into-clause-steps : goal.returns-then-not-take_least_into-clause-steps
-returns-then-not-take_least_into-clause-steps c d at =
+pub returns-then-not-take_least_into : goal.returns-then-not-take_least_into
+returns-then-not-take_least_into c d at =
     let i = c.args.system.now in
     let m = c.args.self.now in
     let z = c.take_least_into.new.slot in
@@ -23,18 +23,8 @@ returns-then-not-take_least_into-clause-steps c d at =
       λ j lt. at.agenda j ∙ ap (option_map (event_of i)) (finds.none j lt),
       at_alike i m m.queues.agenda now finds.kept d.state d.agenda at,
       refl,
+      λ from ready. machine_alike i m m.queues.agenda now finds.kept c.args.limit from is.due ready,
     )
-
-pub returns-then-not-take_least_into-clause-early : goal.returns-then-not-take_least_into-clause-early
-returns-then-not-take_least_into-clause-early c tick le ready =
-    let i = c.args.system.now in
-    let m = c.args.self.now in
-    let z = c.take_least_into.new.slot in
-    let is = c.take_least_into.ensures in
-    let now = c.take_least_into.new.self in
-    let finds = subst (λ (b : Bool). Finds c.args.horizon m.queues.agenda b z.key z.event now) c.if-not-take_least_into.true
-    (finds_taken c.args.horizon m.queues.agenda now c.take_least_into.result z.key z.event is.found is.below is.least is.left is.none is.kept) in
-    (tick, le, machine_alike i m m.queues.agenda now finds.kept c.args.limit tick is.due ready)
 
 -- ---- The event in the slot
 
@@ -120,8 +110,8 @@ take_event-requires-clause-early c =
 
 -- ---- It was taken
 
-pub returns-in-Some-clause-steps : goal.returns-in-Some-clause-steps
-returns-in-Some-clause-steps c d at =
+pub returns-in-Some : goal.returns-in-Some
+returns-in-Some c d at =
     let i = c.args.system.now in
     let m = c.args.self.now in
     let z = c.take_least_into.new.slot in
@@ -137,10 +127,11 @@ returns-in-Some-clause-steps c d at =
       refl,
       t.stops ∙ c.in-Some.is,
       (c.requires.ready.1.queues.order.waits z.key z.event finds.found).resource,
+      λ from ready. (ready.queues.order.waits z.key z.event finds.found).later,
     )
 
-pub returns-clause-steps : goal.returns-clause-steps
-returns-clause-steps c d at =
+pub returns : goal.returns
+returns c d at =
     let i = c.args.system.now in
     let m = c.args.self.now in
     let z = c.take_least_into.new.slot in
@@ -154,28 +145,5 @@ returns-clause-steps c d at =
       refl,
       finds.below,
       t.stops ∙ c.in-None.is,
+      λ from ready. ((ready.queues.order.waits z.key z.event finds.found).later, c.in_ok-reason.ensures.ready),
     )
-
-pub returns-in-Some-clause-early : goal.returns-in-Some-clause-early
-returns-in-Some-clause-early c tick le ready =
-    let i = c.args.system.now in
-    let m = c.args.self.now in
-    let z = c.take_least_into.new.slot in
-    let is = c.take_least_into.ensures in
-    let now = c.take_least_into.new.self in
-    let finds = subst (λ (b : Bool). Finds c.args.horizon m.queues.agenda b z.key z.event now) c.if-not-take_least_into.false
-    (finds_taken c.args.horizon m.queues.agenda now c.take_least_into.result z.key z.event is.found is.below is.least is.left is.none is.kept) in
-    let below = finds.below in
-    (z.key.tick, omega (arith, below), c.in_ok-reason.ensures.ready)
-
-pub returns-clause-early : goal.returns-clause-early
-returns-clause-early c tick le ready =
-    let i = c.args.system.now in
-    let m = c.args.self.now in
-    let z = c.take_least_into.new.slot in
-    let is = c.take_least_into.ensures in
-    let now = c.take_least_into.new.self in
-    let finds = subst (λ (b : Bool). Finds c.args.horizon m.queues.agenda b z.key z.event now) c.if-not-take_least_into.false
-    (finds_taken c.args.horizon m.queues.agenda now c.take_least_into.result z.key z.event is.found is.below is.least is.left is.none is.kept) in
-    let below = finds.below in
-    (z.key.tick, omega (arith, below), c.in_ok-reason.ensures.ready)
