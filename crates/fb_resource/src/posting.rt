@@ -215,12 +215,12 @@ impl Posting<'_> {
         }
     }
 
-    /// The same as `post_all`, for any number of events.
+    /// Posts what the taking of an event put out, in its order. The room that it took is kept.
     ///
     /// # Errors
     /// As `post_one`.
     #[inline(never)]
-    fn post_others(&mut self, outs: &mut Vec<Out>) -> Result<(), AllocError>
+    fn post_all(&mut self, outs: &mut Vec<Out>) -> Result<(), AllocError>
         requires may { MayPost self.old }
         requires outs { All (MayPut self.old) outs.old.items }
         requires room { self.old.locals.now + length outs.old.items < 2 ^ 128 }
@@ -236,30 +236,6 @@ impl Posting<'_> {
             self.post_one(out)?;
         }
         Ok(())
-    }
-
-    /// Posts what the taking of an event put out, in its order. The room that it took is kept.
-    ///
-    /// # Errors
-    /// As `post_one`.
-    #[inline(always)]
-    fn post_all(&mut self, outs: &mut Vec<Out>) -> Result<(), AllocError>
-        requires may { MayPost self.old }
-        requires outs { All (MayPut self.old) outs.old.items }
-        requires room { self.old.locals.now + length outs.old.items < 2 ^ 128 }
-        ensures posted { OnOk result (HasPosted self.old outs.old.items self.new) }
-        ensures grown { OnOk result (HasGrown self.old (length outs.old.items) self.new) }
-        ensures none { OnOk result (outs.new.items ≡ []) }
-        ensures same { IsSame self.old self.new }
-    {
-        // Mostly it is one message. No call follows while it is on its way.
-        if outs.len() > 1 {
-            return self.post_others(outs);
-        }
-        let Some(only) = outs.pop() else {
-            return Ok(());
-        };
-        self.post_one(only)
     }
 
     /// Sets the timer of the instance at which an event came, as its reaction asks.

@@ -167,10 +167,6 @@ pub when_ok : {A E P Q : Type 0} (r : Result A E) → OnOk r P → (P → Q) →
 when_ok (Ok x) p f = f p
 when_ok (Err x) p f = tt
 
-pub when_any : {A E P : Type 0} (r : Result A E) → P → OnOk r P
-when_any (Ok x) p = p
-when_any (Err x) p = tt
-
 pub when_ok_both : {A E P R Q : Type 0} (r : Result A E) → OnOk r P → OnOk r R → (P → R → Q) → OnOk r Q
 when_ok_both (Ok x) p t f = f p t
 when_ok_both (Err x) p t f = tt

@@ -1,7 +1,7 @@
 use Rattle.std.proofs.Common.{◌≡◌, ◌++◌, length}
 use Rattle.std.specs.Vec.Iter.{drain_items, DrainKeeps}
 use Rattle.fb_resource.specs.Postings.{HasGrown, HasPosted, IsSame}
-use Rattle.fb_resource.proofs.posting.Posting.post_others.Given as goal
+use Rattle.fb_resource.proofs.posting.Posting.post_all.Given as goal
 
 abbrev pub invariant-loop-out : goal.invariant-loop-out
 invariant-loop-out l = record {
