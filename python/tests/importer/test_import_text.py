@@ -34,6 +34,10 @@ BODIES = {
     "VAR_TEMP X : INT := 4; Y, Z : BOOL; END_VAR SUM := X; ON := Y OR Z;":
         "ADD__X := 4; ADD__Y := FALSE; ADD__Z := FALSE; SUM := ADD__X; ON := ADD__Y OR ADD__Z;",
     "VAR_TEMP ok : BOOL := 1; END_VAR ON := ok;": "ADD__OK := TRUE; ON := ADD__OK;",
+    "VAR CONSTANT K : INT := 5; END_VAR VAR L : TIME; END_VAR SUM := K;": "ADD__K := 5; ADD__L := 0; SUM := ADD__K;",
+    "VAR_TEMP by, text : INT; END_VAR FOR by := 1 TO 3 BY 1 DO SUM := by + text; END_FOR;":
+        "ADD__BY := 0; ADD__TEXT := 0; FOR ADD__BY := 1 TO 3 BY 1 DO SUM := ADD__BY + ADD__TEXT; END_FOR;",
+    "IF QI THEN SUM := 1; END_IF SUM := 2;": "IF QI THEN SUM := 1; END_IF; SUM := 2;",
     "CASE A OF 1: SUM := 1; INT#2, 3..5: SUM := 2; ELSE ON := 1; END_CASE":
         "CASE A OF 1: SUM := 1; 2, 3..5: SUM := 2; ELSE ON := TRUE; END_CASE;",
     "FOR B := 1 TO 3 BY 2 DO SUM := SUM + B; EXIT; END_FOR; RETURN;":
@@ -128,6 +132,10 @@ REFUSED = [
     ("VAR_TEMP X : REAL; END_VAR SUM := 1;", "REAL", "REAL is no type of the profile"),
     ("VAR_TEMP X : ARRAY[0..3] OF INT; END_VAR SUM := 1;", "ARRAY", "ARRAY is no type of the profile"),
     ("{pragma} SUM := 1;", "{", "{ is not in the profile"),
+    ("VAR_TEMP X : INT := 1", "", "found the end, expected END_VAR"),
+    ("FOR B := 1 DO END_FOR;", "DO", "found DO, expected TO"),
+    ("CASE A OF RED: SUM := 1; END_CASE;", ":", "found :, expected :="),
+    ("SUM := (A + 1;", ";", "found ;, expected )"),
 ]
 
 
@@ -137,7 +145,7 @@ def test_what_the_profile_lacks_is_refused_at_its_place(body, part, says, tmp_pa
     done = import_all(tmp_path, {"Adder.fbt": text})
     assert done.status == 2
     line, column = place_of(text, body).split(":")
-    place = f"Adder.fbt:{line}:{int(column) + body.index(part)}: "
+    place = f"Adder.fbt:{line}:{int(column) + (body.index(part) if part else len(body))}: "
     assert [it for it in done.lines if it.startswith(place) and says in it], done.lines
     assert not done.out.exists()
 

@@ -5,6 +5,7 @@
 from __future__ import annotations
 
 import argparse
+import contextlib
 import os
 import re
 import shutil
@@ -12,90 +13,69 @@ import subprocess
 import sys
 import tempfile
 from collections.abc import Sequence
-from typing import NoReturn
 
 from fbsim.faults import ProgramMissing
 from fbsim.program import find_program
 
 from .blocks import Library
-from .faults import FileFault, Faults, Refused
-from .system import System, read_system, read_types
-from .writing import Text, Types, write_application, write_deployment, write_report
+from .common import Faults, FileFault, Refused
+from .document import read_document
+from .network import System, system_of
+from .writing import MARK, place_in, texts_of
 
 ACCEPTED, REFUSED, FILES, COMMAND_LINE = 0, 2, 3, 5
 FINDING = re.compile(r"(application\.iec|types\.iec|deploy\.toml):(\d+):(\d+): (.*)")
 
 
-class Parser(argparse.ArgumentParser):
-    """A parser that ends with the status of the simulator for a wrong command line."""
-
-    def error(self, message: str) -> NoReturn:
-        """Print what is wrong, and end."""
-        self.print_usage(sys.stderr)
-        self.exit(COMMAND_LINE, f"fbsim-import: {message}\n")
-
-
 def arguments(words: Sequence[str] | None) -> argparse.Namespace:
-    """Read the command line."""
-    parser = Parser(prog="fbsim-import", description="Imports an application from the XML of IEC 61499-2.",
-                    epilog="docs/IMPORT.md says what maps to what.")
+    """Read the command line, or end with the status of the simulator for a wrong one."""
+    parser = argparse.ArgumentParser(prog="fbsim-import", description="Imports an application from the XML of IEC 61499-2.",
+                                     epilog="docs/IMPORT.md says what maps to what.")
     parser.add_argument("files", nargs="+", metavar="FILE", help="a system (.sys), or types (.fbt, .sub, .adp)")
     parser.add_argument("--out", required=True, metavar="DIR", help="the folder to write, new or empty")
     parser.add_argument("--lib", action="append", default=[], metavar="DIR", help="a folder with types, at any depth")
     parser.add_argument("--latency", type=int, default=1, metavar="N", help="the latency of each link, in ms (1)")
     parser.add_argument("--stub", action="store_true", help="replace service interface types by stubs")
-    given = parser.parse_args(words)
-    if not 1 <= given.latency <= 1_000_000:
-        parser.error("--latency is 1 to 1,000,000")
+    try:
+        given = parser.parse_args(words)
+        if not 1 <= given.latency <= 1_000_000:
+            parser.error("--latency is 1 to 1,000,000")
+    except SystemExit as end:
+        sys.exit(COMMAND_LINE if end.code else ACCEPTED)
     return given
 
 
-def read(files: Sequence[str], library: Library) -> System:
-    """Read all files, and return the system that they have, or one of their types."""
-    roots = []
-    for path in files:
-        try:
-            roots.append(library.read(path))
-        except Refused:
-            continue
+def convert(given: argparse.Namespace, faults: Faults) -> dict[str, str]:
+    """Read all files, and return the texts of their system or of their types, with marks of places."""
+    library, roots = Library(given.lib, given.stub, faults), []
+    for path in given.files:
+        with contextlib.suppress(Refused):
+            roots.append(read_document(path, faults, library.ignored))
     systems = [it for it in roots if it.tag == "System"]
     for it in roots:
-        name = it.get("Name").upper()
-        if it.tag != "System" and library.given.setdefault(name, it) is not it:
-            library.faults.add(it.at("Name"), f"type {it.get('Name')} is given in two files")
+        if it.tag != "System" and library.given.setdefault(it.get("Name").upper(), it) is not it:
+            faults.refuse(it.at("Name"), f"type {it.get('Name')} is given in two files")
     for it in systems[1:]:
-        library.faults.add(it.place, "there is more than one system: import them one by one")
+        faults.refuse(it.place, "there is more than one system: import them one by one")
     if not roots:
         raise Refused
-    return read_system(systems[0], library) if systems else read_types(roots, library)
+    system = System(systems[0] if systems else system_of(roots, faults), library)
+    return texts_of(system, library, given.latency)
 
 
-def convert(given: argparse.Namespace, faults: Faults) -> dict[str, Text]:
-    """Return the texts by their names."""
-    library = Library(given.lib, given.stub, faults)
-    system = read(given.files, library)
-    types, report = Types(library), Text()
-    types.text.add("(* Imported by fbsim-import: see import.txt. *)\n\n")
-    for it in system.network.instances.values():
-        types.need(it.block, it.place)
-    application, deployment = write_application(system, faults), write_deployment(system, given.latency)
-    report.add(write_report(system, library, types, given.latency))
-    return {"types.iec": types.text, "application.iec": application, "deploy.toml": deployment, "import.txt": report}
-
-
-def check(folder: str, texts: dict[str, Text], faults: Faults) -> None:
+def check(folder: str, texts: dict[str, str], faults: Faults) -> None:
     """Have the simulator check the texts in a folder, and map the places of what it refuses back to the XML."""
     words = ["check", "application.iec", "--types", "types.iec", "--deploy", "deploy.toml", "--why"]
     done = subprocess.run([find_program(), *words], cwd=folder, capture_output=True, text=True, errors="replace")
     for name, line, column, text in FINDING.findall(done.stderr):
-        place = texts[name].place(int(line), int(column))
+        place = place_in(texts[name], int(line), int(column))
         if place:
-            faults.add(place, text)
+            faults.refuse(place, text)
     if done.returncode != ACCEPTED and not faults:
         raise FileFault(f"the simulator answers: {done.stderr.strip() or done.returncode}")
 
 
-def write(given: argparse.Namespace, texts: dict[str, Text], faults: Faults) -> None:
+def write(given: argparse.Namespace, texts: dict[str, str], faults: Faults) -> None:
     """Write the texts into a new folder beside the one that is asked for, check them, and put it in its place."""
     out, made = os.path.realpath(given.out), ""
     try:
@@ -104,7 +84,7 @@ def write(given: argparse.Namespace, texts: dict[str, Text], faults: Faults) -> 
         made = tempfile.mkdtemp(prefix=".fbsim-import-", dir=os.path.dirname(out))
         for name, text in texts.items():
             with open(os.path.join(made, name), "x", encoding="utf-8", newline="\n") as file:
-                file.write("".join(text.parts))
+                file.write(MARK.sub("", text))
         check(made, texts, faults)
         if not faults:
             os.umask(mask := os.umask(0o022))
@@ -128,11 +108,8 @@ def main(words: Sequence[str] | None = None) -> int:
     except (FileFault, ProgramMissing) as fault:
         print(f"fbsim-import: {fault}", file=sys.stderr)
         return FILES
-    if not faults:
-        print("accepted")
-        return ACCEPTED
-    print(*faults.lines(), sep="\n", file=sys.stderr)
-    return REFUSED
+    print(*(faults.lines() or ["accepted"]), sep="\n", file=sys.stderr if faults else sys.stdout)
+    return REFUSED if faults else ACCEPTED
 
 
 if __name__ == "__main__":

@@ -1,21 +1,21 @@
-"""The instances and connections of a network, with subapplications and communication blocks replaced by connections."""
+"""Networks and systems: instances, connections and resources, flat.
+
+Subapplications and communication blocks are replaced by connections."""
 
 from __future__ import annotations
 
 import re
-from collections.abc import Iterator
-from dataclasses import dataclass, field, replace
+from collections.abc import Iterator, Mapping, Sequence
+from dataclasses import dataclass, field
+from typing import NamedTuple
 
 from .blocks import Block, Library, Port, read_interface
+from .common import TABLES, Faults, Folded, Names, Place, shown
 from .document import Code, Node
-from .faults import Place, shown
-from .names import Names
 
 MOST_INSTANCES, MOST_CONNECTIONS = 4096, 100_000
-COMMUNICATION = re.compile(r"(PUBLISH|PUBL|SUBSCRIBE|SUBL|CLIENT|SERVER)(?:_(\d{1,2}))?(?:_(\d{1,2}))?", re.IGNORECASE)
-# For each kind of communication block: its partner, and the events that it sends by, confirms with and receives with.
-SERVICES = {"PUBLISH": ("SUBSCRIBE", "REQ", "CNF"), "PUBL": ("SUBL", "REQ", "CNF"), "CLIENT": ("SERVER", "REQ", "CNF"),
-            "SUBSCRIBE": ("PUBLISH", "RSP", "IND"), "SUBL": ("PUBL", "RSP", "IND"), "SERVER": ("CLIENT", "RSP", "IND")}
+SERVICES = TABLES["communication"]
+COMMUNICATION = re.compile(rf"({'|'.join(SERVICES)})(?:_(\d{{1,2}}))?(?:_(\d{{1,2}}))?", re.IGNORECASE)
 # The path of an instance (that of the network itself is empty), and the name of a port.
 Key = tuple[str, str]
 
@@ -31,8 +31,7 @@ class Instance:
     out: str = ""
 
 
-@dataclass(slots=True, frozen=True)
-class Wire:
+class Wire(NamedTuple):
     """A connection. A network of a resource may repeat those of the application."""
 
     source: Key
@@ -42,172 +41,141 @@ class Wire:
     may_repeat: bool = False
 
 
-@dataclass(slots=True)
-class Scope:
-    """A network of an XML file, in which names are looked up. Aliases are what instances are called in a resource."""
-
-    path: str
-    names: Names
-    aliases: dict[str, str] = field(default_factory=dict)
-    types: tuple[str, ...] = ()
-
-    def find(self, name: str) -> str:
-        """Return the path of an instance, or nothing."""
-        found = self.names.find(name)
-        if found and found not in self.aliases:
-            return f"{self.path}.{found}" if self.path else found
-        return self.aliases.get(found or name, "")
-
-
 class Network:
     """Reads the inside of a composite type (with its owner), or an application with the networks of its resources."""
 
     def __init__(self, library: Library, owner: Block | None = None) -> None:
         self.library, self.faults = library, library.faults
         self.blocks: dict[str, Block | None] = {"": owner} if owner else {}
+        # For each network, by its path, what its instances are called in it, with their paths.
+        self.scopes: dict[str, Folded[str]] = {}
         self.instances: dict[str, Instance] = {}
         self.hubs: dict[Key, list[Key]] = {}
-        self.services: dict[str, tuple[str, Place]] = {}
+        self.services: dict[str, tuple[Block, Place]] = {}
         self.outgoing: dict[Key, list[Wire]] = {}
-        self.parameters: list[tuple[Key, Code]] = []
+        self.parameters: dict[Key, Code] = {}
+        self.wires: list[Wire] = []
         self.notes: list[str] = []
         self.visits = 0
 
-    def add(self, node: Node, path: str = "", aliases: dict[str, str] = {}, types: tuple[str, ...] = ()) -> None:
-        """Add a network, with its subapplications."""
-        instances = list(node.all("FB", "SubApp"))
-        names = Names("instance", [(it.get("Name"), it.at("Name")) for it in instances], self.faults)
-        scope = Scope(path, names, aliases, types)
-        for it in instances:
-            self.add_instance(it, scope)
+    def add(self, node: Node, path: str = "", aliases: Mapping[str, str] = {}, types: tuple[str, ...] = ()) -> None:
+        """Add a network with its subapplications. Aliases are what a resource calls instances of the application."""
+        nodes, scope = list(node.all("FB", "SubApp")), self.scopes.setdefault(path, Folded(aliases))
+        for name in Names("instance", [(it.get("Name"), it.at("Name")) for it in nodes], self.faults):
+            if name not in aliases:
+                scope[name] = f"{path}.{name}" if path else name
+        for it in nodes:
+            if scope[it.get("Name")] not in self.blocks:
+                self.add_instance(it, scope[it.get("Name")], types)
+            self.set_parameters(it, scope[it.get("Name")])
         for part in node.all("EventConnections", "DataConnections", "AdapterConnections"):
             for it in part.children:
-                self.connect(it, part.tag.removesuffix("Connections").lower(), scope)
+                self.connect(it, part.tag.removesuffix("Connections").lower(), path)
 
-    def add_instance(self, node: Node, scope: Scope) -> None:
-        """Add an instance, or the inside of a subapplication."""
-        path, place, kind = scope.find(node.get("Name")), node.at("Name"), node.get("Type")
-        if path in self.blocks:
-            self.set_parameters(node, path)
-            return
-        if kind or node.tag == "FB":
-            block = communication(kind, place) or self.library.get(kind, node.at("Type"))
-        else:
+    def add_instance(self, node: Node, path: str, types: tuple[str, ...]) -> None:
+        """Add an instance, or the inside of a subapplication, whose ports only hand on what comes to them."""
+        block, place = communication(node.get("Type"), node.at("Name")), node.at("Name")
+        if block is None and (node.get("Type") or node.tag == "FB"):
+            block = self.library.get(node.get("Type"), node.at("Type"))
+        elif block is None:
             block = Block(node.get("Name"), "subapplication", place, node)
             read_interface(block, self.library)
         self.blocks[path] = block
-        if block is None:
-            return
-        if block.kind == "subapplication":
-            self.add_inside(block, path, scope, place)
-        elif block.kind == "adapter":
-            self.faults.add(node.at("Type"), f"{block.name} is an adapter type: it has no instances")
-        elif block.kind != "communication":
+        if block and block.kind == "adapter":
+            self.faults.refuse(node.at("Type"), f"{block.name} is an adapter type: it has no instances")
+        elif block and block.kind == "communication":
+            self.services[path] = block, place
+        elif block and block.kind != "subapplication":
             self.instances[path] = Instance(path, block, place)
             if len(self.instances) > MOST_INSTANCES:
                 raise self.faults.refuse(place, f"there are more than {MOST_INSTANCES:,} instances")
-        self.set_parameters(node, path)
-        if block.kind == "communication":
-            found = (code.text for key, code in self.parameters if key == (path, "ID"))
-            self.services[path] = next(found, "").strip(" \"'"), place
-
-    def add_inside(self, block: Block, path: str, scope: Scope, place: Place) -> None:
-        """Add the inside of a subapplication. Its ports only hand on what comes to them."""
-        if block.name in scope.types or len(scope.types) > 15:
-            text = f"subapplication {block.name} contains itself, or they nest more than 16 deep"
-            self.faults.add(place, text)
-            return
-        self.hubs.update({(path, it): [(path, it)] for it in block.ports})
-        inside = block.node.first("FBNetwork", "SubAppNetwork") if block.node else None
-        if inside:
-            self.add(inside, path, types=(*scope.types, block.name))
+        elif block and (block.name in types or len(types) > 15):
+            self.faults.refuse(place, f"subapplication {block.name} contains itself, or they nest more than 16 deep")
+        elif block and block.node:
+            self.hubs.update({(path, it): [(path, it)] for it in block.ports})
+            for inside in block.node.all("FBNetwork", "SubAppNetwork"):
+                self.add(inside, path, types=(*types, block.name))
 
     def set_parameters(self, node: Node, path: str) -> None:
         """Keep the parameters of an instance. A list of values goes to the inputs NAME0, NAME1 and so on."""
         block = self.blocks[path]
-        for it in node.all("Parameter") if block else ():
-            assert block is not None
+        if block is None:
+            return
+        for it in node.all("Parameter"):
             name, code = it.get("Name"), it.code("Value")
             rows = [(name, code, it.at("Name"))]
-            if block.find(f"{name}0") and not block.find(name):
-                parts = re.finditer(r"[^\[\],\s]+", code.text)
-                rows = [(f"{name}{number}", Code(code.source, found[0], code.offsets[slice(*found.span())], code.end),
-                         code.place(found.start())) for number, found in enumerate(parts)]
+            if block.ports.find(f"{name}0") and not block.ports.find(name):
+                parts = [it.span() for it in re.finditer(r"[^\[\],\s]+", code.text)]
+                rows = [(f"{name}{number}", Code(code.source, code.end, code.text[begin:end], code.offsets[begin:end]),
+                         code.place(begin)) for number, (begin, end) in enumerate(parts)]
             for name, code, place in rows:
-                port = block.find(name)
+                port = block.ports.find(name)
                 if port is None or port.kind != "data" or port.is_output:
-                    self.faults.add(place, f"type {block.name} has no data input {shown(name)}")
+                    self.faults.refuse(place, f"type {block.name} has no data input {shown(name)}")
                 elif code.text.strip():
-                    self.parameters.append(((path, port.name), code))
+                    self.parameters[path, port.name] = code
 
-    def connect(self, node: Node, kind: str, scope: Scope) -> None:
+    def connect(self, node: Node, kind: str, path: str) -> None:
         """Add a connection, or those that an adapter connection stands for."""
-        place = node.at("Source")
-        begin = self.find(node.get("Source"), scope, kind, True, place)
-        end = self.find(node.get("Destination"), scope, kind, False, node.at("Destination"))
+        begin, end = self.find(node, "Source", kind, path), self.find(node, "Destination", kind, path)
         if begin is None or end is None:
             return
-        rows = [(begin[0], end[0], kind)]
-        plug, socket = begin[1].adapter, end[1].adapter
-        if plug and socket:
-            if plug is not socket:
-                self.faults.add(place, f"a plug of type {plug.name} does not fit a socket of type {socket.name}")
-                return
-            ends = [((begin[0][0], f"{begin[1].name}.{it.name}"), (end[0][0], f"{end[1].name}.{it.name}"), it)
-                    for it in plug.ports.values()]
-            rows = [(one, other, it.kind) if it.is_output else (other, one, it.kind) for one, other, it in ends]
+        (source, plug), (target, socket), rows = begin, end, []
+        if plug.adapter is None:
+            rows.append((source, target, kind))
+        elif plug.adapter is not socket.adapter:
+            self.faults.refuse(node.at("Source"), f"a plug of type {plug.type} does not fit a socket of type {socket.type}")
+        for it in plug.adapter.ports.values() if plug.adapter and plug.adapter is socket.adapter else ():
+            one, other = (source[0], f"{plug.name}.{it.name}"), (target[0], f"{socket.name}.{it.name}")
+            rows.append((one, other, it.kind) if it.is_output else (other, one, it.kind))
         for source, target, part in rows:
-            wire = Wire(source, target, place, part == "event", bool(scope.aliases))
+            # (a network of a resource has a path that begins with a full stop, and may repeat the application)
+            wire = Wire(source, target, node.at("Source"), part == "event", path.startswith("."))
             self.outgoing.setdefault(source, []).append(wire)
 
-    def find(self, text: str, scope: Scope, kind: str, is_source: bool, place: Place) -> tuple[Key, Port] | None:
+    def find(self, node: Node, end: str, kind: str, inside: str) -> tuple[Key, Port] | None:
         """Return the port at an end of a connection, of the owner or of an instance, or refuse its name."""
-        owner = self.blocks.get(scope.path)
-        own = owner.find(text) if owner else None
-        if own and own.kind == kind and own.is_output != is_source:
-            return (scope.path, own.name), own
+        text, place, owner = node.get(end), node.at(end), self.blocks.get(inside)
         instance, _, name = text.rpartition(".")
-        path = scope.find(instance)
-        if not path or path not in self.blocks:
+        path, is_output = self.scopes[inside].find(instance), end == "Source"
+        if owner and owner.ports.find(text):
+            path, name, is_output = inside, text, not is_output
+        if path is None or path not in self.blocks:
             what = f"instance {shown(instance)}" if instance else f"port {shown(text)}"
-            self.faults.add(place, f"there is no {what}")
-        block = self.blocks.get(path) if path else None
-        if block is None:
+            self.faults.refuse(place, f"there is no {what}")
+        block = self.blocks.get(path) if path is not None else None
+        port = block.ports.find(name) if block else None
+        if path is None or block is None:
             return None
-        port = block.find(name)
-        if port is None or port.kind != kind or port.is_output != is_source:
-            side = f"{kind} {'output' if is_source else 'input'}"
-            if kind == "adapter":
-                side = "plug" if is_source else "socket"
-            others = shown(", ".join(it.name for it in block.side(kind, is_source)) or "none")
-            self.faults.add(place, f"{shown(text)}: type {block.name} has no {side} {shown(name)} (it has {others})")
+        if port is None or port.kind != kind or port.is_output != is_output:
+            side = {"adapter": ("socket", "plug")}.get(kind, (f"{kind} input", f"{kind} output"))[is_output]
+            others = shown(", ".join(it.name for it in block.side(kind, is_output)) or "none")
+            self.faults.refuse(place, f"{shown(text)}: type {block.name} has no {side} {shown(name)} (it has {others})")
             return None
         if block.kind == "communication" and port.name in ("QO", "STATUS"):
-            self.faults.add(place, f"{port.name} of {block.name} is not simulated: links don't fail")
+            self.faults.refuse(place, f"{port.name} of {block.name} is not simulated: links don't fail")
         return (path, port.name), port
 
     def link_services(self) -> None:
         """Connect communication blocks: what one sends is what those with the same ID receive."""
-        kinds = {path: block.text for path in self.services if (block := self.blocks[path])}
-        for path, (name, place) in self.services.items():
-            kind, block, title = kinds[path], self.blocks[path], path.lstrip(".")
-            partner, sends, confirms = SERVICES[kind]
-            alike = [it for it, (other, _) in self.services.items() if other == name]
-            partners = [it for it in alike if kinds[it] == partner]
+        names = {path: self.parameters[path, "ID"].text.strip(" \"'") if (path, "ID") in self.parameters else ""
+                 for path in self.services}
+        for path, (block, place) in self.services.items():
+            kind, name, title = block.text, names[path], path.lstrip(".")
+            partner, sends, _, there, here = SERVICES[kind]
+            alike = [(it, other.text) for it, (other, _) in self.services.items() if names[it] == name]
+            partners = [it for it, other in alike if other == partner]
             if not name or not partners:
                 reason = f"there is no {partner} with its ID {shown(name)}" if name else "it has no ID as a parameter"
-                self.faults.add(place, f"{title}: {reason}: remove it, and give its events as stimuli")
-            elif kind in ("CLIENT", "SERVER") and sum(kinds[it] == kind for it in alike) > 1:
-                self.faults.add(place, f"{title}: there is more than one {kind} with its ID {shown(name)}")
-            for it in block.ports if block else ():
-                others = [(other, it.replace("SD", "RD")) for other in partners if it.startswith("SD_")]
-                self.hubs[path, it] = others
+                self.faults.refuse(place, f"{title}: {reason}: remove it, and give its events as stimuli")
+            elif kind in ("CLIENT", "SERVER") and [other for _, other in alike].count(kind) > 1:
+                self.faults.refuse(place, f"{title}: there is more than one {kind} with its ID {shown(name)}")
+            for it in block.ports:
+                self.hubs[path, it] = [(other, it.replace("SD", "RD")) for other in partners if it.startswith("SD_")]
             self.hubs[path, "INIT"] = [(path, "INITO")]
-            if partner not in ("PUBLISH", "PUBL"):
-                own = [] if kind in ("CLIENT", "SERVER") else [(path, confirms)]
-                self.hubs[path, sends] = [*((it, SERVICES[partner][2]) for it in partners), *own]
-            names = ", ".join(it.lstrip(".") for it in partners)
-            self.notes.append(f"{title} ({kind}, ID {name}) is connected directly to {names}")
+            self.hubs[path, sends] = [(it, event) for it, event in [*((it, there) for it in partners), (path, here)] if event]
+            others = ", ".join(it.lstrip(".") for it in partners)
+            self.notes.append(f"{title} ({kind}, ID {name}) is connected directly to {others}")
 
     def targets(self, key: Key, depth: int = 0) -> Iterator[Key]:
         """Return the ports to which a connection leads in the end."""
@@ -221,32 +189,33 @@ class Network:
                 raise self.faults.refuse(wire.place, text)
             yield from self.targets(wire.target, depth + 1)
 
-    def resolved(self) -> list[Wire]:
-        """Return the connections between instances, and give the instances their parameters."""
+    def resolve(self) -> None:
+        """Name the instances, connect them directly and give them their parameters.
+
+        Parameters of a subapplication, and its initial values, go to the inputs inside."""
         self.link_services()
         found: dict[tuple[Key, Key], list[Wire]] = {}
-        wires = [it for key, row in self.outgoing.items() if not key[0] or key[0] in self.instances for it in row]
-        for wire in wires:
+        for wire in [it for key, row in self.outgoing.items() if not key[0] or key[0] in self.instances for it in row]:
             for target in self.targets(wire.target):
                 row = found.setdefault((wire.source, target), [])
                 if row and wire.may_repeat:
                     self.notes.append(f"{wire.place}: this connection of the application is given again in a resource")
                 else:
-                    row.append(replace(wire, target=target))
-        self.spread_parameters()
-        return [it for row in found.values() for it in row]
-
-    def spread_parameters(self) -> None:
-        """Give parameters to instances. Those of a subapplication, and its initial values, go to the inputs inside."""
-        set_already = {it.target for row in self.outgoing.values() for it in row} | {key for key, _ in self.parameters}
+                    row.append(wire._replace(target=target))
+        set_already = {it.target for row in self.outgoing.values() for it in row}
         for path, block in self.blocks.items():
-            for it in block.side("data", False) if block and block.kind == "subapplication" else ():
-                if it.initial and (path, it.name) not in set_already:
-                    self.parameters.append(((path, it.name), it.initial))
-        for key, code in self.parameters:
+            for port in block.side("data", False) if block and block.kind == "subapplication" else ():
+                if port.initial and (path, port.name) not in set_already:
+                    self.parameters.setdefault((path, port.name), port.initial)
+        for key, code in self.parameters.items():
             for path, name in self.targets(key):
                 if path in self.instances:
                     self.instances[path].parameters[name] = code
+        self.wires = [it for row in found.values() for it in row]
+        names = Names("instance", [(it.path.lstrip("."), it.place) for it in self.instances.values()], self.faults)
+        for one in self.instances.values():
+            one.out = names[one.path.lstrip(".")]
+        self.notes += names.renamed
 
 
 def communication(name: str, place: Place) -> Block | None:
@@ -256,10 +225,121 @@ def communication(name: str, place: Place) -> Block | None:
         return None
     kind, numbers = found[1].upper(), range(1, max(int(found[2] or 1), int(found[3] or 0)) + 1)
     block = Block(found[0], "communication", place, text=kind)
-    _, sends, confirms = SERVICES[kind]
+    _, sends, confirms, _, _ = SERVICES[kind]
     data = ["QI", "ID", *(f"SD_{it}" for it in numbers if not kind.startswith("SUB"))]
     outputs = ["QO", "STATUS", *(f"RD_{it}" for it in numbers if not kind.startswith("PUB"))]
     events = (["INIT", sends], "event", False), (["INITO", confirms], "event", True)
-    sides = (*events, (data, "data", False), (outputs, "data", True))
-    block.ports = {it: Port(it, part, is_output, place) for names, part, is_output in sides for it in names}
+    for names, part, is_output in (*events, (data, "data", False), (outputs, "data", True)):
+        for it in names:
+            block.ports[it] = Port(it, part, is_output, place)
     return block
+
+
+@dataclass(slots=True)
+class Resource:
+    """A resource: its name in the profile, and what instances of the application are called in it."""
+
+    device: str
+    name: str
+    place: Place
+    node: Node
+    out: str = ""
+    device_out: str = "DEV"
+    aliases: dict[str, str] = field(default_factory=dict)
+    instances: list[Instance] = field(default_factory=list)
+
+
+class System(Network):
+    """A whole system, flat: one application, or networks of resources alone."""
+
+    def __init__(self, root: Node, library: Library) -> None:
+        super().__init__(library)
+        applications = list(root.all("Application"))
+        for it in applications[1:]:
+            self.faults.refuse(it.place, "the profile has one application: make a system of each, or draw them as one")
+        top = applications[0] if applications else root
+        self.name, self.place = top.get("Name"), top.at("Name")
+        self.out = Names("application", [(self.name, self.place)], self.faults)[self.name]
+        for inside in top.all("SubAppNetwork", "FBNetwork"):
+            self.add(inside)
+        self.resources = [Resource(device.get("Name"), it.get("Name"), it.at("Name"), it)
+                          for device in root.all("Device") for it in device.all("Resource")]
+        self.name_resources()
+        for device in root.all("Device"):
+            for network in device.all("FBNetwork"):
+                if network.children:
+                    self.faults.refuse(network.place, "a network of a device is not supported: move it to a resource")
+        # No path of the application has a full stop at its beginning, as those of resources have.
+        mapping = {f".{it.out}": it for it in self.resources} | self.read_mapping(root)
+        for resource in self.resources:
+            self.add_resource(resource)
+        self.resolve()
+        self.place_instances(mapping, Resource("DEV", "MAIN", self.place, root))
+
+    def name_resources(self) -> None:
+        """Name all resources. Names that are given in several devices get the device in front."""
+        names = [it.name.upper() for it in self.resources]
+        wanted = [it.name if names.count(it.name.upper()) == 1 else f"{it.device}.{it.name}" for it in self.resources]
+        known = Names("resource", [(name, it.place) for name, it in zip(wanted, self.resources)], self.faults)
+        for name, it in zip(wanted, self.resources):
+            it.out, it.device_out = known[name], Names("device", [(it.device, it.place)], self.faults)[it.device]
+
+    def read_mapping(self, root: Node) -> dict[str, Resource]:
+        """Return the resources of instances and subapplications of the application, by their paths."""
+        found: dict[str, Resource] = {}
+        for it in root.all("Mapping"):
+            (name, _, path), target = it.get("From").partition("."), it.get("To").split(".", 2)
+            resource = next((one for one in self.resources if [one.device, one.name] == target[:2]), None)
+            if name != self.name or not path:
+                self.faults.refuse(it.at("From"), f"{shown(it.get('From'))} is no instance of application {shown(self.name)}")
+            elif resource is None or len(target) < 3:
+                self.faults.refuse(it.at("To"), f"{shown(it.get('To'))} is no instance of a resource")
+            elif path in found:
+                self.faults.refuse(it.at("From"), f"{shown(path)} is mapped twice")
+            else:
+                found[path] = resource
+                resource.aliases[target[2]] = path
+                if path not in self.blocks:
+                    self.faults.refuse(it.at("From"), f"there is no instance {shown(path)}")
+        return found
+
+    def add_resource(self, resource: Resource) -> None:
+        """Add the network of a resource, with the START that each resource has without naming it, if it is used."""
+        for node in resource.node.all("FBNetwork"):
+            sources = [it.get("Source") for part in node.all("EventConnections") for it in part.children]
+            named = [it.get("Name") for it in node.all("FB")]
+            if "START" not in named and any(it.startswith("START.") for it in sources):
+                node.children.insert(0, node.made("FB", Name="START", Type="E_RESTART"))
+            self.add(node, f".{resource.out}", resource.aliases)
+
+    def place_instances(self, mapping: dict[str, Resource], rest: Resource) -> None:
+        """Put each instance into its resource, or into the rest."""
+        for one in self.instances.values():
+            steps = one.path.split(".")
+            outer = (".".join(steps[:n]) for n in range(len(steps), 0, -1))
+            next((mapping[path] for path in outer if path in mapping), rest).instances.append(one)
+        if rest.instances or not self.resources:
+            rest.out = Names("resource", [("MAIN", rest.place)], self.faults, [it.out for it in self.resources])["MAIN"]
+            if self.resources:
+                rows = ", ".join(it.out for it in rest.instances)
+                self.notes.append(f"mapped nowhere, and so in resource {rest.out} together: {rows}")
+            self.resources.append(rest)
+
+    def crossings(self) -> list[tuple[Resource, Resource]]:
+        """Return the pairs of resources between which connections lead, in the order of the resources."""
+        at = {one.path: number for number, it in enumerate(self.resources) for one in it.instances}
+        pairs = {(at[it.source[0]], at[it.target[0]]) for it in self.wires}
+        return [(self.resources[begin], self.resources[end]) for begin, end in sorted(pairs) if begin != end]
+
+
+def system_of(roots: Sequence[Node], faults: Faults) -> Node:
+    """Return a system with one instance of each of these types."""
+    network = roots[0].made("FBNetwork")
+    for it in roots:
+        if it.tag != "AdapterType":
+            node = it.made("SubApp" if it.tag == "SubAppType" else "FB")
+            node.attributes = {"Name": it.code("Name"), "Type": it.code("Name")}
+            network.children.append(node)
+    if not network.children:
+        raise faults.refuse(network.place, "there are only adapter types: give a system or a type with blocks")
+    return network.made("System", network.made("Application", network, Name="TYPES"))

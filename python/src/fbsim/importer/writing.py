@@ -1,53 +1,125 @@
-"""Writes the texts of the profile with the places in the XML of what is written, and the report."""
+"""Writes the texts of the profile with the places in the XML of what is written, and the report.
+
+texts.jinja has their form."""
 
 from __future__ import annotations
 
-import bisect
-from collections.abc import Iterable, Sequence
-from dataclasses import dataclass, field
+import functools
+import re
+from pathlib import Path
+from typing import Any
 
-from .blocks import Block, Library
-from .chart import Row, chart_of
-from .faults import Faults, Place
-from .names import Names
-from .network import Instance, Key, Network, Wire
-from .structured_text import Pieces, constant
-from .system import System
+from jinja2 import StrictUndefined, Template
+
+from .blocks import Block, Library, Port, variable
+from .common import Folded, Names, Place, shown
+from .document import Code, Node
+from .network import Network, System
+from .structured_text import Algorithm, Find, condition, constant
+
+MARK = re.compile("\x02(.*?):([0-9]+):([0-9]+)\x03")
+TEXTS: Any = Template(Path(__file__).with_name("texts.jinja").read_text("utf-8"), undefined=StrictUndefined, trim_blocks=True,
+                      lstrip_blocks=True, keep_trailing_newline=True).module
 
 
-@dataclass(slots=True)
-class Text:
-    """A text that is written, with the places of its parts."""
+def place_in(marked: str, line: int, column: int) -> Place | None:
+    """Return the place of what is at a line and a column of a text, whose marks do not count."""
+    found, at = None, 0
+    offset = sum(len(it) + 1 for it in MARK.sub("", marked).split("\n")[:line - 1]) + column - 1
+    for one in MARK.finditer(marked):
+        if one.start() - at > offset:
+            break
+        found, at = Place(one[1], int(one[2]), int(one[3])), at + len(one[0])
+    return found
 
-    parts: list[str] = field(default_factory=list)
-    length: int = 0
-    offsets: list[int] = field(default_factory=list)
-    places: list[Place] = field(default_factory=list)
 
-    def add(self, text: str, place: Place | None = None) -> None:
-        """Add a part; without a place it has that of the part before it."""
-        if place:
-            self.offsets.append(self.length)
-            self.places.append(place)
-        self.parts.append(text)
-        self.length += len(text)
+class Chart:
+    """What a basic type has after its interface, as it is written."""
 
-    def rows(self, word: str, end: str, rows: Sequence[Pieces]) -> None:
-        """Add a section with these rows, or nothing if there are none."""
-        self.add(f"{word}\n" if rows else "")
-        for row in rows:
-            self.add("  ")
-            for part, place in row:
-                self.add(part, place)
-            self.add(";\n")
-        self.add(f"{end}\n" if rows else "")
+    def __init__(self, block: Block, library: Library) -> None:
+        self.block, self.faults, inside = block, library.faults, inside_of(block, library)
+        nodes = list(inside.all("Algorithm"))
+        self.bodies = Names("algorithm", [(it.get("Name"), it.at("Name")) for it in nodes], self.faults)
+        codes = {name: Algorithm(self.code_of(it), self.finder(name), self.faults) for it in nodes if (name := it.get("Name"))}
+        self.variables = [variable(it, False, self.faults)
+                          for part in inside.all("InternalVars", "InternalConstVars") for it in part.children]
+        self.variables += [Port(f"{name}.{it}", "data", False, code.place(it), kind)
+                           for name, code in codes.items() for it, kind in code.temporaries]
+        ports = [*block.ports.values(), *self.variables]
+        names = Names("variable", [(it.name, it.place) for it in ports], self.faults)
+        for port in ports:
+            port.out = names[port.name]
+        self.found = Folded({it.name: (it.out, it.type) for it in ports if it.kind == "data"})
+        self.inputs, self.outputs = (Folded({it.name: it.out for it in block.side("event", side)}) for side in (False, True))
+        ecc = next(inside.all("ECC"), inside)
+        nodes = list(ecc.all("ECState"))
+        if not nodes:
+            self.faults.refuse(ecc.place, f"type {block.name} has no states")
+        self.state_names = Names("state", [(it.get("Name"), it.at("Name")) for it in nodes], self.faults)
+        self.states = [self.state(it) for it in nodes]
+        self.transitions = [self.transition(it) for it in ecc.all("ECTransition")]
+        self.algorithms = []
+        for name, code in codes.items():
+            mark = code.code.place(0).mark
+            self.algorithms.append(f"{mark}ALGORITHM {self.bodies[name]} IN ST:{code.body()}{mark}\nEND_ALGORITHM\n")
+            library.notes += [f"{code.place(it)}: {it} goes away: a value that does not fit stops the run"
+                              for it in code.conversions]
+        library.notes += [f"type {block.out}: {it}" for one in (names, self.bodies, self.state_names) for it in one.renamed]
 
-    def place(self, line: int, column: int) -> Place | None:
-        """Return the place of what is at a line and a column."""
-        lines = "".join(self.parts).split("\n")
-        offset = sum(len(it) + 1 for it in lines[:line - 1]) + column - 1
-        index = bisect.bisect_right(self.offsets, offset)
-        return self.places[index - 1] if index else None
+    def code_of(self, node: Node) -> Code:
+        """Return the text of an algorithm, which is an attribute or what is in the element."""
+        inside = next(node.all("ST", "Other"), None)
+        if inside is None or inside.tag == "Other" and inside.get("Language").upper() != "ST":
+            self.faults.refuse((inside or node).place, f"algorithm {shown(node.get('Name'))} is not in Structured Text")
+            return Code(node.source, node.offset)
+        return inside.code("Text") if inside.get("Text") else inside.text
+
+    def finder(self, algorithm: str) -> Find:
+        """Return the look-up of variables in an algorithm."""
+        return lambda name: self.found.find(f"{algorithm}.{name}") or self.found.find(name)
+
+    def state(self, node: Node) -> str:
+        """Return a state with its actions: an algorithm, an event or both. An action with neither goes away."""
+        actions = []
+        for it in node.all("ECAction", "SimpleECAction"):
+            name, event = it.get("Algorithm"), it.get("Output")
+            algorithm, output = self.bodies.find(name), self.outputs.find(event)
+            if name and algorithm is None:
+                self.faults.refuse(it.at("Algorithm"), f"there is no algorithm {shown(name)}")
+            if event and output is None:
+                self.faults.refuse(it.at("Output"), f"type {self.block.name} has no event output {shown(event)}")
+            text = f"{algorithm or ''} -> {output}".strip() if output else algorithm
+            actions += [it.at("Algorithm" if name else "Output").mark + text] if text else []
+        return f"{node.at('Name').mark}{self.state_names[node.get('Name')]}{' : ' if actions else ''}{', '.join(actions)}"
+
+    def transition(self, node: Node) -> str:
+        """Return a transition with its condition."""
+        ends = [self.state_names.find(node.get(end)) for end in ("Source", "Destination")]
+        for end, found in zip(("Source", "Destination"), ends):
+            if found is None:
+                self.faults.refuse(node.at(end), f"there is no state {shown(node.get(end))}")
+        text = condition(node.code("Condition"), self.found.find, self.inputs.find, self.faults)
+        return f"{node.at('Source').mark}{ends[0]} TO {ends[1]} := {text}"
+
+
+def inside_of(block: Block, library: Library) -> Node:
+    """Return the inside of a basic type, or make one for a simple type: each event runs the algorithm of its name, or the only one."""
+    assert block.node is not None
+    inside = next(block.node.all("BasicFB", "SimpleFB"))
+    if inside.tag == "BasicFB":
+        return inside
+    ecc, outputs = inside.made("ECC", inside.made("ECState", Name="START")), block.side("event", True)
+    states = {it.get("Name"): list(it.children) for it in inside.all("SimpleECState")}
+    algorithms = Folded({it.get("Name"): it.get("Name") for it in inside.all("Algorithm")})
+    for port in block.side("event", False):
+        own = algorithms.find(port.name) or (next(iter(algorithms)) if len(algorithms) == 1 else "")
+        if port.name not in states and not (own and len(outputs) == 1):
+            library.faults.refuse(port.place, f"there is no algorithm for {port.name}, or not one event output to go with it")
+        actions = [inside.made("ECAction", Algorithm=own, Output=outputs[0].name if outputs else "")]
+        ecc.children += [inside.made("ECState", *states.get(port.name, actions), Name=f"ON.{port.name}"),
+                         inside.made("ECTransition", Source="START", Destination=f"ON.{port.name}", Condition=port.name),
+                         inside.made("ECTransition", Source=f"ON.{port.name}", Destination="START", Condition="1")]
+    return inside.made("BasicFB", ecc, *inside.children)
 
 
 class Types:
@@ -55,9 +127,9 @@ class Types:
 
     def __init__(self, library: Library) -> None:
         self.library, self.faults = library, library.faults
-        self.text = Text()
+        self.texts = ["(* Imported by fbsim-import: see import.txt. *)\n\n"]
         self.written: dict[Block, None] = {}
-        self.depth = 0
+        self.depth, self.constant = 0, functools.partial(constant, faults=library.faults)
 
     def need(self, block: Block, place: Place) -> None:
         """Write a type, if it is not written yet."""
@@ -71,149 +143,33 @@ class Types:
             for it in self.library.annex.values():
                 if f": {it.out};" in block.text:
                     self.need(it, place)
-            self.text.add(f"{block.text}\n\n", block.place)
+            self.texts.append(f"{block.place.mark}{block.text}\n\n")
         elif block.kind == "composite":
-            self.composite(block)
+            self.texts.append(TEXTS.block(block, None, self.network(block), self.constant))
         else:
-            self.basic(block)
+            chart = None if block.kind == "service" else Chart(block, self.library)
+            self.texts.append(TEXTS.block(block, chart, None, self.constant))
         self.depth -= 1
 
-    def head(self, block: Block, variables: Iterable[Row] = ()) -> None:
-        """Write the beginning of a type, with the internal variables of a basic one."""
-        self.text.add("FUNCTION_BLOCK ")
-        self.text.add(f"{block.out}\n", block.place)
-        for word, is_output in (("EVENT_INPUT", False), ("EVENT_OUTPUT", True)):
-            rows = []
-            for port in block.side("event", is_output):
-                withs = [(f"{', ' if number else ' WITH '}{block.ports[name].out}", place)
-                         for number, (name, place) in enumerate(port.withs)]
-                rows.append([(port.out, port.place), *withs])
-            self.text.rows(word, "END_EVENT", rows)
-        for word, is_output in (("VAR_INPUT", False), ("VAR_OUTPUT", True)):
-            ports = block.side("data", is_output)
-            self.variables(word, [(it.out, it.type, it.initial, it.place) for it in ports])
-        self.variables("VAR", variables)
-
-    def variables(self, word: str, variables: Iterable[Row]) -> None:
-        """Write a section of variables."""
-        rows = []
-        for out, kind, initial, place in variables:
-            row = [(f"{out} : {kind or 'BOOL'}", place)]
-            if initial and kind:
-                value, at = constant(initial, kind, self.faults)
-                row += [(" := ", place), (value, at)]
-            rows.append(row)
-        self.text.rows(word, "END_VAR", rows)
-
-    def composite(self, block: Block) -> None:
-        """Write a composite type, after the types of its instances."""
+    def network(self, block: Block) -> Network:
+        """Return the inside of a composite type, after the types of its instances are written."""
         network = Network(self.library, block)
         for inside in block.node.all("FBNetwork") if block.node else ():
             network.add(inside)
         for path, (_, place) in network.services.items():
-            text = f"{path}: communication blocks are for applications and resources, not for composite types"
-            self.faults.add(place, text)
-        wires, instances = network.resolved(), list(network.instances.values())
-        names = Names("instance", [(it.path, it.place) for it in instances], self.faults)
-        self.library.notes += [f"type {block.out}: {it}" for it in names.renamed]
-        for it in instances:
-            it.out = names.out[it.path]
+            self.faults.refuse(place, f"{path}: communication blocks are for applications and resources, not for composite types")
+        network.resolve()
+        self.library.notes += [f"type {block.out}: {it}" for it in network.notes]
+        for it in network.instances.values():
             self.need(it.block, it.place)
-        self.head(block)
-        write_network(self.text, instances, wires, network, self.faults)
-        self.text.add("END_FUNCTION_BLOCK\n\n")
-
-    def basic(self, block: Block) -> None:
-        """Write a basic type, a simple one, or a stub."""
-        chart = chart_of(block, self.library)
-        self.head(block, chart.variables)
-        self.text.rows("EC_STATES", "END_STATES", chart.states)
-        self.text.rows("EC_TRANSITIONS", "END_TRANSITIONS", chart.transitions)
-        for (name, place), *pieces in chart.algorithms:
-            for part, at in [(f"ALGORITHM {name} IN ST:", place), *pieces, ("\nEND_ALGORITHM\n", place)]:
-                self.text.add(part, at)
-        self.text.add("END_FUNCTION_BLOCK\n\n")
+        return network
 
 
-def write_network(text: Text, instances: Iterable[Instance], wires: Iterable[Wire], network: Network,
-                  faults: Faults) -> None:
-    """Write the instances and the connections of a network."""
-    rows = []
-    for it in instances:
-        row = [(f"{it.out} : {it.block.out}", it.place)]
-        for name, code in it.parameters.items():
-            value, place = constant(code, it.block.ports[name].type, faults)
-            row.append((f"{', ' if len(row) > 1 else '('}{it.block.ports[name].out} := {value}", place))
-        rows.append([*row, (")" if it.parameters else "", it.place)])
-    text.add("" if rows else "FBS\nEND_FBS\n")
-    text.rows("FBS", "END_FBS", rows)
-    wires = list(wires)
-    for word, is_event in (("EVENT_CONNECTIONS", True), ("DATA_CONNECTIONS", False)):
-        rows = [[(f"{end_of(it.source, network)} TO {end_of(it.target, network)}", it.place)]
-                for it in wires if it.is_event == is_event]
-        text.rows(word, "END_CONNECTIONS", rows)
-
-
-def end_of(key: Key, network: Network) -> str:
-    """Return an end of a connection as the profile writes it."""
-    block = network.blocks[key[0]]
-    port = block.ports[key[1]].out if block else ""
-    return f"{network.instances[key[0]].out}.{port}" if key[0] else port
-
-
-def write_application(system: System, faults: Faults) -> Text:
-    """Return the text of the application."""
-    text = Text()
-    name = Names("application", [(system.name, system.place)], faults).out[system.name]
-    text.add(f"APPLICATION {name}\n", system.place)
-    write_network(text, system.network.instances.values(), system.wires, system.network, faults)
-    text.add("END_APPLICATION\n")
-    return text
-
-
-def write_deployment(system: System, latency: int) -> Text:
-    """Return the text of the deployment, with a link for each pair of resources that a connection crosses."""
-    text = Text()
-    for it in system.resources:
-        device = Names("device", [(it.device, it.place)], Faults()).out[it.device]
-        text.add(f'[[resource]]\ndevice = "{device}"\nname = "{it.out}"\ninstances = [', it.place)
-        for number, one in enumerate(it.instances):
-            text.add(f'{", " if number else ""}"{one.out}"', one.place)
-        text.add("]\n\n")
-    for source, target in system.crossings():
-        row = f'[[link]]\nfrom = "{source.out}"\nto = "{target.out}"\nlatency = {latency}\n\n'
-        text.add(row, source.place)
-    return text
-
-
-def section(title: str, rows: Iterable[str]) -> list[str]:
-    """Return the lines of a section, or none if it has no rows."""
-    found = [f"  {it}" for it in rows]
-    return [title, *found, ""] if found else []
-
-
-def stub_rows(system: System) -> Iterable[str]:
-    """Return the output events of stubs, with the stimuli that give them."""
-    for it in system.network.instances.values():
-        for port in it.block.side("event", True) if it.block.kind == "service" else ():
-            given = it.block.ports[f"GIVE_{port.name}"]
-            values = "".join(f" {it.block.ports[name].out}=.." for name, _ in given.withs)
-            yield f"{it.out}.{port.out}: the stimulus {it.out}.{given.out}{values}"
-
-
-def write_report(system: System, library: Library, types: Types, latency: int) -> str:
-    """Return the text of import.txt."""
-    instances = (f"{one.path.lstrip('.')} ({one.block.name}): {one.out} : {one.block.out} in {it.out}"
-                 for it in system.resources for one in it.instances)
-    return "\n".join([
-        f"Application {system.name}, from {system.place.source.path}", "",
-        *section("Types", (f"{it.place}: {it.kind} type {it.name}: {it.out}" for it in types.written)),
-        *section("Resources", (f"{it.device}.{it.name}: {it.out}, instances: {len(it.instances)}"
-                               for it in system.resources)),
-        *section("Links, with the latency to set in deploy.toml",
-                 (f"{source.out} to {target.out}: {latency} ms" for source, target in system.crossings())),
-        *section("Instances", instances),
-        *section("Renamed, assumed and replaced", dict.fromkeys([*library.notes, *system.notes])),
-        *section("Outputs of stubs, and what a stimulus or a session gives them by", stub_rows(system)),
-        *section("Ignored, since it means nothing here", (f"{it}: {n}" for it, n in sorted(library.ignored.items()))),
-    ])
+def texts_of(system: System, library: Library, latency: int) -> dict[str, str]:
+    """Return all texts by their names, with marks of places."""
+    types = Types(library)
+    for it in system.instances.values():
+        types.need(it.block, it.place)
+    application, deployment = TEXTS.application(system, types.constant), TEXTS.deployment(system, latency)
+    return {"types.iec": "".join(types.texts), "application.iec": application, "deploy.toml": deployment,
+            "import.txt": TEXTS.report(system, types, latency)}
