@@ -8,13 +8,11 @@ from fbsim.faults import (
     Fault, FileFault, InputFault, Location, OutOfMemory, ProgramFault, ProgramMissing, Refused,
     RulesBroken, SequenceBroken, Stop, Stopped, WriteFault
 )
-from fbsim.latencies import Latencies
-from fbsim.pattern import Pattern
+from fbsim.latencies import Latencies, Pattern
 from fbsim.program import find_program
-from fbsim.report import Report, Verdict
 from fbsim.sequence import check_sequence
 from fbsim.sweep import Jitter, Sweep, Variant, jitter
-from fbsim.trace import Line, Lines, Signal, Trace
+from fbsim.trace import Line, Lines, Report, Signal, Trace, Verdict
 
 __version__ = "1.2.0"
 

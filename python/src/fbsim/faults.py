@@ -7,8 +7,7 @@ from collections.abc import Sequence
 from typing import TYPE_CHECKING, NamedTuple
 
 if TYPE_CHECKING:
-    from fbsim.report import Report
-    from fbsim.trace import Lines
+    from fbsim.trace import Lines, Report
 
 # What the program prints of a refusal with --why (docs/FORMATS.md, "Program").
 HEAD = re.compile(r"refused (E\d\d|trace)(?: (.*?))??(?: line (\d+))?")

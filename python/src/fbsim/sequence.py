@@ -65,16 +65,6 @@ def matches(line: Line, expected: Line) -> bool:
     return line.event == expected.event and wanted.items() <= found.items()
 
 
-def compare(steps: Sequence[Step], lines: Sequence[Line]) -> list[str]:
-    """Returns what is wrong with the outputs of each step."""
-    faults = []
-    for number, step in enumerate(steps, 1):
-        came = [it for it in lines if step.first <= it.tick <= step.last]
-        if len(came) != len(step.outputs) or not all(map(matches, came, step.outputs)):
-            faults.append(f"step {number}, {step.text}: expected {said(step.outputs)}, came {said(came)}")
-    return faults
-
-
 def check_sequence(
     type_name: str, steps: Sequence[Sequence[str]], *, parameters: Mapping[str, object] | None = None,
     types: Sequence[FileName] = (), declaration: FileName | None = None
@@ -98,6 +88,10 @@ def check_sequence(
         write(Path(folder, "harness.iec"), text)
         trace = Application(Path(folder, "harness.iec"), types).run(rows, horizon=sequence[-1].last + 1)
         lines = [it for it in trace if it.sign == "<" and it.instance == INSTANCE]
-    faults = compare(sequence, lines)
+    faults = []
+    for number, step in enumerate(sequence, 1):
+        came = [it for it in lines if step.first <= it.tick <= step.last]
+        if len(came) != len(step.outputs) or not all(map(matches, came, step.outputs)):
+            faults.append(f"step {number}, {step.text}: expected {said(step.outputs)}, came {said(came)}")
     if faults:
         raise SequenceBroken("\n".join(faults))

@@ -15,12 +15,12 @@ from dataclasses import dataclass
 from pathlib import Path
 from typing import Any, NamedTuple
 
+from fbsim import figures
 from fbsim.application import Application, FileName, Stimuli, stimuli_text
 from fbsim.faults import Fault, InputFault, Stop
 from fbsim.latencies import Latencies
-from fbsim.report import Report, check_rules
 from fbsim.texts import read, with_latency, with_parameter, with_stimulus, write
-from fbsim.trace import Trace
+from fbsim.trace import Report, Trace, check_rules
 
 # The names of parameters, the file that each changes, and how.
 PLACES: list[tuple[str, str, Callable[..., str]]] = [
@@ -182,28 +182,21 @@ class Sweep:
 
     def frame(self) -> Any:
         """Returns a pandas data frame: a row for each variant; parameters, end, each rule, statistics of latencies."""
-        from fbsim.figures import frame_of_sweep
-
-        return frame_of_sweep(self.rows)
+        return figures.frame_of_sweep(self.rows)
 
     def plot(self, x: str | None = None, y: str | None = None) -> Any:
         """Returns a figure of two columns of the frame, in which variants with a broken rule are marked.
 
         They are by default the first two parameters, or a single parameter and the greatest of the first latencies.
         """
-        from fbsim.figures import points
-
         names = [*self.plan.names, *(f"{it}.most" for it in self.plan.latencies), "end"]
-        return points(self.frame(), [bool(it.broken) for it in self.rows], x or names[0], y or names[1])
+        return figures.points(self.frame(), [bool(it.broken) for it in self.rows], x or names[0], y or names[1])
 
 
 def choose(lists: Sequence[Sequence[object]], sample: int | None, seed: int) -> Iterator[Chosen]:
     """Goes over the product of all values, or a random sample of it, with numbers that rise."""
-    count = math.prod(len(it) for it in lists)
-    numbers: Iterable[int] = range(count)
-    if sample is not None and sample < count:
-        numbers = sorted(random.Random(seed).sample(range(count), sample))
-    for number in numbers:
+    numbers = range(math.prod(map(len, lists)))
+    for number in numbers if sample is None else sorted(random.Random(seed).sample(numbers, min(sample, len(numbers)))):
         values, rest = [], number
         for it in reversed(lists):
             rest, at = divmod(rest, len(it))

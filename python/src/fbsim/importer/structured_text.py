@@ -198,9 +198,9 @@ class Algorithm(Reader):
             row = [*row[:colon + 2], row[-1]]
         names = [it for it in row[:colon] if it.type == "NAME"]
         self.temporaries += [(it, kind.upper()) for it in names]
-        default, start = ("TRUTH", "FALSE") if kind.upper() == "BOOL" else ("WHOLE", "0"), kind.start_pos
+        default, start = ("TRUTH", "FALSE") if kind.upper() == "BOOL" else ("WHOLE", "0"), kind.start_pos or 1
         initial = row[colon + 3:-1] or [Token(*default, start, end_pos=kind.end_pos)]
-        return [part for it in names for part in (it, Token("ASSIGN", ":=", start, end_pos=start), *initial, row[-1])]
+        return [part for it in names for part in (it, Token("ASSIGN", ":=", start, end_pos=start - 1), *initial, row[-1])]
 
     def body(self) -> str:
         """Return the converted statements."""
