@@ -81,4 +81,4 @@ Steps i horizon limit c old new (Took tick) =
     × ((from : ℕ) → IsReady i limit from old → (from ≤ tick) × IsReady i limit tick new)
 Steps i horizon limit c old new (Stopped m) =
     (t : Taken) × HasGone i limit c old new (t ∷ []) × (t.key.tick ≡ m.tick) × (m.tick < horizon) × (t.key.resource ≡ m.resource) × (t.effect.stop ≡ Some m.reason)
-    × (m.resource < length (system_of i).resource_names) × ((from : ℕ) → IsReady i limit from old → from ≤ m.tick)
+    × (m.resource < length (system_of i).resource_names) × ((from : ℕ) → IsReady i limit from old → (from ≤ m.tick) × IsReady i limit m.tick new)

@@ -127,7 +127,7 @@ returns-in-Some c d at =
       refl,
       t.stops ∙ c.in-Some.is,
       (c.requires.ready.1.queues.order.waits z.key z.event finds.found).resource,
-      λ from ready. (ready.queues.order.waits z.key z.event finds.found).later,
+      λ from ready. ((ready.queues.order.waits z.key z.event finds.found).later, c.in_ok-reason.ensures.ready),
     )
 
 pub returns : goal.returns
