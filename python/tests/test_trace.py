@@ -257,6 +257,7 @@ def test_rules_are_kept_broken_or_undecided(tmp_path):
     assert (broken.line, broken.tick, broken.text) == (3, 3, "3 MAIN < C.EO")
     assert str(caught.value) == r"no # \ beat: this event is not allowed here at line 3, tick 3: 3 MAIN < C.EO"
     assert report.of("kept")[1].notes == ("no line of the trace is of: * < D.EO",)
+    assert [it.decided for it in report.verdicts] == [1, 4, 2, 4]
     with pytest.raises(fbsim.RulesBroken) as caught:
         trace.expect(tmp_path / "some.rules", strict=True)
     assert [it.rule for it in caught.value.broken] == [r"no # \ beat", "it goes on"]

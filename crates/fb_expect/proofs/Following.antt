@@ -1,23 +1,32 @@
 -- Rules along the events of a trace.
-use Rattle.std.proofs.Common.{◌≡◌, ℕ, suc, zero, ◌+◌, ◌<◌, ◌≤◌, List, [], ◌∷◌, ◌++◌, length, get_or, set, take, refl, sym, ap, subst, ◌∙◌, arith, inl, inr}
+use Rattle.std.proofs.Common.{◌≡◌, ℕ, suc, zero, ◌+◌, ◌<◌, ◌≤◌, List, [], ◌∷◌, ◌++◌, length, get_or, set, take, Result, Ok, Err, refl, sym, ap, subst, ◌∙◌, arith, inl, inr}
+use Rattle.std.specs.Prelude.{OnOk, Option, Some, None}
 use Rattle.std.proofs.lemmas.Bool.{cases_eq}
 use Rattle.std.proofs.Math.ListN.{length-set}
 use Rattle.std.proofs.lemmas.List.{get_or-set_other, get_or-set_same, length-map, map-append, take_more}
 use Rattle.std.proofs.lemmas.List.Elements.{All-push}
 use Rattle.fb_expect.specs.Events.{Event}
+use Rattle.fb_expect.specs.Deciding.{Decides, Tallies}
 use Rattle.fb_expect.specs.Hits.{hit_of, hits_of}
 use Rattle.fb_expect.specs.Passing.{Covers}
-use Rattle.fb_expect.specs.Judging.{AllFollow, AreJudged, Follows, IsJudged, Moves, rules_of}
+use Rattle.fb_expect.specs.Judging.{AllFollow, AreJudged, Concludes, Follows, IsJudged, IsVerdictBy, KnowsState, KnowsStateBy, Moves, StateOn, rules_of}
+use Rattle.fb_expect.specs.Paired.{KnowsPairs, PairHit, PairsEnd, PairsOn, pair_hit_of, pair_hits_of, within_of}
+use Rattle.fb_expect.specs.Paired.{AreBelow as ArePairsBelow}
 use Rattle.fb_expect.specs.Sights.{sights_of}
 use Rattle.fb_expect.specs.Traces.{AreBelow, RiseFrom, last_tick, tick_of}
-use Rattle.fb_expect.specs.Watching.{Concludes, IsBelow, Knows, Steps}
+use Rattle.fb_expect.specs.Watching.{IsBelow, Knows, Steps}
+use Rattle.fb_expect.specs.Watching.{Concludes as WatchConcludes}
 use Rattle.fb_expect.specs.declared.ending.End.{End}
 use Rattle.fb_expect.specs.declared.hit.Hit.{Hit}
 use Rattle.fb_expect.specs.declared.judging.Judged.{Judged}
+use Rattle.fb_expect.specs.declared.judging.State.TheVariants.{Alone, Paired}
 use Rattle.fb_expect.specs.declared.judging.Watcher.{Watcher}
+use Rattle.fb_expect.specs.declared.pairs.Pairs.{Pairs}
 use Rattle.fb_expect.specs.declared.port_set.PortSet.{PortSet}
+use Rattle.fb_expect.specs.declared.rule.Pairing.{Pairing}
 use Rattle.fb_expect.specs.declared.rule.Rule.{Rule}
 use Rattle.fb_expect.specs.declared.verdict.Verdict.{Verdict}
+use Rattle.fb_expect.specs.declared.watch.Watch.{Watch}
 
 -- no hit is of a later tick where no event is
 pub below-hits : (r : Rule) (es : List Event) (t : ℕ) → AreBelow es t → IsBelow (hits_of r es) t
@@ -29,25 +38,88 @@ hits-more : (r : Rule) (es : List Event) (e : Event) → hits_of r (es ++ e ∷ 
 hits-more r [] e = refl
 hits-more r (x ∷ es) e = ap (λ (hs : List Hit). hit_of r x ∷ hs) (hits-more r es e)
 
--- one more event
+pair-below : (r : Rule) (es : List Event) (t : ℕ) → AreBelow es t → ArePairsBelow (pair_hits_of r es) t
+pair-below r [] t are i = omega arith
+pair-below r (e ∷ es) t are zero = are 0 e (omega arith)
+pair-below r (e ∷ es) t are (suc i) = pair-below r es t (λ k d lt. are (suc k) d (omega arith)) i
+
+pair-hits-more : (r : Rule) (es : List Event) (e : Event) → pair_hits_of r (es ++ e ∷ []) ≡ pair_hits_of r es ++ pair_hit_of r e ∷ []
+pair-hits-more r [] e = refl
+pair-hits-more r (x ∷ es) e = ap (λ (hs : List PairHit). pair_hit_of r x ∷ hs) (pair-hits-more r es e)
+
+-- ---- The state of a rule
+
+pub begin-alone : (r : Rule) (w : Watch) → r.pairing ≡ None → Knows r.need [] w → KnowsState r [] (Alone w)
+begin-alone r w none knows = subst (λ (o : Option Pairing). KnowsStateBy o r [] (Alone w)) (sym none) knows
+
+pub begin-paired : (r : Rule) (p : Pairing) (s : Pairs) → r.pairing ≡ Some p → KnowsPairs (within_of r.need) p [] s → KnowsState r [] (Paired s)
+begin-paired r p s some knows = subst (λ (o : Option Pairing). KnowsStateBy o r [] (Paired s)) (sym some) knows
+
+pub alone-on :
+    (r : Rule) (number : ℕ) (e : Event) (hit : Hit) (old new : Watch) → hit ≡ hit_of r e → Steps r.need old number hit new → StateOn r number e (Alone old) (Alone new)
+alone-on r number e hit old new is steps es counted below knows = by r.pairing knows
+  where
+    by : (o : Option Pairing) → KnowsStateBy o r es (Alone old) → KnowsStateBy o r (es ++ e ∷ []) (Alone new)
+    by (Some p) known = absurd known
+    by None known =
+        let long : number ≡ length (hits_of r es) + 1 = omega (arith, counted, length-map es (hit_of r)) in
+        let low : IsBelow (hits_of r es) hit.tick = subst (λ (h : Hit). IsBelow (hits_of r es) h.tick) (sym is) (below-hits r es e.tick below) in
+        let hits : hits_of r es ++ hit ∷ [] ≡ hits_of r (es ++ e ∷ []) = ap (λ (h : Hit). hits_of r es ++ h ∷ []) is ∙ sym (hits-more r es e) in
+        subst (λ (hs : List Hit). Knows r.need hs new) hits (steps (hits_of r es) long low known)
+
+pub paired-on :
+    (r : Rule) (number : ℕ) (e : Event) (old new : Pairs) → ((p : Pairing) → r.pairing ≡ Some p → PairsOn (within_of r.need) p old number (pair_hit_of r e) new)
+    → StateOn r number e (Paired old) (Paired new)
+paired-on r number e old new on es counted below knows = by r.pairing refl knows
+  where
+    by : (o : Option Pairing) → r.pairing ≡ o → KnowsStateBy o r es (Paired old) → KnowsStateBy o r (es ++ e ∷ []) (Paired new)
+    by None is known = absurd known
+    by (Some p) is known =
+        let long : number ≡ length (pair_hits_of r es) + 1 = omega (arith, counted, length-map es (pair_hit_of r)) in
+        subst (λ (hs : List PairHit). KnowsPairs (within_of r.need) p hs new) (sym (pair-hits-more r es e))
+        (on p is (pair_hits_of r es) long (pair-below r es e.tick below) known)
+
+pub paired-on-ok :
+    {T E : Type 0} (r : Rule) (number : ℕ) (e : Event) (old new : Pairs) (q : Result T E)
+    → OnOk q ((p : Pairing) → r.pairing ≡ Some p → PairsOn (within_of r.need) p old number (pair_hit_of r e) new) → OnOk q (StateOn r number e (Paired old) (Paired new))
+paired-on-ok r number e old new (Ok x) on = paired-on r number e old new on
+paired-on-ok r number e old new (Err x) on = tt
+
+pub concludes-alone : (r : Rule) (number : ℕ) (end : End) (w : Watch) (v : Verdict) → WatchConcludes r.need w number end v → Concludes r (Alone w) number end v
+concludes-alone r number end w v ends es counted below knows = by r.pairing knows
+  where
+    by : (o : Option Pairing) → KnowsStateBy o r es (Alone w) → IsVerdictBy o r es end v
+    by (Some p) known = absurd known
+    by None known = ends (hits_of r es) (omega (arith, counted, length-map es (hit_of r))) (below-hits r es (tick_of end) below) known
+
+pub concludes-paired :
+    (r : Rule) (number : ℕ) (end : End) (s : Pairs) (v : Verdict) → ((p : Pairing) → PairsEnd (within_of r.need) p s end v) → Concludes r (Paired s) number end v
+concludes-paired r number end s v ends es counted below knows = by r.pairing knows
+  where
+    by : (o : Option Pairing) → KnowsStateBy o r es (Paired s) → IsVerdictBy o r es end v
+    by None known = absurd known
+    by (Some p) known = ends p (pair_hits_of r es) (pair-below r es (tick_of end) below) known
+
+-- ---- One more event
+
 pub moves :
     (number : ℕ) (e : Event) (old new : Watcher) (hit : Hit) → new.rule ≡ old.rule → new.ports ≡ old.ports → hit ≡ hit_of old.rule.now e
-    → Steps old.rule.now.need old.watch number hit new.watch
+    → StateOn old.rule.now number e old.state new.state
+    → ((hs : List Hit) → number ≡ length hs + 1 → Tallies old.rule.now.need hs old.tally → Tallies old.rule.now.need (hs ++ hit ∷ []) new.tally)
     → ((es : List Event) → old.sights ≡ sights_of old.rule.now es → new.sights ≡ sights_of old.rule.now (es ++ e ∷ []))
     → Moves number e old new
-moves number e old new hit same ports is steps sees =
+moves number e old new hit same ports is state counts sees =
     record {
       rule = same;
       follows = λ es counted below f.
           (let r = old.rule.now in
           let long : number ≡ length (hits_of r es) + 1 = omega (arith, counted, length-map es (hit_of r)) in
-          let low : IsBelow (hits_of r es) hit.tick = subst (λ (h : Hit). IsBelow (hits_of r es) h.tick) (sym is) (below-hits r es e.tick below) in
-          let knows : Knows r.need (hits_of r es ++ hit ∷ []) new.watch = steps (hits_of r es) long low f.knows in
           let hits : hits_of r es ++ hit ∷ [] ≡ hits_of r (es ++ e ∷ []) =
           ap (λ (h : Hit). hits_of r es ++ h ∷ []) is ∙ sym (hits-more r es e)
           in
           turned es (record {
-            knows = subst (λ (hs : List Hit). Knows r.need hs new.watch) hits knows;
+            knows = state es counted below f.knows;
+            counts = subst (λ (hs : List Hit). Tallies r.need hs new.tally) hits (counts (hits_of r es) long f.counts);
             saw = sees es f.saw;
             covers = subst (λ (s : PortSet). Covers s.marks r) (sym ports) f.covers;
           }));
@@ -59,12 +131,14 @@ moves number e old new hit same ports is steps sees =
 -- ---- The end
 
 pub concluded :
-    (number : ℕ) (end : End) (w : Watcher) (v : Verdict) → Concludes w.rule.now.need w.watch number end v → (es : List Event) → number ≡ length es + 1
-    → AreBelow es (tick_of end) → Follows es w → IsJudged es end w.rule.now (record { verdict = v; sights = w.sights })
-concluded number end w v ends es counted below f =
+    (number : ℕ) (end : End) (w : Watcher) (v : Verdict) (count : ℕ) → Concludes w.rule.now w.state number end v
+    → Decides w.rule.now.need w.tally number end count → (es : List Event) → number ≡ length es + 1 → AreBelow es (tick_of end) → Follows es w
+    → IsJudged es end w.rule.now (record { verdict = v; decided = count; sights = w.sights })
+concluded number end w v count ends decides es counted below f =
     let r = w.rule.now in
     record {
-      verdict = ends (hits_of r es) (omega (arith, counted, length-map es (hit_of r))) (below-hits r es (tick_of end) below) f.knows;
+      verdict = ends es counted below f.knows;
+      decided = decides (hits_of r es) (omega (arith, counted, length-map es (hit_of r))) f.counts;
       sights = f.saw;
     }
 

@@ -1,29 +1,32 @@
 -- Lines that do not matter to a rule.
-use Rattle.std.proofs.Common.{◌≡◌, ℕ, ◌+◌, ◌<◌, Bool, true, false, List, [], ◌∷◌, ◌++◌, length, refl, sym, ap, subst, ◌∙◌, arith, inl, inr}
+use Rattle.std.proofs.Common.{◌≡◌, ℕ, ◌+◌, ◌<◌, Bool, true, false, List, [], ◌∷◌, ◌++◌, length, refl, sym, ap, ap₂, subst, ◌∙◌, arith, inl, inr}
 use Rattle.std.specs.Prelude.{◌⊎◌, Option, Some, None, not, ◌&&◌, ◌||◌, if◌then◌else◌}
 use Rattle.std.specs.List.{list_all, list_any}
-use Rattle.std.proofs.lemmas.List.Folds.{list_any-append}
 use Rattle.fb_expect.specs.Events.{Event}
 use Rattle.fb_expect.specs.Hits.{hit_of, may_meet}
-use Rattle.fb_expect.specs.Judging.{Follows, Moves}
+use Rattle.fb_expect.specs.Judging.{Follows, Moves, StateOn}
+use Rattle.fb_expect.specs.Paired.{pair_hit_of, within_of}
 use Rattle.fb_expect.specs.Passing.{Covers, IsElsewhere, IsElsewhereOf, IsTimeless, PassesOver, is_marked}
-use Rattle.fb_expect.specs.Patterns.{has_all, is_at, is_met, is_named, meets}
+use Rattle.fb_expect.specs.Patterns.{has_all, has_kinds, is_at, is_met, meets}
 use Rattle.fb_expect.specs.Rules.{window_of}
 use Rattle.fb_expect.specs.Sights.{may_sight, sight_of, sights_of}
 use Rattle.fb_expect.specs.Traces.{AreBelow}
 use Rattle.fb_expect.specs.Watching.{Knows, KnowsCount, Lacks, Steps}
 use Rattle.fb_expect.specs.declared.hit.Hit.{Hit}
+use Rattle.fb_expect.specs.declared.judging.State.{State}
+use Rattle.fb_expect.specs.declared.judging.State.TheVariants.{Alone, Paired}
 use Rattle.fb_expect.specs.declared.judging.Watcher.{Watcher}
 use Rattle.fb_expect.specs.declared.pattern.Pattern.{Pattern}
 use Rattle.fb_expect.specs.declared.rule.Need.{Need}
 use Rattle.fb_expect.specs.declared.rule.Need.TheVariants as need
 use Rattle.fb_expect.specs.declared.rule.Rule.{Rule}
-use Rattle.fb_expect.specs.declared.sight.Sight.{Sight}
-use Rattle.fb_expect.specs.declared.sight.Sight.TheVariants.{Nothing, Port, All}
 use Rattle.fb_expect.specs.declared.watch.Watch.{Watch}
 use Rattle.fb_expect.specs.declared.watch.Watch.TheVariants as watch
-use Rattle.fb_expect.proofs.Following.{moves}
+use Rattle.fb_expect.proofs.Coupled.{on-idle}
+use Rattle.fb_expect.proofs.Following.{alone-on, moves, paired-on}
+use Rattle.fb_expect.proofs.Tallying.{idle-tally}
 use Rattle.fb_expect.proofs.Seeing.{none-new, none-waits, waits-on}
+use Rattle.fb_expect.proofs.Sighting.{lacks-all, lacks-kinds, seen, sight-more}
 use Rattle.fb_expect.proofs.Stepping.{before-broken, before-other, count-broken, count-goes, count-none, never-broken, never-goes, not-broken, not-other, see-broken}
 
 -- a line that meets nothing
@@ -124,25 +127,18 @@ nothing : (r : Rule) (e : Event) → PassesOver r e → IsNothing (hit_of r e)
 nothing r e passes =
     record { first = unmet r.first e passes.first; second = may-unmet r.second e passes.second; third = may-unmet r.third e passes.third }
 
-lacks-all : (p : Pattern) (e : Event) → IsElsewhere p e → has_all p e ≡ false
-unfolding has_all
-lacks-all p e off = and-off (is_at p e) (list_all (λ c. is_named c e.values) p.conditions) off
-
-or-off : (x y : Bool) → y ≡ false → (x || (y || false)) ≡ x
-or-off true y b = refl
-or-off false true b = b
-or-off false false b = refl
-
-same-any : (test : Event → Bool) (es : List Event) (e : Event) → test e ≡ false → list_any test (es ++ e ∷ []) ≡ list_any test es
-same-any test es e off = list_any-append test es (e ∷ []) ∙ or-off (list_any test es) (test e) off
-
-abbrev seen : (a b : Bool) → Sight
-seen a b = if a then All else if b then Port else Nothing
-
 same-sight : (p : Pattern) (es : List Event) (e : Event) → IsElsewhere p e → sight_of p (es ++ e ∷ []) ≡ sight_of p es
 same-sight p es e off =
-    ap (λ (x : Bool). seen x (list_any (is_at p) (es ++ e ∷ []))) (same-any (has_all p) es e (lacks-all p e off))
-    ∙ ap (λ (x : Bool). seen (list_any (has_all p) es) x) (same-any (is_at p) es e off)
+    sight-more p es e
+    ∙ ap₂ (λ (x y : Bool). seen x y (list_any (has_all p) es || has_all p e) (list_any (is_at p) es || is_at p e)) (or-off (list_any (meets p) es) (meets p e) (unmet p e off))
+    (or-off (list_any (has_kinds p) es) (has_kinds p e) (lacks-kinds p e off))
+    ∙ ap₂ (seen (list_any (meets p) es) (list_any (has_kinds p) es)) (or-off (list_any (has_all p) es) (has_all p e) (lacks-all p e off))
+    (or-off (list_any (is_at p) es) (is_at p e) off)
+  where
+    or-off : (x y : Bool) → y ≡ false → (x || y) ≡ x
+    or-off true y b = refl
+    or-off false true b = b
+    or-off false false b = refl
 
 same-may-sight : (o : Option Pattern) (es : List Event) (e : Event) → IsElsewhereOf o e → may_sight o (es ++ e ∷ []) ≡ may_sight o es
 same-may-sight None es e off = refl
@@ -157,11 +153,19 @@ same-sights r es e passes =
 
 -- ---- A line that is passed over
 
+idle-state : (r : Rule) (number : ℕ) (e : Event) (s : State) → PassesOver r e → StateOn r number e s s
+idle-state r number e (Alone w) passes = alone-on r number e (hit_of r e) w w refl (idle r.need number (hit_of r e) w passes.timeless (nothing r e passes))
+idle-state r number e (Paired s) passes =
+    let none = nothing r e passes in
+    paired-on r number e s s (λ p is. on-idle (within_of r.need) number p s (pair_hit_of r e) none.first none.second)
+
 pub passed : (number : ℕ) (e : Event) (w : Watcher) → is_marked w.ports.marks e.port ≡ false → Moves number e w w
 passed number e w off = record {
   rule = refl;
   follows = λ es counted below f.
       (let passes = f.covers e off in
-      (moves number e w w (hit_of w.rule.now e) refl refl refl (idle w.rule.now.need number (hit_of w.rule.now e) w.watch passes.timeless (nothing w.rule.now e passes))
+      let none = nothing w.rule.now e passes in
+      (moves number e w w (hit_of w.rule.now e) refl refl refl (idle-state w.rule.now number e w.state passes)
+      (λ hs long counts. idle-tally w.rule.now.need hs (hit_of w.rule.now e) w.tally none.first none.second none.third counts)
       (λ fs same. same ∙ sym (same-sights w.rule.now fs e passes))).follows es counted below f);
 }

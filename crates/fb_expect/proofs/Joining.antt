@@ -69,16 +69,19 @@ points-push strict of before (s ∷ rs) (k ∷ js) r j same =
     ap (λ (t : Text). one ++ t) (points-push strict of (before + 1) rs js r j (omega arith) ∙ ap (λ (n : ℕ). points strict of (before + 1) rs js ++ point strict of n r j) (omega arith))
     ∙ sym (append_assoc one (points strict of (before + 1) rs js) (point strict of (before + length (s ∷ rs) + 1) r j))
 
--- a point: what its line begins and ends with, and its comments
+-- a point: what its line begins and ends with, how often it was decided, and its comments
 pub point-put :
-    {T E : Type 0} (r s q : Result T E) (z a b h t v head tail : Text) → head ≡ h → tail ≡ t → q ≡ result_and r s → IfOk r (λ _. a ≡ z ++ joined (head ∷ tail ∷ []))
-    → IfOk s (λ _. b ≡ a ++ v) → IfOk q (λ _. b ≡ z ++ (h ++ (t ++ v)))
-point-put {T} {E} (Err e) s q z a b h t v head tail is-head is-tail is first second = subst (λ (o : Result T E). IfOk o (λ _. b ≡ z ++ (h ++ (t ++ v)))) (sym is) tt
-point-put {T} {E} (Ok k) s q z a b h t v head tail is-head is-tail is first second =
-    subst (λ (o : Result T E). IfOk o (λ _. b ≡ z ++ (h ++ (t ++ v)))) (sym is)
-    (IfOk-equal s b (a ++ v) (z ++ (h ++ (t ++ v))) second
-    (ap (λ (u : Text). u ++ v) (first ∙ ap₂ (λ (f g : Text). z ++ (f ++ (g ++ []))) is-head is-tail ∙ ap (λ (u : Text). z ++ (h ++ u)) (append-nil t))
-    ∙ append_assoc z (h ++ t) v ∙ ap (λ (u : Text). z ++ u) (append_assoc h t v)))
+    {T E : Type 0} (s q w : Result T E) (z a b d h t o v head tail : Text) → head ≡ h → tail ≡ t → a ≡ z ++ joined (head ∷ tail ∷ []) → w ≡ result_and s q
+    → IfOk s (λ _. b ≡ a ++ o) → IfOk q (λ _. d ≡ b ++ v) → IfOk w (λ _. d ≡ z ++ (h ++ (t ++ (o ++ v))))
+point-put {T} {E} (Err e) q w z a b d h t o v head tail is-head is-tail first is second third =
+    subst (λ (x : Result T E). IfOk x (λ _. d ≡ z ++ (h ++ (t ++ (o ++ v))))) (sym is) tt
+point-put {T} {E} (Ok k) q w z a b d h t o v head tail is-head is-tail first is second third =
+    subst (λ (x : Result T E). IfOk x (λ _. d ≡ z ++ (h ++ (t ++ (o ++ v))))) (sym is)
+    (IfOk-equal q d (b ++ v) (z ++ (h ++ (t ++ (o ++ v)))) third
+    (ap (λ (u : Text). u ++ v)
+    (second ∙ ap (λ (u : Text). u ++ o) (first ∙ ap₂ (λ (f g : Text). z ++ (f ++ (g ++ []))) is-head is-tail ∙ ap (λ (u : Text). z ++ (h ++ u)) (append-nil t))
+    ∙ append_assoc z (h ++ t) o ∙ ap (λ (u : Text). z ++ u) (append_assoc h t o))
+    ∙ append_assoc z (h ++ (t ++ o)) v ∙ ap (λ (u : Text). z ++ u) (append_assoc h (t ++ o) v ∙ ap (λ (u : Text). h ++ u) (append_assoc t o v))))
 
 point-more :
     (strict : Bool) (of : Of) (before : ℕ) (rs : List Rule) (js : List Judged) (i : ℕ) (r : Rule) (d : Judged) → i < length rs → i < length js → r ≡ get_or rs i r

@@ -3,11 +3,17 @@ pub mod Seeing
 pub mod Growing
 pub mod Lasts
 pub mod Stretches
+pub mod Tallying
+pub mod Turning
+pub mod Coupled
 pub mod Counts
 pub mod Stepping
 pub mod Concluding
 pub mod Verdicts
 mod Parts
+mod Starred
+mod Suiting
+mod Alikeness
 mod Digits
 mod Sighting
 pub mod Following

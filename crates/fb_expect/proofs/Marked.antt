@@ -1,6 +1,6 @@
 -- Ports that are marked by the remainders of their prints.
 use Rattle.std.proofs.Common.{◌≡◌, ◌≢◌, ℕ, ◌%◌, ◌<◌, Bool, true, false, List, length, get_or, replicate, set, take, refl, sym, ap, ◌∙◌, subst, arith, inl, inr}
-use Rattle.std.specs.Prelude.{Option, Some, None, ◌&&◌, if◌then◌else◌}
+use Rattle.std.specs.Prelude.{Option, Some, None, ◌&&◌}
 use Rattle.std.specs.Str.{bytes_eq}
 use Rattle.std.proofs.lemmas.Bool.{cases_Bool, cases_eq, cases_lt, false≢true}
 use Rattle.std.proofs.Math.ListN.{length-set}
@@ -8,10 +8,12 @@ use Rattle.std.proofs.lemmas.List.{get_or-replicate, get_or-set_other, get_or-se
 use Rattle.std.proofs.lemmas.Slice.Eq.{bytes_eq-Decides}
 use Rattle.fb_expect.specs.Events.{Event}
 use Rattle.fb_expect.specs.Passing.{Adds, AddsOptional, Covers, IsElsewhere, IsTimeless, PassesOver, is_marked}
-use Rattle.fb_expect.specs.Patterns.{is_at, is_in, is_of, is_way}
+use Rattle.fb_expect.specs.Patterns.{is_at, is_in, is_of, is_of_form, is_way}
 use Rattle.fb_expect.specs.Fingerprints.{fingerprint}
 use Rattle.fb_expect.specs.Words.{Text}
 use Rattle.fb_expect.specs.declared.pattern.Pattern.{Pattern}
+use Rattle.fb_expect.specs.declared.port_pattern.PortForm.{PortForm}
+use Rattle.fb_expect.specs.declared.port_pattern.PortForm.TheVariants.{Whole}
 use Rattle.fb_expect.specs.declared.rule.Rule.{Rule}
 
 both-off : (a b c : Bool) → b ≡ false → (a && (b && c)) ≡ false
@@ -29,9 +31,9 @@ all-marked marks is z =
     ap (λ (ms : List Bool). get_or ms (fingerprint z % 64) true) is ∙ get_or-replicate 64 (fingerprint z % 64) true true (omega arith)
 
 -- a pattern of one port is not of another
-not-of : (p : Pattern) (e : Event) → p.port.is_open ≡ false → (fingerprint e.port % 64 ≡ fingerprint p.port.text % 64 → ⊥) → is_of p.port e.port ≡ false
+not-of : (p : Pattern) (e : Event) → p.port.form ≡ Whole → (fingerprint e.port % 64 ≡ fingerprint p.port.text % 64 → ⊥) → is_of p.port e.port ≡ false
 not-of p e closed other =
-    ap (λ (b : Bool). if b then bytes_eq (take (length p.port.text) e.port) p.port.text else bytes_eq e.port p.port.text) closed
+    ap (λ (f : PortForm). is_of_form f p.port.text e.port) closed
     ∙ elim (cases_Bool (bytes_eq e.port p.port.text)) [
       | inl same ↦ absurd (other (ap (λ (z : Text). fingerprint z % 64) ((bytes_eq-Decides e.port p.port.text).0 same)))
       | inr off ↦ off
@@ -46,7 +48,7 @@ set-on marks i =
     ]
 
 -- one port is marked
-pub adds-one : (marks : List Bool) (p : Pattern) → p.port.is_open ≡ false → Adds marks p (set marks (fingerprint p.port.text % 64) true)
+pub adds-one : (marks : List Bool) (p : Pattern) → p.port.form ≡ Whole → Adds marks p (set marks (fingerprint p.port.text % 64) true)
 adds-one marks p closed e off =
     elim (cases_eq (fingerprint e.port % 64) (fingerprint p.port.text % 64)) [
       | inl same ↦

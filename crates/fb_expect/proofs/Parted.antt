@@ -1,12 +1,13 @@
 -- Two texts, line by line.
-use Rattle.std.proofs.Common.{◌≡◌, ℕ, zero, suc, ◌+◌, Bool, true, false, [], ◌∷◌, ◌++◌, length, refl, sym, ap, subst, ◌∙◌, arith, inl, inr}
-use Rattle.std.specs.Prelude.{◌==◌, if◌then◌else◌, not, Option, Some, None, IfSome}
+use Rattle.std.proofs.Common.{◌≡◌, ℕ, zero, suc, ◌+◌, ◌<◌, ◌≤◌, Bool, true, false, [], ◌∷◌, ◌++◌, length, refl, sym, ap, ap₂, subst, ◌∙◌, arith, inl, inr}
+use Rattle.std.specs.Prelude.{◌==◌, ◌&&◌, if◌then◌else◌, Option, Some, None, IfSome}
 use Rattle.std.specs.Io.BufRead.{drop_through, take_through}
 use Rattle.std.specs.Io.KnownBytes.{IsAtEnd}
 use Rattle.std.specs.Str.{bytes_eq}
-use Rattle.std.proofs.lemmas.Bool.{cases_eq, false≢true, not-false, not-true}
+use Rattle.std.proofs.lemmas.Bool.{cases_eq, cases_lt, false≢true}
 use Rattle.std.proofs.lemmas.Slice.Eq.{bytes_eq-Decides}
-use Rattle.fb_expect.specs.Parting.{AreSame, HasPassed, MayFind, ComesAfter, line_at, rest_at}
+use Rattle.fb_expect.specs.Parting.{AreAlike, AreAllAlike, AreSame, HasPassed, MayFind, ComesAfter, are_alike, line_at, rest_at}
+use Rattle.fb_expect.specs.Timeless.{without_tick}
 use Rattle.fb_expect.specs.Words.{Text}
 
 -- one more line is passed
@@ -26,17 +27,35 @@ joined (b ∷ text) = by (b == 10) (joined text)
     by false more = ap (λ (z : Text). b ∷ z) more
 
 -- texts whose lines are the same up to their ends are the same
-same-all : (n : ℕ) (a b : Text) → AreSame n a b → rest_at n a ≡ [] → rest_at n b ≡ [] → a ≡ b
+same-all : (n : ℕ) (a b : Text) → AreSame false n a b → rest_at n a ≡ [] → rest_at n b ≡ [] → a ≡ b
 same-all zero a b same none none' = none ∙ sym none'
 same-all (suc n) a b same none none' =
     let first : take_through 10 a ≡ take_through 10 b = same 0 (omega arith) in
     let rest : drop_through 10 a ≡ drop_through 10 b = same-all n (drop_through 10 a) (drop_through 10 b) (λ k lt. same (suc k) (omega arith)) none none' in
     sym (joined a) ∙ ap (λ (z : Text). z ++ drop_through 10 a) first ∙ ap (λ (z : Text). take_through 10 b ++ z) rest ∙ joined b
 
-same-one : (n : ℕ) (a b : Text) → AreSame n a b → line_at n a ≡ line_at n b → AreSame (suc n) a b
-same-one n a b same here k lt =
-    elim (cases_eq k n) as (λ _. line_at k a ≡ line_at k b) [
-      | inl is ↦ subst (λ (i : ℕ). line_at i a ≡ line_at i b) (sym is) here
+-- lines after the end of a text are empty
+past : (n k : ℕ) (a : Text) → rest_at n a ≡ [] → n ≤ k → rest_at k a ≡ []
+past n zero a none le = ap (λ (m : ℕ). rest_at m a) (let e : 0 ≡ n = omega (arith, le) in e) ∙ none
+past n (suc k) a none le =
+    elim (cases_eq n (suc k)) as (λ _. rest_at (suc k) a ≡ []) [
+      | inl same ↦ ap (λ (m : ℕ). rest_at m a) (sym same) ∙ none
+      | inr other ↦ rest-more k a ∙ ap (drop_through 10) (past n k a none (omega (arith, le, other)))
+    ]
+
+-- so all lines of two texts are alike, if those up to their ends are
+alike-all : (w : Bool) (n : ℕ) (a b : Text) → AreSame w n a b → rest_at n a ≡ [] → rest_at n b ≡ [] → AreAllAlike w a b
+alike-all false n a b same none none' = same-all n a b same none none'
+alike-all true n a b same none none' = λ k.
+    elim (cases_lt k n) as (λ _. AreAlike true (line_at k a) (line_at k b)) [
+      | inl lt ↦ same k lt
+      | inr le ↦ ap (λ (z : Text). without_tick (take_through 10 z)) (past n k a none le ∙ sym (past n k b none' le))
+    ]
+
+same-one : (w : Bool) (n : ℕ) (a b : Text) → AreSame w n a b → AreAlike w (line_at n a) (line_at n b) → AreSame w (suc n) a b
+same-one w n a b same here k lt =
+    elim (cases_eq k n) as (λ _. AreAlike w (line_at k a) (line_at k b)) [
+      | inl is ↦ subst (λ (i : ℕ). AreAlike w (line_at i a) (line_at i b)) (sym is) here
       | inr other ↦ same k (omega (arith, other))
     ]
 
@@ -60,57 +79,75 @@ stands-more n (Some x) now new line at reads =
     known-rest o same holds = subst (λ (p : Option Text). IfSome p (λ y. new ≡ Some (drop_through 10 y))) same holds
 
 pub passed-one :
-    (n : ℕ) (a b a-now b-now a-new b-new : Option Text) (left right : Text) → HasPassed n a b a-now b-now → Reads a-now a-new left → Reads b-now b-new right → left ≡ right
-    → HasPassed (n + 1) a b a-new b-new
-passed-one n a b a-now b-now a-new b-new left right p l r is =
+    (w : Bool) (n : ℕ) (a b a-now b-now a-new b-new : Option Text) (left right : Text) → HasPassed w n a b a-now b-now → Reads a-now a-new left → Reads b-now b-new right
+    → AreAlike w left right → HasPassed w (n + 1) a b a-new b-new
+passed-one w n a b a-now b-now a-new b-new left right p l r is =
     let f = stands-more n a a-now a-new left p.first l in
     let s = stands-more n b b-now b-new right p.second r in
     let more : suc n ≡ n + 1 = omega arith in
-    subst (λ (m : ℕ). HasPassed m a b a-new b-new) more (record { first = f.0; second = s.0; same = both a b p.same f.1 s.1 })
+    subst (λ (m : ℕ). HasPassed w m a b a-new b-new) more (record { first = f.0; second = s.0; same = both a b p.same f.1 s.1 })
   where
     both :
-        (a b : Option Text) → IfSome a (λ x. IfSome b (λ y. AreSame n x y)) → IfSome a (λ x. left ≡ line_at n x) → IfSome b (λ y. right ≡ line_at n y)
-        → IfSome a (λ x. IfSome b (λ y. AreSame (suc n) x y))
+        (a b : Option Text) → IfSome a (λ x. IfSome b (λ y. AreSame w n x y)) → IfSome a (λ x. left ≡ line_at n x) → IfSome b (λ y. right ≡ line_at n y)
+        → IfSome a (λ x. IfSome b (λ y. AreSame w (suc n) x y))
     both None b same l r = tt
     both (Some x) None same l r = tt
-    both (Some x) (Some y) same l r = same-one n x y same (sym l ∙ is ∙ r)
+    both (Some x) (Some y) same l r =
+        same-one w n x y same (subst (λ (u : Text). AreAlike w u (line_at n y)) l (subst (λ (v : Text). AreAlike w left v) r is))
 
 -- lines that differ
 pub parted :
-    (n number : ℕ) (a b a-now b-now a-new b-new : Option Text) (left right : Text) → number ≡ n + 1 → HasPassed n a b a-now b-now → Reads a-now a-new left → Reads b-now b-new right
-    → (left ≡ right → ⊥) → MayFind a b left right (Some number)
-parted n number a b a-now b-now a-new b-new left right counted p l r other =
+    (w : Bool) (n number : ℕ) (a b a-now b-now a-new b-new : Option Text) (left right : Text) → number ≡ n + 1 → HasPassed w n a b a-now b-now → Reads a-now a-new left
+    → Reads b-now b-new right → (AreAlike w left right → ⊥) → MayFind w a b left right (Some number)
+parted w n number a b a-now b-now a-new b-new left right counted p l r other =
     let f = stands-more n a a-now a-new left p.first l in
     let s = stands-more n b b-now b-new right p.second r in
     by a b p.same f.1 s.1
   where
     by :
-        (a b : Option Text) → IfSome a (λ x. IfSome b (λ y. AreSame n x y)) → IfSome a (λ x. left ≡ line_at n x) → IfSome b (λ y. right ≡ line_at n y)
-        → MayFind a b left right (Some number)
+        (a b : Option Text) → IfSome a (λ x. IfSome b (λ y. AreSame w n x y)) → IfSome a (λ x. left ≡ line_at n x) → IfSome b (λ y. right ≡ line_at n y)
+        → MayFind w a b left right (Some number)
     by None b same l r = tt
     by (Some x) None same l r = tt
     by (Some x) (Some y) same l r = record { index = n; counted = counted; same = same; is_left = sym l; is_right = sym r; differ = other }
 
 -- nothing is left of both
 pub ended :
-    (n : ℕ) (a b a-now b-now : Option Text) (left right : Text) → HasPassed n a b a-now b-now → IsAtEnd a-now → IsAtEnd b-now → MayFind a b left right None
-ended n a b a-now b-now left right p none none' = by a b p.first p.second p.same
+    (w : Bool) (n : ℕ) (a b a-now b-now : Option Text) (left right : Text) → HasPassed w n a b a-now b-now → IsAtEnd a-now → IsAtEnd b-now → MayFind w a b left right None
+ended w n a b a-now b-now left right p none none' = by a b p.first p.second p.same
   where
     at-end : (x : Text) (o : Option Text) → o ≡ Some (rest_at n x) → IsAtEnd o → rest_at n x ≡ []
     at-end x o same holds = subst IsAtEnd same holds
 
-    by : (a b : Option Text) → ComesAfter n a a-now → ComesAfter n b b-now → IfSome a (λ x. IfSome b (λ y. AreSame n x y)) → MayFind a b left right None
+    by : (a b : Option Text) → ComesAfter n a a-now → ComesAfter n b b-now → IfSome a (λ x. IfSome b (λ y. AreSame w n x y)) → MayFind w a b left right None
     by None b f s same = tt
     by (Some x) None f s same = tt
-    by (Some x) (Some y) f s same = same-all n x y same (at-end x a-now f none) (at-end y b-now s none')
+    by (Some x) (Some y) f s same = alike-all w n x y same (at-end x a-now f none) (at-end y b-now s none')
 
 -- ---- What a comparison says
 
-pub other : (a b : Text) → true ≡ not (bytes_eq a b) → a ≡ b → ⊥
-other a b is same = false≢true (sym (not-true _ (sym is)) ∙ (bytes_eq-Decides a b).1 same)
+abbrev pair : Text → Text → Text × Text
+pair x y = (x, y)
 
-pub equal : (a b : Text) → false ≡ not (bytes_eq a b) → a ≡ b
-equal a b is = (bytes_eq-Decides a b).0 (not-false _ (sym is))
+alike-parts : (a b c d : Text) → (bytes_eq a c && bytes_eq b d) ≡ true → ◌≡◌ {A = Text × Text} (a, b) (c, d)
+alike-parts a b c d is =
+    let both = and-parts (bytes_eq a c) (bytes_eq b d) is in
+    ap₂ pair ((bytes_eq-Decides a c).0 both.0) ((bytes_eq-Decides b d).0 both.1)
+  where
+    and-parts : (x y : Bool) → (x && y) ≡ true → (x ≡ true) × (y ≡ true)
+    and-parts true y found = (refl, found)
+    and-parts false y found = absurd (false≢true found)
+
+pub alike : (w : Bool) (a b : Text) → are_alike w a b ≡ true → AreAlike w a b
+alike false a b is = (bytes_eq-Decides a b).0 is
+alike true a b is = alike-parts (without_tick a).0 (without_tick a).1 (without_tick b).0 (without_tick b).1 is
+
+pub unlike : (w : Bool) (a b : Text) → are_alike w a b ≡ false → AreAlike w a b → ⊥
+unlike false a b off same = false≢true (sym off ∙ (bytes_eq-Decides a b).1 same)
+unlike true a b off same =
+    let first : bytes_eq (without_tick a).0 (without_tick b).0 ≡ true = (bytes_eq-Decides (without_tick a).0 (without_tick b).0).1 (ap (λ (p : Text × Text). p.0) same) in
+    let second : bytes_eq (without_tick a).1 (without_tick b).1 ≡ true = (bytes_eq-Decides (without_tick a).1 (without_tick b).1).1 (ap (λ (p : Text × Text). p.1) same) in
+    false≢true (sym off ∙ ap₂ (λ (x y : Bool). x && y) first second)
 
 pub nothing : (a : Text) → length a ≡ 0 → a ≡ []
 nothing [] is = refl

@@ -1,12 +1,12 @@
 -- The parts of a text before and after a mark.
 use Rattle.std.proofs.Common.{◌≡◌, ℕ, ◌+◌, ◌-◌, ◌<◌, ◌≤◌, Bool, List, [], ◌∷◌, ◌++◌, cond, filter, inl, inr, ltb, nat_eq, true, false, length, get_or, take, drop, Some, None, Result, Ok, Err, refl, sym, ap, ap₂, ◌∙◌, append_assoc, arith}
-use Rattle.std.specs.Prelude.{OnOk, Option, ◌&&◌, ◌||◌, if◌then◌else◌, is_some, unwrap_or}
+use Rattle.std.specs.Prelude.{OnOk, Option, ◌&&◌, ◌||◌, if◌then◌else◌, is_some, option_map, position, unwrap_or}
 use Rattle.std.proofs.lemmas.List.{take_all, length-drop}
 use Rattle.std.proofs.lemmas.Bool.{cases_lt, lt-ltb}
 use Rattle.std.proofs.lemmas.List.Splits.{slice_split_first, slice_split_none}
 use Rattle.std.proofs.lemmas.List.Sums.{fails_before_first, position_or_len_is}
 use Rattle.std.specs.List.{after_first, before_first, list_all, list_any, position_or_len, slice_split}
-use Rattle.fb_expect.specs.Words.{Text, split_at_mark}
+use Rattle.fb_expect.specs.Words.{Text, cut, is_end, split_at_mark}
 use Rattle.fb_expect.specs.Written.{at_comparison, is_sign, is_word, words_of}
 
 pub parted_at : (mark : ℕ) (z : Text) (i : ℕ) → i < length z → ((k : ℕ) → k < i → nat_eq mark (get_or z k 0) ≡ false) → nat_eq mark (get_or z i 0) ≡ true
@@ -116,18 +116,34 @@ pub all-words :
 all-words (Ok x) old mid new y z last so_far ends = with-last mid new z last ends ∙ sym so_far
 all-words (Err e) old mid new y z last so_far ends = tt
 
--- the parts before and from a comparison on
-pub sign_at : (z : Text) (i : ℕ) → i < length z → ((k : ℕ) → k < i → is_sign (get_or z k 0) ≡ false) → is_sign (get_or z i 0) ≡ true
-    → Some (take i z, take (length z - i) (drop i z)) ≡ at_comparison z
-unfolding at_comparison
-sign_at z i lt before here =
-    let e : position_or_len is_sign z ≡ i = position_or_len_is is_sign z i 0 (omega arith) before (λ _. here) in
+-- the parts before and from the first byte on that passes a test
+test_at : (p : ℕ → Bool) (z : Text) (i : ℕ) → i < length z → ((k : ℕ) → k < i → p (get_or z k 0) ≡ false) → p (get_or z i 0) ≡ true
+    → ◌≡◌ {A = Option (Text × Text)} (Some (take i z, take (length z - i) (drop i z))) (option_map (λ j. (take j z, drop j z)) (position p z))
+test_at p z i lt before here =
+    let e : position_or_len p z ≡ i = position_or_len_is p z i 0 (omega arith) before (λ _. here) in
     let short : length (drop i z) ≤ length z - i = omega (arith, length-drop i z) in
     rw (e, lt-ltb i (length z) lt, take_all (length z - i) (drop i z) short) refl
 
-pub sign_none : (z : Text) → ((k : ℕ) → k < length z → is_sign (get_or z k 0) ≡ false) → None ≡ at_comparison z
-unfolding at_comparison
-sign_none z before =
-    let e : position_or_len is_sign z ≡ length z = position_or_len_is is_sign z (length z) 0 (omega arith) before (λ lt. absurd (omega arith)) in
+test_none : (p : ℕ → Bool) (z : Text) → ((k : ℕ) → k < length z → p (get_or z k 0) ≡ false) → ◌≡◌ {A = Option (Text × Text)} None (option_map (λ j. (take j z, drop j z)) (position p z))
+test_none p z before =
+    let e : position_or_len p z ≡ length z = position_or_len_is p z (length z) 0 (omega arith) before (λ lt. absurd (omega arith)) in
     let never : ltb (length z) (length z) ≡ false = grind arith in
     rw (e, never) refl
+
+pub sign_at : (z : Text) (i : ℕ) → i < length z → ((k : ℕ) → k < i → is_sign (get_or z k 0) ≡ false) → is_sign (get_or z i 0) ≡ true
+    → Some (take i z, take (length z - i) (drop i z)) ≡ at_comparison z
+unfolding at_comparison
+sign_at z i lt before here = test_at is_sign z i lt before here
+
+pub sign_none : (z : Text) → ((k : ℕ) → k < length z → is_sign (get_or z k 0) ≡ false) → None ≡ at_comparison z
+unfolding at_comparison
+sign_none z before = test_none is_sign z before
+
+pub end_at : (z : Text) (i : ℕ) → i < length z → ((k : ℕ) → k < i → is_end (get_or z k 0) ≡ false) → is_end (get_or z i 0) ≡ true
+    → Some (take i z, take (length z - i) (drop i z)) ≡ cut z
+unfolding cut
+end_at z i lt before here = test_at is_end z i lt before here
+
+pub end_none : (z : Text) → ((k : ℕ) → k < length z → is_end (get_or z k 0) ≡ false) → None ≡ cut z
+unfolding cut
+end_none z before = test_none is_end z before

@@ -19,7 +19,7 @@ some_seen f None = refl
 some_seen f (Some x) = refl
 
 abbrev pub never_rule : (name first : Text) → (here : Bool) → (s t : Option Text) → Option RuleText
-never_rule name first here s t = Some (record { name = name; need = Never (not here); first = first; second = s; third = t })
+never_rule name first here s t = Some (record { name = name; need = Never (not here); first = first; second = s; third = t; same = None; turns = None })
 
 pub never_is :
     (keys : Members) (name first : Text) (s t : Option Text) (here : Bool) (n a b : ℕ) → Some s ≡ may as_str (get_member (codes "from") keys) → Some t ≡ may as_str (get_member (codes "to") keys)

@@ -28,9 +28,9 @@ abbrev pub word_unless : Bool → Text → Text
 word_unless same word = if same then [] else word
 
 -- the parts of two events that differ, each after a comma and a blank
-unfoldable pub parts : Entry → Entry → Text
-parts l r =
-    joined (word_unless (l.tick == r.tick) (codes ", tick") ∷ word_unless (bytes_eq l.resource.now r.resource.now) (codes ", resource")
+unfoldable pub parts : (is_without_ticks : Bool) → Entry → Entry → Text
+parts w l r =
+    joined (word_unless (w || (l.tick == r.tick)) (codes ", tick") ∷ word_unless (bytes_eq l.resource.now r.resource.now) (codes ", resource")
     ∷ word_unless (bytes_eq l.port.now r.port.now && same_truth l.taken r.taken) (codes ", port")
     ∷ word_unless (bytes_eq l.values.now r.values.now) (codes ", value") ∷ [])
 
@@ -38,15 +38,15 @@ parts l r =
 abbrev pub listed : Text → Text
 listed z = if nat_lt (length z) 2 then codes "key" else drop 2 z
 
-abbrev pub last_part : ℕ → ℕ → Text
-last_part l r = if l == r then codes "end" else codes "tick"
+abbrev pub last_part : (is_without_ticks : Bool) → ℕ → ℕ → Text
+last_part w l r = if w || (l == r) then codes "end" else codes "tick"
 
-abbrev pub difference_of : LineKind → LineKind → Text
-difference_of (kind.Event l) (kind.Event r) = listed (parts l r)
-difference_of (kind.Last l) (kind.Last r) = last_part l r
-difference_of kind.Missing r = codes "length"
-difference_of l kind.Missing = codes "length"
-difference_of l r = codes "kind"
+abbrev pub difference_of : (is_without_ticks : Bool) → LineKind → LineKind → Text
+difference_of w (kind.Event l) (kind.Event r) = listed (parts w l r)
+difference_of w (kind.Last l) (kind.Last r) = last_part w l r
+difference_of w kind.Missing r = codes "length"
+difference_of w l kind.Missing = codes "length"
+difference_of w l r = codes "kind"
 
 -- ---- Lines
 
@@ -64,16 +64,19 @@ shown_line name line (kind.Last t) = with_tick name line t
 shown_line name line kind.Missing = joined (name ∷ codes " has no such line\n" ∷ [])
 shown_line name line kind.Other = joined (name ∷ codes ": " ∷ bare line ∷ codes "\n" ∷ [])
 
--- The number of the lines and what differs, and then both lines.
-unfoldable pub difference_text : (first second : Text) → Difference → (left right : LineKind) → Text
-difference_text first second d left right =
-    joined (codes "line " ∷ decimal d.number ∷ codes " differs in: " ∷ difference_of left right ∷ codes "\n" ∷ shown_line first d.left.items left
-    ∷ shown_line second d.right.items right ∷ [])
+-- the number of the lines and what differs
+unfoldable pub difference_line : (is_without_ticks : Bool) → (number : ℕ) → (left right : LineKind) → Text
+difference_line w n left right = joined (codes "line " ∷ decimal n ∷ codes " differs in: " ∷ difference_of w left right ∷ codes "\n" ∷ [])
+
+-- That, and then both lines.
+unfoldable pub difference_text : (first second : Text) → (is_without_ticks : Bool) → Difference → (left right : LineKind) → Text
+difference_text first second w d left right =
+    joined (difference_line w d.number left right ∷ shown_line first d.left.items left ∷ shown_line second d.right.items right ∷ [])
 
 -- The text shows how two files differ.
-pub record ShowsDifference (first second : Text) (d : Difference) (text : Text) : Type 0 where
+pub record ShowsDifference (first second : Text) (is_without_ticks : Bool) (d : Difference) (text : Text) : Type 0 where
   pub left : LineKind
   pub right : LineKind
   pub is_left : IsKind d.left.items left
   pub is_right : IsKind d.right.items right
-  pub is : text ≡ difference_text first second d left right
+  pub is : text ≡ difference_text first second is_without_ticks d left right

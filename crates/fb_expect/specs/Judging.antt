@@ -1,9 +1,11 @@
 -- What comes of rules at a trace (this project's own).
-use Rattle.std.specs.Prelude.{◌≡◌, ℕ, ◌+◌, List, [], ◌∷◌, ◌++◌, length, map, All, Option, IfSome}
+use Rattle.std.specs.Prelude.{◌≡◌, ℕ, ◌+◌, List, [], ◌∷◌, ◌++◌, length, map, All, Option, Some, None, IfSome}
 use Rattle.std.specs.Io.KnownBytes.{Consumes}
 use Rattle.fb_types.specs.declared.run.Form.{Form}
 use Rattle.fb_expect.specs.Events.{Event}
+use Rattle.fb_expect.specs.Deciding.{IsDecided, Tallies}
 use Rattle.fb_expect.specs.Hits.{hits_of}
+use Rattle.fb_expect.specs.Paired.{IsPairVerdict, KnowsPairs, pair_hits_of, within_of}
 use Rattle.fb_expect.specs.Passing.{Covers}
 use Rattle.fb_expect.specs.Rules.{IsVerdict}
 use Rattle.fb_expect.specs.Sights.{sights_of}
@@ -14,12 +16,22 @@ use Rattle.fb_expect.specs.Words.{Text}
 use Rattle.fb_expect.specs.declared.ending.End.{End}
 use Rattle.fb_expect.specs.declared.judging.Cut.{Cut}
 use Rattle.fb_expect.specs.declared.judging.Judged.{Judged}
+use Rattle.fb_expect.specs.declared.judging.State.{State}
+use Rattle.fb_expect.specs.declared.judging.State.TheVariants.{Alone, Paired}
 use Rattle.fb_expect.specs.declared.judging.Watcher.{Watcher}
+use Rattle.fb_expect.specs.declared.rule.Pairing.{Pairing}
 use Rattle.fb_expect.specs.declared.rule.Rule.{Rule}
+use Rattle.fb_expect.specs.declared.verdict.Verdict.{Verdict}
+
+-- what comes of a rule that judges each line by itself, and of one that pairs lines
+abbrev pub IsVerdictBy : Option Pairing → Rule → List Event → End → Verdict → Type 0
+IsVerdictBy None r es end v = IsVerdict r.need (hits_of r es) end v
+IsVerdictBy (Some p) r es end v = IsPairVerdict (within_of r.need) p (pair_hits_of r es) end v
 
 -- What came of a rule at the events of a trace with this end.
 pub record IsJudged (es : List Event) (end : End) (r : Rule) (j : Judged) : Type 0 where
-  pub verdict : IsVerdict r.need (hits_of r es) end j.verdict
+  pub verdict : IsVerdictBy r.pairing r es end j.verdict
+  pub decided : IsDecided r.need (hits_of r es) end j.decided
   pub sights : j.sights ≡ sights_of r es
 
 -- What came of each rule, in their order.
@@ -38,9 +50,30 @@ pub record Judges (cut : Cut) (text : Text) (rules : List Rule) (js : List Judge
 
 -- ---- While a trace is read
 
+abbrev pub KnowsStateBy : Option Pairing → Rule → List Event → State → Type 0
+KnowsStateBy None r es (Alone w) = Knows r.need (hits_of r es) w
+KnowsStateBy (Some p) r es (Paired s) = KnowsPairs (within_of r.need) p (pair_hits_of r es) s
+KnowsStateBy None r es (Paired s) = ⊥
+KnowsStateBy (Some p) r es (Alone w) = ⊥
+
+-- What its state says of a rule when these events were read.
+abbrev pub KnowsState : Rule → List Event → State → Type 0
+KnowsState r es s = KnowsStateBy r.pairing r es s
+
+-- The state with one more event, in this line.
+abbrev pub StateOn : Rule → (number : ℕ) → Event → (old new : State) → Type 0
+StateOn r number e old new =
+    (es : List Event) → number ≡ length es + 1 → AreBelow es e.tick → KnowsState r es old → KnowsState r (es ++ e ∷ []) new
+
+-- The whole trace was read, and this is the number of its last line.
+abbrev pub Concludes : Rule → State → (number : ℕ) → End → Verdict → Type 0
+Concludes r s number end v =
+    (es : List Event) → number ≡ length es + 1 → AreBelow es (tick_of end) → KnowsState r es s → IsVerdictBy r.pairing r es end v
+
 -- What is known of a rule when these events were read.
 pub record Follows (es : List Event) (w : Watcher) : Type 0 where
-  pub knows : Knows w.rule.now.need (hits_of w.rule.now es) w.watch
+  pub knows : KnowsState w.rule.now es w.state
+  pub counts : Tallies w.rule.now.need (hits_of w.rule.now es) w.tally
   pub saw : w.sights ≡ sights_of w.rule.now es
   pub covers : Covers w.ports.marks w.rule.now
 

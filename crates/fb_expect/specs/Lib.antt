@@ -1,7 +1,10 @@
 pub mod Refusals
 pub mod Words
+pub mod Pairing
 pub mod Lists
+pub mod Stars
 pub mod Written
+pub mod PatternFaults
 pub mod Drafts
 pub mod Needs
 pub mod Reading
@@ -15,9 +18,13 @@ pub mod Hits
 pub mod Sights
 pub mod Rules
 pub mod Watching
+pub mod Deciding
+pub mod Paired
 pub mod Passing
 pub mod Judging
+pub mod Timeless
 pub mod Parting
 pub mod Reports
+pub mod Suites
 pub mod DifferenceReport
 pub mod Faults

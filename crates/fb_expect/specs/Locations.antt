@@ -1,9 +1,9 @@
 -- Where rules are refused (E40 to E44), with `--why`: the location, and what is wrong there (docs/FORMATS.md; this project's own).
 use Rattle.std.specs.Prelude.{◌≡◌, ◌⊎◌, ◌≤◌, ℕ, Bool, true, false, not, if◌then◌else◌, nat_le, nat_lt, ℤ, List, length, Option, Some, None, is_some, slice_get, codes}
-use Rattle.toml.specs.Data.{Data, Members, get_member, as_str, as_integer, as_table}
-use Rattle.fb_expect.specs.Drafts.{RuleText, rule_text, rules_in, texts_of}
+use Rattle.toml.specs.Data.{Data, Members, get_member, as_bool, as_str, as_integer, as_table}
+use Rattle.fb_expect.specs.Drafts.{RuleText, rule_text, rules_in, text_values, texts_of}
 use Rattle.fb_expect.specs.Lists.{may}
-use Rattle.fb_expect.specs.Needs.{need_of, within}
+use Rattle.fb_expect.specs.Needs.{names_of, need_of, within}
 use Rattle.fb_expect.specs.Reading.{document, most_bytes, most_rules}
 use Rattle.fb_expect.specs.Refusals.{over_limit, no_document, bad_shape, bad_pattern, bad_number}
 use Rattle.fb_expect.specs.Words.{Text}
@@ -35,20 +35,21 @@ name_of key.To = codes "to"
 name_of key.Least = codes "least"
 name_of key.Most = codes "most"
 name_of key.Every = codes "every"
+name_of key.Same = codes "same"
+name_of key.Each = codes "each"
 
 abbrev pub value_at : Members → RuleKey → Option Data
 value_at keys k = get_member (name_of k) keys
 
-abbrev pub is_number : RuleKey → Bool
-is_number key.Within = true
-is_number key.Least = true
-is_number key.Most = true
-is_number key.Every = true
-is_number _ = false
-
--- whether a value is of the kind of the key: a whole number, or a text
+-- whether a value is of the kind of the key: a whole number, a list of texts, a truth value, or a text
 abbrev pub is_of_kind : RuleKey → Data → Bool
-is_of_kind k d = if is_number k then is_some (as_integer d) else is_some (as_str d)
+is_of_kind key.Within d = is_some (as_integer d)
+is_of_kind key.Least d = is_some (as_integer d)
+is_of_kind key.Most d = is_some (as_integer d)
+is_of_kind key.Every d = is_some (as_integer d)
+is_of_kind key.Same d = is_some (text_values d)
+is_of_kind key.Each d = is_some (as_bool d)
+is_of_kind _ d = is_some (as_str d)
 
 -- ---- Shapes (E42)
 
@@ -112,10 +113,10 @@ abbrev pub is_bad : Option Text → Bool
 is_bad None = false
 is_bad (Some t) = not (is_some (pattern_of t))
 
--- The text at the key is no pattern.
+-- The text at the key is no pattern, or one at `same` is no name.
 abbrev pub IsPatternFault : RuleText → RuleKey → Type 0
 IsPatternFault t k =
-    ((k ≡ first_key t.need) × (is_bad (Some t.first) ≡ true)) ⊎ (((k ≡ second_key t.need) × (is_bad t.second ≡ true)) ⊎ ((k ≡ key.To) × (is_bad t.third ≡ true)))
+    ((k ≡ first_key t.need) × (is_bad (Some t.first) ≡ true)) ⊎ (((k ≡ second_key t.need) × (is_bad t.second ≡ true)) ⊎ (((k ≡ key.To) × (is_bad t.third ≡ true)) ⊎ ((k ≡ key.Same) × (names_of t.same ≡ None))))
 
 -- The number at the key of a rule that counts is out of its range, or else it is the most, and that may be under the least.
 abbrev pub IsCountKey : (least every : Option ℤ) → RuleKey → Type 0

@@ -1,6 +1,8 @@
 -- Where two texts part (this project's own).
-use Rattle.std.specs.Prelude.{◌≡◌, ℕ, zero, suc, ◌+◌, ◌<◌, Option, Some, None, IfSome}
+use Rattle.std.specs.Prelude.{◌≡◌, ℕ, zero, suc, ◌+◌, ◌<◌, Bool, true, false, ◌&&◌, Option, Some, None, IfSome}
 use Rattle.std.specs.Io.BufRead.{drop_through, take_through}
+use Rattle.std.specs.Str.{bytes_eq}
+use Rattle.fb_expect.specs.Timeless.{without_tick}
 use Rattle.fb_expect.specs.Words.{Text}
 use Rattle.fb_expect.specs.declared.parting.Difference.{Difference}
 
@@ -17,41 +19,56 @@ rest_at (suc n) text = rest_at n (drop_through 10 text)
 abbrev pub line_at : ℕ → Text → Text
 line_at n text = line_of (rest_at n text)
 
--- this many lines of two texts are the same
-abbrev pub AreSame : ℕ → Text → Text → Type 0
-AreSame n a b = (k : ℕ) → k < n → line_at k a ≡ line_at k b
+-- two lines are the same, or are where their ticks are left out
+abbrev pub AreAlike : (is_without_ticks : Bool) → (left right : Text) → Type 0
+AreAlike false left right = left ≡ right
+AreAlike true left right = without_tick left ≡ without_tick right
 
--- the lines of this number are these, and differ, and all before them are the same
-pub record PartAt (a b : Text) (number : ℕ) (left right : Text) : Type 0 where
+-- whether they are
+abbrev pub are_alike : (is_without_ticks : Bool) → (left right : Text) → Bool
+are_alike false left right = bytes_eq left right
+are_alike true left right = bytes_eq (without_tick left).0 (without_tick right).0 && bytes_eq (without_tick left).1 (without_tick right).1
+
+-- this many lines of two texts are alike
+abbrev pub AreSame : (is_without_ticks : Bool) → ℕ → Text → Text → Type 0
+AreSame w n a b = (k : ℕ) → k < n → AreAlike w (line_at k a) (line_at k b)
+
+-- the lines of this number are these, and are not alike, and all before them are
+pub record PartAt (is_without_ticks : Bool) (a b : Text) (number : ℕ) (left right : Text) : Type 0 where
   pub index : ℕ
   pub counted : number ≡ index + 1
-  pub same : AreSame index a b
+  pub same : AreSame is_without_ticks index a b
   pub is_left : line_at index a ≡ left
   pub is_right : line_at index b ≡ right
-  pub differ : left ≡ right → ⊥
+  pub differ : AreAlike is_without_ticks left right → ⊥
 
--- two texts are the same, or part first at these lines
-abbrev pub Parts : (a b : Text) → Option Difference → Type 0
-Parts a b None = a ≡ b
-Parts a b (Some d) = PartAt a b d.number d.left.items d.right.items
+-- two texts are the same, or have as many lines of which each two are alike
+abbrev pub AreAllAlike : (is_without_ticks : Bool) → (a b : Text) → Type 0
+AreAllAlike false a b = a ≡ b
+AreAllAlike true a b = (k : ℕ) → AreAlike true (line_at k a) (line_at k b)
+
+-- two texts are alike, or part first at these lines
+abbrev pub Parts : (is_without_ticks : Bool) → (a b : Text) → Option Difference → Type 0
+Parts w a b None = AreAllAlike w a b
+Parts w a b (Some d) = PartAt w a b d.number d.left.items d.right.items
 
 -- the same of texts that may not be known
-abbrev pub MayPart : (a b : Option Text) → Option Difference → Type 0
-MayPart a b found = IfSome a (λ x. IfSome b (λ y. Parts x y found))
+abbrev pub MayPart : (is_without_ticks : Bool) → (a b : Option Text) → Option Difference → Type 0
+MayPart w a b found = IfSome a (λ x. IfSome b (λ y. Parts w x y found))
 
-abbrev pub Finds : (a b : Text) → (left right : Text) → Option ℕ → Type 0
-Finds a b left right None = a ≡ b
-Finds a b left right (Some number) = PartAt a b number left right
+abbrev pub Finds : (is_without_ticks : Bool) → (a b : Text) → (left right : Text) → Option ℕ → Type 0
+Finds w a b left right None = AreAllAlike w a b
+Finds w a b left right (Some number) = PartAt w a b number left right
 
-abbrev pub MayFind : (a b : Option Text) → (left right : Text) → Option ℕ → Type 0
-MayFind a b left right found = IfSome a (λ x. IfSome b (λ y. Finds x y left right found))
+abbrev pub MayFind : (is_without_ticks : Bool) → (a b : Option Text) → (left right : Text) → Option ℕ → Type 0
+MayFind w a b left right found = IfSome a (λ x. IfSome b (λ y. Finds w x y left right found))
 
 -- a reader comes after this many lines of a text
 abbrev pub ComesAfter : ℕ → (old now : Option Text) → Type 0
 ComesAfter n old now = IfSome old (λ x. now ≡ Some (rest_at n x))
 
--- both readers do, and all these lines are the same
-pub record HasPassed (n : ℕ) (a b : Option Text) (a-now b-now : Option Text) : Type 0 where
+-- both readers do, and all these lines are alike
+pub record HasPassed (is_without_ticks : Bool) (n : ℕ) (a b : Option Text) (a-now b-now : Option Text) : Type 0 where
   pub first : ComesAfter n a a-now
   pub second : ComesAfter n b b-now
-  pub same : IfSome a (λ x. IfSome b (λ y. AreSame n x y))
+  pub same : IfSome a (λ x. IfSome b (λ y. AreSame is_without_ticks n x y))

@@ -4,9 +4,11 @@ use Rattle.std.specs.List.{list_all}
 use Rattle.fb_expect.specs.Words.{Text}
 use Rattle.fb_expect.specs.declared.judging.Judged.{Judged}
 use Rattle.fb_expect.specs.declared.pattern.Pattern.{Pattern}
+use Rattle.fb_expect.specs.declared.rule.Need.{Need}
+use Rattle.fb_expect.specs.declared.rule.Need.TheVariants.{See, Not, Before, Never, Count}
 use Rattle.fb_expect.specs.declared.rule.Rule.{Rule}
 use Rattle.fb_expect.specs.declared.sight.Sight.{Sight}
-use Rattle.fb_expect.specs.declared.sight.Sight.TheVariants.{Nothing, Port, All}
+use Rattle.fb_expect.specs.declared.sight.Sight.TheVariants.{Nothing, Port, Named, Fitting, Met}
 use Rattle.fb_expect.specs.declared.sight.Sights.{Sights}
 use Rattle.fb_expect.specs.declared.tap.Of.{Of}
 use Rattle.fb_expect.specs.declared.verdict.Breach.{Breach}
@@ -63,16 +65,24 @@ unfoldable pub undecided_block : (trace : Text) → Text
 undecided_block trace =
     joined (codes "  ---\n" ∷ quoted_line (codes "message") (codes "undecided: the trace ends before that") ∷ quoted_line (codes "trace") trace ∷ codes "  ...\n" ∷ [])
 
+-- a rule that nothing decides
+unfoldable pub never_block : (trace : Text) → Text
+never_block trace =
+    joined (codes "  ---\n" ∷ quoted_line (codes "message") (codes "never applied: no line of the trace decides this rule") ∷ quoted_line (codes "trace") trace ∷ codes "  ...\n" ∷ [])
+
 -- ---- Points
 
--- whether a verdict is well
-abbrev pub is_well : (strict : Bool) → Verdict → Bool
-is_well strict Holds = true
-is_well strict Undecided = not strict
-is_well strict (Broken b) = false
+-- whether a verdict that was decided so often is well
+abbrev pub is_well_by : (strict : Bool) → Verdict → (decided : ℕ) → Bool
+is_well_by strict Holds decided = not (strict && (decided == 0))
+is_well_by strict Undecided decided = not strict
+is_well_by strict (Broken b) decided = false
+
+abbrev pub is_well : (strict : Bool) → Judged → Bool
+is_well strict j = is_well_by strict j.verdict j.decided
 
 abbrev pub are_well : (strict : Bool) → List Judged → Bool
-are_well strict js = list_all (λ j. is_well strict j.verdict) js
+are_well strict js = list_all (is_well strict) js
 
 -- the name of the trace, where points have it
 unfoldable pub trace_mark : Of → Text
@@ -87,18 +97,66 @@ unfoldable pub head : (well : Bool) → (number : ℕ) → Rule → Of → Text
 head well number r of =
     joined (first_word well ∷ decimal number ∷ codes " - " ∷ escape 35 r.name ∷ trace_mark of ∷ [])
 
+-- the end of the line of a rule that holds, and the block after it
+abbrev pub tail_of_held : (strict is_applied : Bool) → (trace : Text) → Text
+tail_of_held strict true trace = codes "\n"
+tail_of_held true false trace = joined (codes "\n" ∷ never_block trace ∷ [])
+tail_of_held false false trace = codes " # SKIP never applied\n"
+
 -- the end of the line, and the block after it
-abbrev pub tail : (strict : Bool) → (trace : Text) → Verdict → Text
-tail strict trace Holds = codes "\n"
-tail strict trace (Broken b) = joined (codes "\n" ∷ breach_block trace b ∷ [])
-tail true trace Undecided = joined (codes "\n" ∷ undecided_block trace ∷ [])
-tail false trace Undecided = codes " # SKIP undecided\n"
+abbrev pub tail : (strict : Bool) → (trace : Text) → Verdict → (decided : ℕ) → Text
+tail strict trace Holds decided = tail_of_held strict (not (decided == 0)) trace
+tail strict trace (Broken b) decided = joined (codes "\n" ∷ breach_block trace b ∷ [])
+tail true trace Undecided decided = joined (codes "\n" ∷ undecided_block trace ∷ [])
+tail false trace Undecided decided = codes " # SKIP undecided\n"
+
+-- ---- How often
+
+abbrev pub times : ℕ → Text
+times n = if n == 1 then codes " time" else codes " times"
+
+-- whether a P of the rule may wait for the end of the trace
+abbrev pub can_wait : Need → Bool
+can_wait (See within) = true
+can_wait (Not within) = true
+can_wait (Before within) = false
+can_wait (Never from_start) = false
+can_wait (Count least most every) = false
+
+-- whether all P's are decided: the last one is not, where such a rule is undecided
+abbrev pub is_last_open : Need → Verdict → Bool
+is_last_open need Undecided = can_wait need
+is_last_open need Holds = false
+is_last_open need (Broken b) = false
+
+abbrev pub how_often_by : (is_open : Bool) → ℕ → Text
+how_often_by true n = joined (codes "# applied " ∷ decimal n ∷ times n ∷ codes ", the last is undecided\n" ∷ [])
+how_often_by false n = joined (codes "# decided " ∷ decimal n ∷ times n ∷ codes "\n" ∷ [])
+
+-- how often the rule was decided, as a comment
+abbrev pub how_often : Need → Judged → Text
+how_often need j = how_often_by (is_last_open need j.verdict) j.decided
+
+-- ---- What the trace does not have
+
+-- the words for what the trace does not have of a pattern
+abbrev pub lack_of : Sight → Option Text
+lack_of Nothing = Some (codes "# no line of the trace is of: ")
+lack_of Port = Some (codes "# no such line of the trace has the variables of: ")
+lack_of Named = Some (codes "# no such line of the trace has values of these kinds: ")
+lack_of Fitting = Some (codes "# no such line of the trace meets: ")
+lack_of Met = None
+
+abbrev pub lack : (words pattern : Text) → Text
+lack words pattern = joined (words ∷ pattern ∷ codes "\n" ∷ [])
+
+abbrev pub comment_by : Option Text → (pattern : Text) → Text
+comment_by (Some words) text = lack words text
+comment_by None text = []
 
 -- what the trace does not have of a pattern
 abbrev pub comment : Pattern → Sight → Text
-comment p Nothing = joined (codes "# no line of the trace is of: " ∷ p.text ∷ codes "\n" ∷ [])
-comment p Port = joined (codes "# no such line of the trace has the variables of: " ∷ p.text ∷ codes "\n" ∷ [])
-comment p All = []
+comment p s = comment_by (lack_of s) p.text
 
 abbrev pub may_comment : Option Pattern → Sight → Text
 may_comment None s = []
@@ -111,7 +169,7 @@ comments r s = joined (comment r.first s.first ∷ may_comment r.second s.second
 -- The point of a rule at a trace.
 unfoldable pub point : (strict : Bool) → Of → (number : ℕ) → Rule → Judged → Text
 point strict of number r j =
-    joined (head (is_well strict j.verdict) number r of ∷ tail strict of.trace.now j.verdict ∷ comment r.first j.sights.first
+    joined (head (is_well strict j) number r of ∷ tail strict of.trace.now j.verdict j.decided ∷ how_often r.need j ∷ comment r.first j.sights.first
     ∷ may_comment r.second j.sights.second ∷ may_comment r.third j.sights.third ∷ [])
 
 -- The points of all rules at a trace, numbered after those before.

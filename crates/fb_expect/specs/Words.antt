@@ -20,6 +20,14 @@ after_front front z = if bytes_eq (take (length front) z) front then Some (drop 
 abbrev pub before : (end : Text) → Text → Option Text
 before end z = if bytes_eq (drop (length z - length end) z) end then Some (take (length z - length end) z) else None
 
+-- a byte that ends a word of a line: a blank or a line feed
+abbrev pub is_end : ℕ → Bool
+is_end b = b == 32 || b == 10
+
+-- the bytes before the first that ends a word, and the rest from that one on
+unfoldable pub cut : Text → Option (Text × Text)
+cut z = option_map (λ i. (take i z, drop i z)) (position is_end z)
+
 -- what comes before the first index of a mark, and what comes after it
 unfoldable pub split_at_mark : ℕ → Text → Option (Text × Text)
 split_at_mark mark z = option_map (λ i. (take i z, drop (i + 1) z)) (position (nat_eq mark) z)

@@ -10,7 +10,14 @@ use Rattle.fb_expect.specs.Words.{Text, after_front, before, is_name, is_path, i
 use Rattle.fb_expect.specs.declared.pattern.Comparison.{Comparison}
 use Rattle.fb_expect.specs.declared.pattern.Comparison.TheVariants.{Equal, Unequal, Less, AtMost, Greater, AtLeast}
 use Rattle.fb_expect.specs.declared.pattern.Condition.{Condition}
+use Rattle.fb_expect.specs.declared.pattern.Operand.{Operand}
+use Rattle.fb_expect.specs.declared.pattern.Operand.TheVariants as operand
 use Rattle.fb_expect.specs.declared.pattern.Pattern.{Pattern}
+use Rattle.fb_expect.specs.declared.pattern.OperandText.{OperandText}
+use Rattle.fb_expect.specs.declared.pattern.OperandText.TheVariants as written
+use Rattle.fb_expect.specs.declared.port_pattern.PortForm.{PortForm}
+use Rattle.fb_expect.specs.declared.port_pattern.PortForm.TheVariants.{Whole, Open, Stars}
+use Rattle.fb_expect.specs.Stars.{is_star_port}
 use Rattle.fb_expect.specs.declared.pattern.Way.{Way}
 use Rattle.fb_expect.specs.declared.pattern.Way.TheVariants.{Taken, Emitted, Either}
 
@@ -39,12 +46,16 @@ way_of w =
 abbrev pub is_front : Text → Bool
 is_front z = option_map_or is_path (before (codes ".") z) (length z == 0)
 
--- what comes before a star, or a whole port, and whether it is the former
-abbrev pub port_by : Text → Option Text → Option (Text × Bool)
-port_by w (Some front) = if is_front front then Some (front, true) else None
-port_by w None = if is_port w then Some (w, false) else None
+-- a port without an open end, and how it is read
+abbrev pub closed_port_of : Text → Option (Text × PortForm)
+closed_port_of w = if is_port w then Some (w, Whole) else if is_star_port w then Some (w, Stars) else None
 
-unfoldable pub port_of : Text → Option (Text × Bool)
+-- what comes before a star where names with a full stop after each do, or the whole
+abbrev pub port_by : Text → Option Text → Option (Text × PortForm)
+port_by w (Some front) = if is_front front then Some (front, Open) else closed_port_of w
+port_by w None = closed_port_of w
+
+unfoldable pub port_of : Text → Option (Text × PortForm)
 port_of w = port_by w (before star w)
 
 -- ---- Resources
@@ -86,19 +97,33 @@ is_equation AtMost = false
 is_equation Greater = false
 is_equation AtLeast = false
 
-abbrev pub can_compare : Comparison → Value → Bool
-can_compare c (value.Bool b) = is_equation c
-can_compare c (value.Whole n) = true
+abbrev pub can_compare : Comparison → Operand → Bool
+can_compare c (operand.Value (value.Bool b)) = is_equation c
+can_compare c (operand.Value (value.Whole n)) = true
+can_compare c (operand.Variable name) = true
 
-unfoldable pub condition_parts : Text → Option (Text × Comparison × Value)
+-- a value, or else the name of a variable
+abbrev pub operand_by : Option Value → Text → Option Operand
+operand_by (Some v) z = Some (operand.Value v)
+operand_by None z = if is_name z then Some (operand.Variable z) else None
+
+abbrev pub operand_of : Text → Option Operand
+operand_of z = operand_by (value_of z) z
+
+-- an operand whose name is in the text of the pattern
+abbrev pub seen_operand : OperandText → Operand
+seen_operand (written.Value v) = operand.Value v
+seen_operand (written.Variable name) = operand.Variable name.now
+
+unfoldable pub condition_parts : Text → Option (Text × Comparison × Operand)
 condition_parts w = do
   p ← at_comparison w
   q ← comparison_of p.1
-  v ← value_of q.1
-  if is_name p.0 && can_compare q.0 v then Some (p.0, q.0, v) else None
+  o ← operand_of q.1
+  if is_name p.0 && can_compare q.0 o then Some (p.0, q.0, o) else None
 
-abbrev pub condition : Text × Comparison × Value → Condition
-condition t = record { variable = t.0; comparison = t.1; value = t.2 }
+abbrev pub condition : Text × Comparison × Operand → Condition
+condition t = record { variable = t.0; comparison = t.1; operand = t.2 }
 
 -- the condition that a word is
 abbrev pub condition_of : Text → Option Condition
@@ -113,7 +138,7 @@ pattern_with resource sign port conditions text = do
   p ← port_of port
   if is_resource resource
       then (each condition_of conditions >>= λ cs.
-      Some (record { resource = resource_of resource; way = way; port = record { text = p.0; is_open = p.1 }; conditions = cs; text = text }))
+      Some (record { resource = resource_of resource; way = way; port = record { text = p.0; form = p.1 }; conditions = cs; text = text }))
       else None
 
 abbrev pub pattern_in : List Text → (text : Text) → Option Pattern

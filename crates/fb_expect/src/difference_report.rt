@@ -56,14 +56,19 @@ fn word_unless(same: bool, word: &'static [u8]) -> &'static [u8]
 
 /// The parts in which two events differ, each after a comma and a blank: their ticks, resources, ports and values.
 #[tactic(auto, unfolding(crate::specs::DifferenceReport::parts))]
-fn parts(alloc: Global, left: &Entry<'_>, right: &Entry<'_>) -> Result<Vec<u8>, AllocError>
-    ensures { IfOk result (λ t. t.items ≡ spec.parts left.now right.now) }
+fn parts(
+    alloc: Global,
+    is_without_ticks: bool,
+    left: &Entry<'_>,
+    right: &Entry<'_>,
+) -> Result<Vec<u8>, AllocError>
+    ensures { IfOk result (λ t. t.items ≡ spec.parts is_without_ticks left.now right.now) }
 {
     let is_same_port = is_same(left.port, right.port) && left.taken == right.taken;
     join(
         alloc,
         &[
-            word_unless(left.tick == right.tick, b", tick"),
+            word_unless(is_without_ticks || left.tick == right.tick, b", tick"),
             word_unless(is_same(left.resource, right.resource), b", resource"),
             word_unless(is_same_port, b", port"),
             word_unless(is_same(left.values, right.values), b", value"),
@@ -82,26 +87,33 @@ fn listed(alloc: Global, parts: &[u8]) -> Result<Vec<u8>, AllocError>
 }
 
 /// What differs in two last lines.
-fn last_part(left: u64, right: u64) -> &'static [u8]
-    ensures { result.now ≡ spec.last_part left right }
+fn last_part(is_without_ticks: bool, left: u64, right: u64) -> &'static [u8]
+    ensures { result.now ≡ spec.last_part is_without_ticks left right }
 {
-    if left == right { b"end" } else { b"tick" }
+    if is_without_ticks || left == right {
+        b"end"
+    } else {
+        b"tick"
+    }
 }
 
 /// What differs in two lines.
 fn difference_of(
     alloc: Global,
+    is_without_ticks: bool,
     left: &LineKind<'_>,
     right: &LineKind<'_>,
 ) -> Result<Vec<u8>, AllocError>
-    ensures { IfOk result (λ t. t.items ≡ spec.difference_of left.now right.now) }
+    ensures { IfOk result (λ t. t.items ≡ spec.difference_of is_without_ticks left.now right.now) }
 {
     match (left, right) {
         (LineKind::Event(left), LineKind::Event(right)) => {
-            let parts = parts(alloc, left, right)?;
+            let parts = parts(alloc, is_without_ticks, left, right)?;
             listed(alloc, parts.as_slice())
         }
-        (LineKind::Last(left), LineKind::Last(right)) => join(alloc, &[last_part(*left, *right)]),
+        (LineKind::Last(left), LineKind::Last(right)) => {
+            join(alloc, &[last_part(is_without_ticks, *left, *right)])
+        }
         (LineKind::Missing, _) | (_, LineKind::Missing) => join(alloc, &[b"length"]),
         _ => join(alloc, &[b"kind"]),
     }
@@ -152,23 +164,19 @@ fn shown_line(
     }
 }
 
-/// Reports how two files differ: the number of the line and the parts that differ, and then both lines, which are of
-/// these kinds.
-#[tactic(auto, unfolding(crate::specs::DifferenceReport::difference_text))]
-fn text_of(
+/// The number of two lines, and what differs in them.
+#[tactic(auto, unfolding(crate::specs::DifferenceReport::difference_line))]
+fn difference_line(
     alloc: Global,
-    first: &str,
-    second: &str,
-    difference: &Difference,
+    is_without_ticks: bool,
+    number: u64,
     left: &LineKind<'_>,
     right: &LineKind<'_>,
 ) -> Result<Vec<u8>, AllocError>
-    ensures { IfOk result (λ t. t.items ≡ spec.difference_text first.now second.now difference.now left.now right.now) }
+    ensures { IfOk result (λ t. t.items ≡ spec.difference_line is_without_ticks number left.now right.now) }
 {
-    let digits = digits_of(alloc, u128::from(difference.number))?;
-    let what = difference_of(alloc, left, right)?;
-    let first = shown_line(alloc, first, difference.left.as_slice(), left)?;
-    let second = shown_line(alloc, second, difference.right.as_slice(), right)?;
+    let digits = digits_of(alloc, u128::from(number))?;
+    let what = difference_of(alloc, is_without_ticks, left, right)?;
     join(
         alloc,
         &[
@@ -177,13 +185,12 @@ fn text_of(
             b" differs in: ",
             what.as_slice(),
             b"\n",
-            first.as_slice(),
-            second.as_slice(),
         ],
     )
 }
 
-/// Reports how two files differ: the number of the line and the parts that differ, and then both lines.
+/// Reports how two files differ: the number of the line and the parts that differ, and then both lines. Ticks may be
+/// no part.
 ///
 /// # Errors
 /// Out of memory.
@@ -191,11 +198,20 @@ pub fn difference_text(
     alloc: Global,
     first: &str,
     second: &str,
+    is_without_ticks: bool,
     difference: &Difference,
 ) -> Result<Vec<u8>, AllocError>
-    ensures { IfOk result (λ t. ShowsDifference first.now second.now difference.now t.items) }
+    ensures { IfOk result (λ t. ShowsDifference first.now second.now is_without_ticks difference.now t.items) }
 {
-    let left = kind_of(difference.left.as_slice());
-    let right = kind_of(difference.right.as_slice());
-    text_of(alloc, first, second, difference, &left, &right)
+    let left_line = difference.left.as_slice();
+    let right_line = difference.right.as_slice();
+    let left = kind_of(left_line);
+    let right = kind_of(right_line);
+    let line = difference_line(alloc, is_without_ticks, difference.number, &left, &right)?;
+    let first = shown_line(alloc, first, left_line, &left)?;
+    let second = shown_line(alloc, second, right_line, &right)?;
+    join(
+        alloc,
+        &[line.as_slice(), first.as_slice(), second.as_slice()],
+    )
 }

@@ -1,7 +1,7 @@
 //! What a document says of rules, before its patterns and numbers are judged.
 
-ghost use Rattle.std.specs.Prelude.{◌≡◌, ℕ, List, IfOk, codes, map, option_map};
-ghost use Rattle.toml.specs.Data.{as_integer, as_str, get_member};
+ghost use Rattle.std.specs.Prelude.{◌≡◌, ℕ, List, IfOk, is_some, map, option_map};
+ghost use Rattle.toml.specs.Data.{as_bool, as_integer, as_str, get_member};
 ghost use Rattle.toml.specs.View.{table_view, view};
 ghost use Rattle.fb_expect.specs.Drafts as spec;
 ghost use Rattle.fb_expect.specs.Drafts.{text_of};
@@ -41,6 +41,10 @@ pub(crate) struct Draft<'a> {
     pub(crate) first: &'a str,
     pub(crate) second: Option<&'a str>,
     pub(crate) third: Option<&'a str>,
+    /// The texts of `same`, if it is there.
+    pub(crate) same: Option<&'a [Value]>,
+    /// The value of `each`, if it is there.
+    pub(crate) turns: Option<bool>,
 }
 
 fn value_at<'a>(keys: &'a Table, key: &str) -> Option<&'a Value>
@@ -115,33 +119,130 @@ fn one_if(here: bool) -> usize
     if here { 1 } else { 0 }
 }
 
-/// What a rule `after` asks for, and its second text: that of `see`, or else of `not`.
-fn answer_of(within: i64, keys: &Table) -> Option<(NeedDraft, &str)>
-    ensures { option_map (λ p. (p.0, p.1.now)) result ≡ spec.answer_of within (get_member (codes "see") (table_view keys.now)) (table_view keys.now) }
+/// Whether a value is a text.
+fn is_text(value: &Value) -> bool
+    ensures { result ≡ is_some (as_str (view value.now)) }
 {
-    match value_at(keys, "see") {
-        Some(second) => Some(NeedDraft::See { within }).zip(text_in(second)),
-        None => Some(NeedDraft::Not { within }).zip(text_at(keys, "not")),
+    value.as_str().is_some()
+}
+
+/// Whether all of these are texts.
+fn are_texts(values: &[Value]) -> bool
+    ensures { result ≡ spec.are_texts (map view values.now) }
+{
+    for value in values {
+        if !is_text(value) {
+            return false;
+        }
+    }
+    true
+}
+
+/// The texts that a value is, one or more.
+pub(crate) fn text_values(value: &Value) -> Option<&[Value]>
+    ensures { option_map (λ vs. map view vs.now) result ≡ spec.text_values (view value.now) }
+{
+    let values = values_of(value)?;
+    if are_texts(values) && !values.is_empty() {
+        Some(values)
+    } else {
+        None
     }
 }
 
-/// A rule `after`: with `see`, or with `not`.
+/// The text that a value is, and none for another value.
+pub(crate) fn text_or_none(value: &Value) -> &str
+    ensures { result.now ≡ spec.text_in (view value.now) }
+{
+    match value.as_str() {
+        Some(text) => text,
+        None => "",
+    }
+}
+
+/// The texts at a key that may be absent. Nothing if it is no list of texts.
+fn may_texts_at<'a>(keys: &'a Table, key: &str) -> Option<Option<&'a [Value]>>
+    ensures { option_map (λ o. option_map (λ vs. map view vs.now) o) result ≡ may spec.text_values (get_member key.now (table_view keys.entry.now)) }
+{
+    match value_at(keys, key) {
+        Some(value) => match text_values(value) {
+            Some(values) => Some(Some(values)),
+            None => None,
+        },
+        None => Some(None),
+    }
+}
+
+/// The truth value at a key that may be absent. Nothing if it is none.
+fn may_bool_at(keys: &Table, key: &str) -> Option<Option<bool>>
+    ensures { result ≡ may as_bool (get_member key.now (table_view keys.now)) }
+{
+    match value_at(keys, key) {
+        Some(value) => match value.as_bool() {
+            Some(truth) => Some(Some(truth)),
+            None => None,
+        },
+        None => Some(None),
+    }
+}
+
+/// A rule `after` with `see`, and with `same` and `each` where they are there.
+#[tactic(auto, unfolding(crate::specs::Drafts::after_see))]
+fn after_see<'a>(
+    keys: &'a Table,
+    name: &'a str,
+    first: &'a str,
+    within: i64,
+    second: &'a str,
+) -> Option<Draft<'a>>
+    ensures { option_map text_of result ≡ spec.after_see (table_view keys.entry.now) name.entry.now first.entry.now within second.entry.now }
+{
+    let same = may_texts_at(keys, "same")?;
+    let turns = may_bool_at(keys, "each")?;
+    if count_of_keys(keys) != 4 + one_if(same.is_some()) + one_if(turns.is_some()) {
+        return None;
+    }
+    Some(Draft {
+        name,
+        need: NeedDraft::See { within },
+        first,
+        second: Some(second),
+        third: None,
+        same,
+        turns,
+    })
+}
+
+/// A rule `after` with `not`.
+#[tactic(auto, unfolding(crate::specs::Drafts::after_not))]
+fn after_not<'a>(keys: &'a Table, name: &'a str, first: &'a str, within: i64) -> Option<Draft<'a>>
+    ensures { option_map text_of result ≡ spec.after_not (table_view keys.entry.now) name.entry.now first.entry.now within }
+{
+    let second = text_at(keys, "not")?;
+    if count_of_keys(keys) != 4 {
+        return None;
+    }
+    Some(Draft {
+        name,
+        need: NeedDraft::Not { within },
+        first,
+        second: Some(second),
+        third: None,
+        same: None,
+        turns: None,
+    })
+}
+
+/// A rule `after`: with `see`, or else with `not`.
 #[tactic(auto, unfolding(crate::specs::Drafts::after))]
 fn after<'a>(keys: &'a Table, name: &'a str, first: &'a str) -> Option<Draft<'a>>
     ensures { option_map text_of result ≡ spec.after (table_view keys.entry.now) name.entry.now first.entry.now }
 {
     let within = number_at(keys, "within")?;
-    if count_of_keys(keys) != 4 {
-        return None;
+    match value_at(keys, "see") {
+        Some(second) => after_see(keys, name, first, within, text_in(second)?),
+        None => after_not(keys, name, first, within),
     }
-    let (need, second) = answer_of(within, keys)?;
-    Some(Draft {
-        name,
-        need,
-        first,
-        second: Some(second),
-        third: None,
-    })
 }
 
 /// A rule `before`.
@@ -160,6 +261,8 @@ fn before<'a>(keys: &'a Table, name: &'a str, first: &'a str) -> Option<Draft<'a
         first,
         second: Some(second),
         third: None,
+        same: None,
+        turns: None,
     })
 }
 
@@ -181,6 +284,8 @@ fn never<'a>(keys: &'a Table, name: &'a str, first: &'a str) -> Option<Draft<'a>
         first,
         second,
         third,
+        same: None,
+        turns: None,
     })
 }
 
@@ -202,6 +307,8 @@ fn count<'a>(keys: &'a Table, name: &'a str, first: &'a str) -> Option<Draft<'a>
         first,
         second: None,
         third: None,
+        same: None,
+        turns: None,
     })
 }
 

@@ -1,21 +1,26 @@
 //! A trace, line by line, against rules.
 
-ghost use Rattle.std.specs.Prelude.{◌≡◌, ◌+◌, List, [], IfOk, IfSome, OnOk, IsTrue, length};
+ghost use Rattle.std.specs.Prelude.{◌≡◌, ◌+◌, List, [], IfOk, IfSome, OnOk, IsTrue, Some, length};
 ghost use Rattle.std.specs.Io.KnownBytes.{IsAtEnd};
 ghost use Rattle.fb_expect.specs.Events.{Event, event_of};
-ghost use Rattle.fb_expect.specs.Judging.{AllFollow, AllMove, AreJudged, Follows, IsFollowed, IsJudged, Judges, Moves, rules_of};
+ghost use Rattle.fb_expect.specs.Judging.{AllFollow, AllMove, AreJudged, Concludes, Follows, IsFollowed, IsJudged, Judges, KnowsState, Moves, StateOn, rules_of};
+ghost use Rattle.fb_expect.specs.Hits.{hit_of};
 ghost use Rattle.fb_expect.specs.Lines.{IsOneLine};
+ghost use Rattle.fb_expect.specs.Paired.{PairsOn, pair_hit_of, within_of};
 ghost use Rattle.fb_expect.specs.Traces.{AreBelow, EndsAfter, HasNoEnd, IsLast, tick_of};
+ghost use Rattle.fb_expect.specs.declared.rule.Pairing.{Pairing as PairingModel};
 
 use crate::ending::{End, can_end, read_end};
 use crate::entry::Entry;
 use crate::event::read_entry;
 use crate::fault::TraceError;
-use crate::hit::hit_of;
+use crate::hit::{Hit, hit_of};
 use crate::lines::{is_over, next_line};
+use crate::pairs::{PairLine, Pairs};
 use crate::port_set::{PortSet, ports_of};
-use crate::rule::Rule;
+use crate::rule::{Need, Rule};
 use crate::sight::{Sights, begin_sights, see_line};
+use crate::tally::{Tally, begin_tally, count_line, decided_by};
 use crate::verdict::{Verdict, verdict_of};
 use crate::watch::{Watch, begin, step};
 use crate::words::cut;
@@ -23,20 +28,44 @@ use fb_types::Form;
 use std::alloc::{AllocError, Global};
 use std::io::BufRead;
 
+/// What decides a rule after the lines that were read.
+#[derive(Drop)]
+pub enum State {
+    /// Each line by itself.
+    Alone(Watch),
+    /// Pairs of lines.
+    Paired(Pairs),
+}
+
 /// A rule, and its state after the lines that were read.
-#[derive(Clone, Copy)]
 pub struct Watcher<'a> {
     rule: &'a Rule,
-    watch: Watch,
+    state: State,
+    tally: Tally,
     sights: Sights,
     /// The ports whose lines matter to the rule.
     ports: PortSet,
+}
+
+impl Drop for Watcher<'_> {
+    fn drop(self) {
+        let Watcher {
+            rule: _,
+            state: _,
+            tally: _,
+            sights: _,
+            ports: _,
+        } = self;
+    }
 }
 
 /// The result of a rule at a trace.
 #[derive(Clone, Copy)]
 pub struct Judged {
     pub verdict: Verdict,
+    /// How often the rule was decided: at each P of a rule `after` or `before`, at each line in a stretch, and at the
+    /// end of each window.
+    pub decided: u64,
     /// What the trace has of its patterns.
     pub sights: Sights,
 }
@@ -57,6 +86,16 @@ pub(crate) fn form_of(line: &[u8]) -> Form {
     }
 }
 
+/// What decides a rule before the first line.
+fn state_of(alloc: Global, rule: &Rule) -> State
+    ensures { KnowsState rule.now [] result }
+{
+    match &rule.pairing {
+        Some(_) => State::Paired(Pairs::new(alloc)),
+        None => State::Alone(begin(rule.need)),
+    }
+}
+
 /// The state of all rules before the first line.
 fn begun<'a>(alloc: Global, rules: &'a [Rule]) -> Result<Vec<Watcher<'a>>, AllocError>
     ensures rules { IfOk result (λ ws. rules_of ws.items ≡ rules.now) }
@@ -66,7 +105,8 @@ fn begun<'a>(alloc: Global, rules: &'a [Rule]) -> Result<Vec<Watcher<'a>>, Alloc
     for rule in rules {
         watchers.push_reserved(Watcher {
             rule,
-            watch: begin(rule.need),
+            state: state_of(alloc, rule),
+            tally: begin_tally(rule.need),
             sights: begin_sights(rule),
             ports: ports_of(rule),
         });
@@ -74,34 +114,120 @@ fn begun<'a>(alloc: Global, rules: &'a [Rule]) -> Result<Vec<Watcher<'a>>, Alloc
     Ok(watchers)
 }
 
+/// The time in which an answer must come.
+fn within_of(need: Need) -> u64
+    ensures { result ≡ within_of need }
+{
+    match need {
+        Need::See { within } | Need::Not { within } | Need::Before { within } => within,
+        Need::Never { .. } | Need::Count { .. } => 0,
+    }
+}
+
+/// The state of a rule that pairs lines after one more line, of this number.
+fn pairs_on(
+    alloc: Global,
+    rule: &Rule,
+    pairs: &mut Pairs,
+    number: u64,
+    hit: Hit,
+    entry: &Entry<'_>,
+) -> Result<(), AllocError>
+    requires { hit ≡ hit_of rule.now (event_of entry.now) }
+    ensures { OnOk result ((p : PairingModel) → rule.now.pairing ≡ Some p → PairsOn (within_of rule.now.need) p pairs.old number (pair_hit_of rule.now (event_of entry.now)) pairs.new) }
+{
+    match &rule.pairing {
+        Some(pairing) => {
+            let taken = PairLine {
+                line: number,
+                hit,
+                values: entry.values,
+            };
+            pairs.take(alloc, within_of(rule.need), pairing, taken)
+        }
+        None => Ok(()),
+    }
+}
+
+/// The state after one more line, of this number.
+fn state_on(
+    alloc: Global,
+    rule: &Rule,
+    state: &mut State,
+    number: u64,
+    hit: Hit,
+    entry: &Entry<'_>,
+) -> Result<(), AllocError>
+    requires { hit ≡ hit_of rule.now (event_of entry.now) }
+    ensures { OnOk result (StateOn rule.now number (event_of entry.now) state.old state.new) }
+{
+    match state {
+        State::Alone(watch) => {
+            *watch = step(rule.need, *watch, number, hit);
+            Ok(())
+        }
+        State::Paired(pairs) => pairs_on(alloc, rule, pairs, number, hit, entry),
+    }
+}
+
 /// Takes one more line, of this number. Most lines don't matter to a rule, which their ports show.
 #[inline(always)]
-fn next(watcher: &mut Watcher<'_>, number: u64, entry: &Entry<'_>)
-    ensures { Moves number (event_of entry.now) watcher.old watcher.new }
+fn next(
+    alloc: Global,
+    watcher: &mut Watcher<'_>,
+    number: u64,
+    entry: &Entry<'_>,
+) -> Result<(), AllocError>
+    ensures { OnOk result (Moves number (event_of entry.now) watcher.old watcher.new) }
 {
     if watcher.ports.may_have(entry) {
-        take_line_for_rule(watcher, number, entry);
+        take_line_for_rule(alloc, watcher, number, entry)
+    } else {
+        Ok(())
     }
 }
 
 /// Takes one more line, of this number, whatever its port.
 #[inline(never)]
-fn take_line_for_rule(watcher: &mut Watcher<'_>, number: u64, entry: &Entry<'_>)
-    ensures { Moves number (event_of entry.now) watcher.old watcher.new }
+fn take_line_for_rule(
+    alloc: Global,
+    watcher: &mut Watcher<'_>,
+    number: u64,
+    entry: &Entry<'_>,
+) -> Result<(), AllocError>
+    ensures { OnOk result (Moves number (event_of entry.now) watcher.old watcher.new) }
 {
     let rule = watcher.rule;
     let hit = hit_of(rule, entry);
-    watcher.watch = step(rule.need, watcher.watch, number, hit);
-    watcher.sights = see_line(rule, watcher.sights, entry);
+    state_on(alloc, rule, &mut watcher.state, number, hit, entry)?;
+    watcher.tally = count_line(watcher.tally, number, hit);
+    watcher.sights = see_line(rule, watcher.sights, hit, entry);
+    Ok(())
 }
 
 /// Takes one more line for all rules.
-fn take_line(watchers: &mut [Watcher<'_>], number: u64, entry: &Entry<'_>)
-    ensures rules { rules_of watchers.new ≡ rules_of watchers.old }
-    ensures moves { AllMove number (event_of entry.now) watchers.old watchers.new }
+fn take_line(
+    alloc: Global,
+    watchers: &mut [Watcher<'_>],
+    number: u64,
+    entry: &Entry<'_>,
+) -> Result<(), AllocError>
+    ensures rules { OnOk result (rules_of watchers.new ≡ rules_of watchers.old) }
+    ensures moves { OnOk result (AllMove number (event_of entry.now) watchers.old watchers.new) }
 {
     for watcher in watchers.iter_mut() {
-        next(watcher, number, entry);
+        next(alloc, watcher, number, entry)?;
+    }
+    Ok(())
+}
+
+/// The result of a rule after the whole trace, whose last line has this number.
+fn verdict_at(rule: &Rule, state: &State, number: u64, end: End) -> Verdict
+    ensures { Concludes rule.now state.now number end result }
+{
+    match state {
+        State::Alone(watch) => verdict_of(rule.need, *watch, number, end),
+        State::Paired(pairs) => pairs.conclude(within_of(rule.need), end),
     }
 }
 
@@ -109,8 +235,10 @@ fn take_line(watchers: &mut [Watcher<'_>], number: u64, entry: &Entry<'_>)
 fn conclude_one(watcher: &Watcher<'_>, number: u64, end: End) -> Judged
     ensures { (es : List Event) → number ≡ length es + 1 → AreBelow es (tick_of end) → Follows es watcher.now → IsJudged es end watcher.now.rule.now result }
 {
+    let rule = watcher.rule;
     Judged {
-        verdict: verdict_of(watcher.rule.need, watcher.watch, number, end),
+        verdict: verdict_at(rule, &watcher.state, number, end),
+        decided: decided_by(rule.need, watcher.tally, number, end),
         sights: watcher.sights,
     }
 }
@@ -153,7 +281,7 @@ fn end_at(line: &[u8], tick: u64, cut: Cut) -> Option<End>
 }
 
 /// Reads a trace, in either form, and returns the result of each rule. Ticks are milliseconds. All memory is that of the
-/// rules and of a line.
+/// rules, of a line, and of the P's that wait in rules that pair lines.
 ///
 /// # Errors
 /// `Refused` with the first line at which it shows that the text is no trace, `Read` where the reader fails, `Memory`.
@@ -168,13 +296,14 @@ pub fn judge<R: BufRead>(
 {
     let mut watchers = begun(alloc, rules)?;
     let mut line = Vec::new(alloc);
-    let (number, end) = follow(cut, &mut watchers, &mut line, input)?;
+    let (number, end) = follow(alloc, cut, &mut watchers, &mut line, input)?;
     Ok(conclude(alloc, watchers.as_slice(), number, end)?)
 }
 
 /// Reads the lines of a trace, up to its end, which is reported with the number of its line. The buffer is for the line
 /// that was read last.
 fn follow<R: BufRead>(
+    alloc: Global,
     cut: Cut,
     watchers: &mut Vec<Watcher<'_>>,
     line: &mut Vec<u8>,
@@ -194,7 +323,7 @@ fn follow<R: BufRead>(
         }
         match read_entry(form, line.as_slice()) {
             Some(entry) if tick <= entry.tick => {
-                take_line(watchers.as_mut_slice(), number, &entry);
+                take_line(alloc, watchers.as_mut_slice(), number, &entry)?;
                 tick = entry.tick;
             }
             _ => return Err(TraceError::Refused(number)),

@@ -2,8 +2,9 @@
 //!
 //! Guarantees to callers: `read_rules` gives the rules that the definitions make of the tree of the TOML reader, or the
 //! number of the refusal. `judge` gives for each rule whether it holds of the lines of a trace, breaks (and at which
-//! line first), or is undecided, as the definitions say of the whole list of lines. `part` says that two texts are the
-//! same exactly if their bytes are, and otherwise gives the first lines in which they differ.
+//! line first), or is undecided, and how often it was decided, as the definitions say of the whole list of lines. `part`
+//! says that two texts are the same, or are without their ticks, exactly if they are, and otherwise gives the first lines
+//! in which they differ.
 //!
 //! The report and the text of a difference are the texts that the definitions make of these answers.
 //!
@@ -15,15 +16,18 @@
 //! - `document` and `rules`: how rules are read;
 //! - `location`: where they are refused;
 //! - `event`, `entry` and `ending`: the meaning of a line;
-//! - `meeting`: whether a line meets a pattern;
-//! - `hit`, `watch` and `verdict`: the state and the answer of a rule;
+//! - `stars` and `meeting`: whether a line meets a pattern;
+//! - `hit`, `watch` and `verdict`: the state and the answer of a rule that judges each line by itself;
+//! - `alike` and `pairs`: those of a rule that pairs lines;
+//! - `tally`: how often a rule was decided;
 //! - `sight`: what a trace never has;
 //! - `fingerprint` and `port_set`: which lines are passed over;
 //! - `judging`: a trace line by line;
-//! - `tap`: the report;
-//! - `parting` and `difference_report`: where two texts first differ.
+//! - `tap` and `junit`: the reports;
+//! - `timeless`, `parting` and `difference_report`: where two texts first differ.
 #![tactic(auto)]
 
+mod alike;
 pub mod difference_report;
 mod document;
 mod ending;
@@ -34,11 +38,13 @@ pub mod fault;
 mod fingerprint;
 mod hit;
 pub mod judging;
+pub mod junit;
 pub mod lines;
 pub mod location;
 pub mod meeting;
 mod names;
 mod number;
+mod pairs;
 pub mod parting;
 pub mod pattern;
 pub mod port_pattern;
@@ -46,7 +52,10 @@ mod port_set;
 pub mod rule;
 pub mod rules;
 pub mod sight;
+mod stars;
+mod tally;
 pub mod tap;
+mod timeless;
 pub mod verdict;
 mod watch;
 mod words;
@@ -57,13 +66,17 @@ pub use error::{RulesError, UNKNOWN_NAME};
 pub use event::read_entry;
 pub use fault::TraceError;
 pub use judging::{Cut, Judged, judge};
+pub use junit::{SUITES_HEAD, SUITES_TAIL, put_suite};
 pub use lines::ReadFault;
 pub use location::{RuleFault, RuleKey, RulesLocation, key_text, pattern_keys, rules_location};
 pub use meeting::{is_at, meets};
 pub use parting::{Difference, part};
-pub use pattern::{Comparison, Condition, Pattern, Way, pattern_of};
-pub use port_pattern::PortPattern;
-pub use rule::{Need, Rule};
+pub use pattern::{
+    Comparison, Condition, Operand, Pattern, PatternFault, PatternPart, Way, pattern_fault,
+    pattern_of,
+};
+pub use port_pattern::{PortForm, PortPattern};
+pub use rule::{Need, Pairing, Rule};
 pub use rules::{MOST_RULES, read_rules};
 pub use tap::{Of, are_well, plan, put_points};
 pub use verdict::{Breach, Fault, Verdict};

@@ -5,9 +5,9 @@ ghost use Rattle.toml.specs.View.{table_view, view};
 ghost use Rattle.fb_expect.specs.Drafts.{text_of};
 ghost use Rattle.fb_expect.specs.Locations as spec;
 
-use crate::document::{Draft, NeedDraft, draft_of, drafts_of, rules_in};
+use crate::document::{Draft, NeedDraft, draft_of, drafts_of, rules_in, text_values};
 use crate::rule::Need;
-use crate::rules::{MOST_RULES, is_pattern, may_be_pattern, may_within, need_of};
+use crate::rules::{MOST_RULES, has_names, is_pattern, may_be_pattern, may_within, need_of};
 use fb_types::MOST_BYTES;
 use std::alloc::{AllocError, Global};
 use toml::{Table, Value};
@@ -28,6 +28,8 @@ pub enum RuleKey {
     Least,
     Most,
     Every,
+    Same,
+    Each,
 }
 
 /// What is wrong with the shape of a rule.
@@ -110,6 +112,8 @@ pub fn key_text(key: RuleKey) -> &'static str
         RuleKey::Least => "least",
         RuleKey::Most => "most",
         RuleKey::Every => "every",
+        RuleKey::Same => "same",
+        RuleKey::Each => "each",
     }
 }
 
@@ -120,24 +124,17 @@ fn value_at<'a>(keys: &'a Table, key: RuleKey) -> Option<&'a Value>
     keys.get(key_text(key))
 }
 
-/// Whether the value at a key is a whole number.
-fn is_number(key: RuleKey) -> bool
-    ensures { result ≡ spec.is_number key }
-{
-    matches!(
-        key,
-        RuleKey::Within | RuleKey::Least | RuleKey::Most | RuleKey::Every
-    )
-}
-
 /// Whether a value is of the kind of a key.
 fn is_of_kind(key: RuleKey, value: &Value) -> bool
     ensures { result ≡ spec.is_of_kind key (view value.now) }
 {
-    if is_number(key) {
-        value.as_integer().is_some()
-    } else {
-        value.as_str().is_some()
+    match key {
+        RuleKey::Within | RuleKey::Least | RuleKey::Most | RuleKey::Every => {
+            value.as_integer().is_some()
+        }
+        RuleKey::Same => text_values(value).is_some(),
+        RuleKey::Each => value.as_bool().is_some(),
+        _ => value.as_str().is_some(),
     }
 }
 
@@ -173,11 +170,23 @@ fn either_fault(keys: &Table, first: RuleKey, second: RuleKey) -> Option<RuleFau
     }
 }
 
+/// What is wrong with the keys of a rule that say how it pairs lines. With `not` they are further keys.
+fn pairing_fault(keys: &Table) -> Option<RuleFault>
+    ensures { IfSome result (spec.IsFault (table_view keys.now)) }
+{
+    if value_at(keys, RuleKey::See).is_none() {
+        return None;
+    }
+    kind_fault(keys, RuleKey::Same).or(kind_fault(keys, RuleKey::Each))
+}
+
 /// What is wrong with a rule `after`.
 fn after_fault(keys: &Table) -> Option<RuleFault>
     ensures { IfSome result (spec.IsFault (table_view keys.now)) }
 {
-    key_fault(keys, RuleKey::Within).or(either_fault(keys, RuleKey::See, RuleKey::Not))
+    key_fault(keys, RuleKey::Within)
+        .or(either_fault(keys, RuleKey::See, RuleKey::Not))
+        .or(pairing_fault(keys))
 }
 
 /// What is wrong with a rule `count`.
@@ -296,7 +305,7 @@ fn second_key(need: NeedDraft) -> RuleKey
     }
 }
 
-/// The key of the first text of a rule that is no pattern.
+/// The key of the first text of a rule that is no pattern, or else that of `same` where a text is no name.
 fn pattern_key(alloc: Global, draft: &Draft<'_>) -> Result<Option<RuleKey>, AllocError>
     ensures { IfOk result (λ o. IfSome o (spec.IsPatternFault (text_of draft.now))) }
 {
@@ -308,6 +317,9 @@ fn pattern_key(alloc: Global, draft: &Draft<'_>) -> Result<Option<RuleKey>, Allo
     }
     if !may_be_pattern(alloc, draft.third)? {
         return Ok(Some(RuleKey::To));
+    }
+    if !has_names(alloc, draft)? {
+        return Ok(Some(RuleKey::Same));
     }
     Ok(None)
 }

@@ -20,7 +20,7 @@ fn is_word(byte: u8) -> bool
     is_letter(byte) || byte.is_ascii_digit()
 }
 
-fn are_words(text: &[u8]) -> bool
+pub(crate) fn are_words(text: &[u8]) -> bool
     ensures { result ≡ list_all spec.is_word text.now }
 {
     for byte in text {
@@ -56,7 +56,7 @@ pub(crate) fn is_path(text: &[u8]) -> bool
 }
 
 /// Whether a full stop is in a text.
-fn has_stop(text: &[u8]) -> bool
+pub(crate) fn has_stop(text: &[u8]) -> bool
     ensures { result ≡ spec.has_stop text.now }
 {
     for byte in text {

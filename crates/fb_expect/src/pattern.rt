@@ -1,13 +1,16 @@
 //! Patterns of lines, as they are written: `RESOURCE > PATH.EVENT VAR=value ..`.
 
-ghost use Rattle.std.specs.Prelude.{◌≡◌, ◌++◌, ◌∷◌, [], ℕ, List, IfOk, OnOk, filter, map, option_map};
+ghost use Rattle.std.specs.Prelude.{◌≡◌, ◌++◌, ◌∷◌, [], ℕ, List, IfOk, IfSome, OnOk, filter, map, option_map};
 ghost use Rattle.std.specs.Borrow.{Bor};
 ghost use Rattle.fb_expect.specs.Lists as lists;
+ghost use Rattle.fb_expect.specs.Needs as needs;
+ghost use Rattle.fb_expect.specs.PatternFaults as faults;
 ghost use Rattle.fb_expect.specs.Written as spec;
 
 use crate::names::{is_name, is_path, is_port};
 use crate::number::value_of;
-use crate::port_pattern::PortPattern;
+use crate::port_pattern::{PortForm, PortPattern};
+use crate::stars::is_star_port;
 use crate::words::{after_front, before, split_at_mark};
 use fb_types::{Items, Name, Value};
 use std::alloc::{AllocError, Global};
@@ -34,12 +37,20 @@ pub enum Comparison {
     AtLeast,
 }
 
+/// With what the value of a variable is compared.
+#[derive(Drop)]
+pub enum Operand {
+    Value(Value),
+    /// The value of this variable in the same line.
+    Variable(Name),
+}
+
 /// What a line has to say of a variable.
 #[derive(Drop)]
 pub struct Condition {
     pub variable: Name,
     pub comparison: Comparison,
-    pub value: Value,
+    pub operand: Operand,
 }
 
 /// Which lines are meant.
@@ -92,26 +103,33 @@ fn is_front(text: &[u8]) -> bool
     }
 }
 
-/// The text of a port's pattern, and whether it is open.
+/// The text of a port's pattern that has no open end, and how it is read.
+fn closed_port_of(word: &[u8]) -> Option<(&[u8], PortForm)>
+    ensures { option_map (λ p. (p.0.now, p.1)) result ≡ spec.closed_port_of word.now }
+{
+    if is_port(word) {
+        Some((word, PortForm::Whole))
+    } else if is_star_port(word) {
+        Some((word, PortForm::Stars))
+    } else {
+        None
+    }
+}
+
+/// The text of a port's pattern, and how it is read.
 #[tactic(auto, unfolding(crate::specs::Written::port_of))]
-fn port_of(word: &[u8]) -> Option<(&[u8], bool)>
+fn port_of(word: &[u8]) -> Option<(&[u8], PortForm)>
     ensures { option_map (λ p. (p.0.now, p.1)) result ≡ spec.port_of word.now }
 {
     match before(word, b"*") {
         Some(front) => {
             if is_front(front) {
-                Some((front, true))
+                Some((front, PortForm::Open))
             } else {
-                None
+                closed_port_of(word)
             }
         }
-        None => {
-            if is_port(word) {
-                Some((word, false))
-            } else {
-                None
-            }
-        }
+        None => closed_port_of(word),
     }
 }
 
@@ -164,28 +182,61 @@ fn is_equation(comparison: Comparison) -> bool
     matches!(comparison, Comparison::Equal | Comparison::Unequal)
 }
 
-/// Whether values of this kind can be compared so: truth values have no order.
-fn can_compare(comparison: Comparison, value: Value) -> bool
-    ensures { result ≡ spec.can_compare comparison value }
+/// A value or the name of a variable, as a condition has it.
+#[derive(Clone, Copy)]
+enum OperandText<'a> {
+    Value(Value),
+    Variable(&'a [u8]),
+}
+
+/// What a text is with which a variable is compared.
+fn operand_of(text: &[u8]) -> Option<OperandText<'_>>
+    ensures { option_map spec.seen_operand result ≡ spec.operand_of text.now }
 {
-    match value {
-        Value::Bool(_) => is_equation(comparison),
-        Value::Whole(_) => true,
+    match value_of(text) {
+        Some(value) => Some(OperandText::Value(value)),
+        None => {
+            if is_name(text) {
+                Some(OperandText::Variable(text))
+            } else {
+                None
+            }
+        }
     }
 }
 
-/// The condition that a word `VAR=value` is, with its variable as it is there.
+/// Whether a condition can be written so: truth values have no order.
+fn can_compare(comparison: Comparison, operand: OperandText<'_>) -> bool
+    ensures { result ≡ spec.can_compare comparison (spec.seen_operand operand.entry) }
+{
+    match operand {
+        OperandText::Value(Value::Bool(_)) => is_equation(comparison),
+        OperandText::Value(Value::Whole(_)) | OperandText::Variable(_) => true,
+    }
+}
+
+/// The condition that a word `VAR=value` or `VAR=VAR` is, with the names as they are there.
 #[tactic(auto, unfolding(crate::specs::Written::condition_parts))]
-fn condition_parts(word: &[u8]) -> Option<(&[u8], Comparison, Value)>
-    ensures { option_map (λ p. (p.0.now, p.1, p.2)) result ≡ spec.condition_parts word.now }
+fn condition_parts(word: &[u8]) -> Option<(&[u8], Comparison, OperandText<'_>)>
+    ensures { option_map (λ p. (p.0.now, p.1, spec.seen_operand p.2)) result ≡ spec.condition_parts word.now }
 {
     let (variable, rest) = at_comparison(word)?;
     let (comparison, text) = comparison_of(rest)?;
-    let value = value_of(text)?;
-    if is_name(variable) && can_compare(comparison, value) {
-        Some((variable, comparison, value))
+    let operand = operand_of(text)?;
+    if is_name(variable) && can_compare(comparison, operand) {
+        Some((variable, comparison, operand))
     } else {
         None
+    }
+}
+
+/// The operand of a condition.
+fn own_operand(alloc: Global, operand: OperandText<'_>) -> Result<Operand, AllocError>
+    ensures { IfOk result (λ o. o ≡ spec.seen_operand operand.entry) }
+{
+    match operand {
+        OperandText::Value(value) => Ok(Operand::Value(value)),
+        OperandText::Variable(name) => Ok(Operand::Variable(Name::from_slice(alloc, name)?)),
     }
 }
 
@@ -194,10 +245,10 @@ fn condition_of(alloc: Global, word: &[u8]) -> Result<Option<Condition>, AllocEr
     ensures { IfOk result (λ c. c ≡ spec.condition_of word.now) }
 {
     match condition_parts(word) {
-        Some((variable, comparison, value)) => Ok(Some(Condition {
+        Some((variable, comparison, operand)) => Ok(Some(Condition {
             variable: Name::from_slice(alloc, variable)?,
             comparison,
-            value,
+            operand: own_operand(alloc, operand)?,
         })),
         None => Ok(None),
     }
@@ -250,7 +301,7 @@ fn pattern_with(
     let Some(way) = way_of(sign) else {
         return Ok(None);
     };
-    let Some((port, is_open)) = port_of(port) else {
+    let Some((port, form)) = port_of(port) else {
         return Ok(None);
     };
     if !is_resource(resource) {
@@ -264,7 +315,7 @@ fn pattern_with(
         way,
         port: PortPattern {
             text: Items::from_slice(alloc, port)?,
-            is_open,
+            form,
         },
         conditions,
         text: Items::from_slice(alloc, text)?,
@@ -324,7 +375,8 @@ fn upper(byte: u8) -> u8
     }
 }
 
-fn in_upper(alloc: Global, text: &[u8]) -> Result<Vec<u8>, AllocError>
+/// A text in upper case.
+pub(crate) fn in_upper(alloc: Global, text: &[u8]) -> Result<Vec<u8>, AllocError>
     ensures { IfOk result (λ t. t.items ≡ map spec.upper text.now) }
 {
     let mut bytes = Vec::with_capacity(alloc, text.len())?;
@@ -341,4 +393,125 @@ pub fn pattern_of(alloc: Global, text: &str) -> Result<Option<Pattern>, AllocErr
     let text = in_upper(alloc, text.as_bytes())?;
     let words = words_of(alloc, text.as_slice())?;
     pattern_in(alloc, words.as_slice(), text.as_slice())
+}
+
+/// The condition that a line has a variable: its value is equal to itself.
+fn has_name(alloc: Global, name: &Name) -> Result<Condition, AllocError>
+    ensures { IfOk result (λ c. c ≡ needs.has_name name.now) }
+{
+    Ok(Condition {
+        variable: name.try_clone(alloc)?,
+        comparison: Comparison::Equal,
+        operand: Operand::Variable(name.try_clone(alloc)?),
+    })
+}
+
+/// Conditions, and that a line has each of these variables.
+fn with_each(
+    alloc: Global,
+    mut conditions: Items<Condition>,
+    names: &[Name],
+) -> Result<Items<Condition>, AllocError>
+    ensures { IfOk result (λ cs. cs ≡ conditions ++ map needs.has_name names.now) }
+{
+    for name in names {
+        let condition = has_name(alloc, name)?;
+        conditions.push(condition)?;
+    }
+    Ok(conditions)
+}
+
+impl Pattern {
+    /// The pattern with the condition that a line has each of these variables.
+    pub(crate) fn with_names(self, alloc: Global, names: &[Name]) -> Result<Pattern, AllocError>
+        ensures { IfOk result (λ p. p ≡ needs.with_names names.now self) }
+    {
+        let Pattern {
+            resource,
+            way,
+            port,
+            conditions,
+            text,
+        } = self;
+        Ok(Pattern {
+            resource,
+            way,
+            port,
+            conditions: with_each(alloc, conditions, names)?,
+            text,
+        })
+    }
+}
+
+/// What is wrong with a text that is no pattern.
+#[derive(Clone, Copy)]
+pub enum PatternPart {
+    /// There are fewer than three words.
+    Words,
+    Resource,
+    Sign,
+    Port,
+    Condition,
+}
+
+/// What is wrong with a text that is no pattern: the first word that is wrong, in upper case, and what it must be.
+#[derive(Drop)]
+pub struct PatternFault {
+    pub part: PatternPart,
+    pub word: Items<u8>,
+}
+
+/// The fault of a word.
+fn fault_at(alloc: Global, part: PatternPart, word: &[u8]) -> Result<PatternFault, AllocError>
+    ensures { IfOk result (λ f. f ≡ record { part = part; word = word.now }) }
+{
+    Ok(PatternFault {
+        part,
+        word: Items::from_slice(alloc, word)?,
+    })
+}
+
+/// The first word that is no condition.
+fn condition_fault(alloc: Global, words: &[&[u8]]) -> Result<Option<PatternFault>, AllocError>
+    ensures { IfOk result (λ o. IfSome o (faults.IsConditionFault (map (λ w. w.now) words.now))) }
+{
+    for word in words {
+        match condition_parts(word) {
+            Some(_) => {}
+            None => return Ok(Some(fault_at(alloc, PatternPart::Condition, word)?)),
+        }
+    }
+    Ok(None)
+}
+
+/// What is wrong with the words of a text that is no pattern.
+fn words_fault(alloc: Global, words: &[&[u8]]) -> Result<Option<PatternFault>, AllocError>
+    ensures { IfOk result (λ o. IfSome o (faults.IsWordsFault (map (λ w. w.now) words.now))) }
+{
+    let [resource, sign, port, conditions @ ..] = words else {
+        return Ok(Some(fault_at(alloc, PatternPart::Words, b"")?));
+    };
+    if !is_resource(resource) {
+        return Ok(Some(fault_at(alloc, PatternPart::Resource, resource)?));
+    }
+    if way_of(sign).is_none() {
+        return Ok(Some(fault_at(alloc, PatternPart::Sign, sign)?));
+    }
+    if port_of(port).is_none() {
+        return Ok(Some(fault_at(alloc, PatternPart::Port, port)?));
+    }
+    condition_fault(alloc, conditions)
+}
+
+/// What is wrong with a text that is no pattern.
+///
+/// # Errors
+///
+/// When memory runs out.
+pub fn pattern_fault(alloc: Global, text: &str) -> Result<Option<PatternFault>, AllocError>
+    ensures { IfOk result (λ o. IfSome o (faults.IsPatternFault text.now)) }
+{
+    let text = in_upper(alloc, text.as_bytes())?;
+    let words = words_of(alloc, text.as_slice())?;
+    words_fault(alloc, words.as_slice())
 }

@@ -8,6 +8,7 @@ ghost use Rattle.fb_expect.specs.Fingerprints as prints;
 use crate::entry::Entry;
 use crate::fingerprint::fingerprint_of;
 use crate::pattern::Pattern;
+use crate::port_pattern::PortForm;
 use crate::rule::{Need, Rule};
 
 /// For how many remainders of a print a set says whether ports with it matter.
@@ -43,10 +44,10 @@ fn with_port(mut marks: [bool; REMAINDERS], port: &[u8]) -> [bool; REMAINDERS]
 fn with_pattern(marks: [bool; REMAINDERS], pattern: &Pattern) -> [bool; REMAINDERS]
     ensures { Adds marks pattern.now result }
 {
-    if pattern.port.is_open {
-        return everything();
+    match pattern.port.form {
+        PortForm::Whole => with_port(marks, pattern.port.text.as_slice()),
+        PortForm::Open | PortForm::Stars => everything(),
     }
-    with_port(marks, pattern.port.text.as_slice())
 }
 
 /// The same for a pattern that may be absent.

@@ -1,7 +1,7 @@
 //! Rules: what a trace must satisfy.
 
 use crate::pattern::Pattern;
-use fb_types::Items;
+use fb_types::{Items, Name};
 
 /// What a rule demands. P is the first pattern of its rule, Q the second and R the third. Ticks are milliseconds.
 #[derive(Clone, Copy)]
@@ -30,6 +30,15 @@ pub enum Need {
     },
 }
 
+/// How a rule `after` with `see` pairs each P with a Q, if more is asked for than that a Q follows.
+#[derive(Drop)]
+pub struct Pairing {
+    /// The variables whose values are equal in both. The patterns of P and Q ask for them too.
+    pub same: Items<Name>,
+    /// Whether each Q is the answer to one P only, the earliest that waits.
+    pub is_each: bool,
+}
+
 /// A rule: what it demands of the lines that match its patterns.
 pub struct Rule {
     /// Its name, in UTF-8.
@@ -38,6 +47,7 @@ pub struct Rule {
     pub first: Pattern,
     pub second: Option<Pattern>,
     pub third: Option<Pattern>,
+    pub pairing: Option<Pairing>,
 }
 
 impl Drop for Rule {
@@ -48,6 +58,7 @@ impl Drop for Rule {
             first: _,
             second: _,
             third: _,
+            pairing: _,
         } = self;
     }
 }

@@ -2,21 +2,22 @@
 
 ghost use Rattle.std.specs.Prelude.{◌≡◌, IfOk, is_some, map, option_map};
 ghost use Rattle.std.specs.List.{list_all};
-ghost use Rattle.toml.specs.View.{table_view};
-ghost use Rattle.fb_expect.specs.Drafts.{text_of};
+ghost use Rattle.toml.specs.View.{table_view, view};
+ghost use Rattle.fb_expect.specs.Drafts.{text_in, text_of, texts_in};
 ghost use Rattle.fb_expect.specs.Lists as lists;
 ghost use Rattle.fb_expect.specs.Needs as needs;
 ghost use Rattle.fb_expect.specs.Reading as spec;
 ghost use Rattle.fb_expect.specs.Refusals.{Answers, no_document, or_refuse};
 ghost use Rattle.fb_expect.specs.Written as written;
 
-use crate::document::{Draft, NeedDraft, drafts_of};
+use crate::document::{Draft, NeedDraft, drafts_of, text_or_none};
 use crate::error::RulesError;
-use crate::pattern::{Pattern, pattern_of};
-use crate::rule::{Need, Rule};
-use fb_types::{Items, LATEST_TICK, MOST_BYTES};
+use crate::names::is_name;
+use crate::pattern::{Pattern, in_upper, pattern_of};
+use crate::rule::{Need, Pairing, Rule};
+use fb_types::{Items, LATEST_TICK, MOST_BYTES, Name};
 use std::alloc::{AllocError, Global};
-use toml::Table;
+use toml::{Table, Value};
 
 /// The most rules of a document.
 pub const MOST_RULES: usize = 1000;
@@ -138,7 +139,111 @@ pub(crate) fn may_be_pattern(alloc: Global, text: Option<&str>) -> Result<bool, 
     }
 }
 
-/// Whether all texts of a rule that must be patterns are patterns.
+/// The name that a value is, in any letter case, if it is a text and a name.
+fn name_of(alloc: Global, value: &Value) -> Result<Option<Name>, AllocError>
+    ensures { IfOk result (λ n. n ≡ needs.name_of (text_in (view value.now))) }
+{
+    let text = in_upper(alloc, text_or_none(value).as_bytes())?;
+    if is_name(text.as_slice()) {
+        Ok(Some(Name::from_slice(alloc, text.as_slice())?))
+    } else {
+        Ok(None)
+    }
+}
+
+/// The names that values are, if all are.
+fn names_of(alloc: Global, values: &[Value]) -> Result<Option<Items<Name>>, AllocError>
+    ensures { IfOk result (λ ns. ns ≡ lists.each needs.name_of (texts_in (map view values.now))) }
+{
+    let mut names = Items::new(alloc);
+    for value in values {
+        match name_of(alloc, value)? {
+            Some(name) => names.push(name)?,
+            None => return Ok(None),
+        }
+    }
+    Ok(Some(names))
+}
+
+/// The names that the texts of `same` are, if all are. For absent texts the answer is `Some(None)`.
+fn same_names(alloc: Global, draft: &Draft<'_>) -> Result<Option<Option<Items<Name>>>, AllocError>
+    ensures { IfOk result (λ ns. ns ≡ needs.names_of (text_of draft.now).same) }
+{
+    match draft.same {
+        Some(values) => match names_of(alloc, values)? {
+            Some(names) => Ok(Some(Some(names))),
+            None => Ok(None),
+        },
+        None => Ok(Some(None)),
+    }
+}
+
+/// How a rule pairs lines, by these names if there are any.
+fn pairing_by(alloc: Global, names: Option<Items<Name>>, is_each: bool) -> Option<Pairing>
+    ensures { result ≡ needs.pairing_by names is_each }
+{
+    match names {
+        Some(same) => Some(Pairing { same, is_each }),
+        None => {
+            if is_each {
+                Some(Pairing {
+                    same: Items::new(alloc),
+                    is_each,
+                })
+            } else {
+                None
+            }
+        }
+    }
+}
+
+/// How a rule pairs lines, if the texts of `same` are names.
+#[tactic(auto, unfolding(crate::specs::Needs::pairing_of))]
+fn pairing_of(alloc: Global, draft: &Draft<'_>) -> Result<Option<Option<Pairing>>, AllocError>
+    ensures { IfOk result (λ p. p ≡ needs.pairing_of (text_of draft.now)) }
+{
+    match same_names(alloc, draft)? {
+        Some(names) => Ok(Some(pairing_by(alloc, names, draft.turns.unwrap_or(false)))),
+        None => Ok(None),
+    }
+}
+
+/// The pattern with the condition that a line has the variables whose values a rule compares.
+fn with_names(
+    alloc: Global,
+    pattern: Pattern,
+    pairing: &Option<Pairing>,
+) -> Result<Pattern, AllocError>
+    ensures { IfOk result (λ p. p ≡ needs.with_names (needs.names_in pairing.now) pattern) }
+{
+    match pairing {
+        Some(pairing) => pattern.with_names(alloc, pairing.same.as_slice()),
+        None => Ok(pattern),
+    }
+}
+
+/// The same of a pattern that may be absent.
+fn may_with_names(
+    alloc: Global,
+    pattern: Option<Pattern>,
+    pairing: &Option<Pairing>,
+) -> Result<Option<Pattern>, AllocError>
+    ensures { IfOk result (λ o. o ≡ option_map (needs.with_names (needs.names_in pairing.now)) pattern) }
+{
+    match pattern {
+        Some(pattern) => Ok(Some(with_names(alloc, pattern, pairing)?)),
+        None => Ok(None),
+    }
+}
+
+/// Whether the texts of `same` are names.
+pub(crate) fn has_names(alloc: Global, draft: &Draft<'_>) -> Result<bool, AllocError>
+    ensures { IfOk result (λ b. b ≡ is_some (needs.names_of (text_of draft.now).same)) }
+{
+    Ok(same_names(alloc, draft)?.is_some())
+}
+
+/// Whether all texts of a rule that must be patterns are patterns, and those of `same` names.
 #[tactic(auto, unfolding(crate::specs::Needs::has_patterns))]
 fn has_patterns(alloc: Global, draft: &Draft<'_>) -> Result<bool, AllocError>
     ensures { IfOk result (λ b. b ≡ needs.has_patterns (text_of draft.now)) }
@@ -146,7 +251,8 @@ fn has_patterns(alloc: Global, draft: &Draft<'_>) -> Result<bool, AllocError>
     let first = is_pattern(alloc, draft.first)?;
     let second = may_be_pattern(alloc, draft.second)?;
     let third = may_be_pattern(alloc, draft.third)?;
-    Ok(first && second && third)
+    let same = has_names(alloc, draft)?;
+    Ok(first && second && third && same)
 }
 
 /// The same of all rules.
@@ -178,12 +284,16 @@ fn rule_of(alloc: Global, draft: &Draft<'_>) -> Result<Option<Rule>, AllocError>
     let Some(third) = may_pattern(alloc, draft.third)? else {
         return Ok(None);
     };
+    let Some(pairing) = pairing_of(alloc, draft)? else {
+        return Ok(None);
+    };
     Ok(Some(Rule {
         name: Items::from_slice(alloc, draft.name.as_bytes())?,
         need,
-        first,
-        second,
+        first: with_names(alloc, first, &pairing)?,
+        second: may_with_names(alloc, second, &pairing)?,
         third,
+        pairing,
     }))
 }
 
@@ -236,7 +346,7 @@ fn of_document(alloc: Global, keys: &Table) -> Result<Items<Rule>, RulesError>
 /// - E40: more than 1 MiB.
 /// - E41: not TOML.
 /// - E42: a key that is missing, unknown or of the wrong kind.
-/// - E43: a text that is no pattern.
+/// - E43: a text that is no pattern, or one of `same` that is no name.
 /// - E44: a number out of its range.
 /// - E40: more than 1,000 rules.
 ///

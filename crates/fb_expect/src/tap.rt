@@ -1,17 +1,17 @@
 //! Reports in the form of the Test Anything Protocol, version 14.
 
-ghost use Rattle.std.specs.Prelude.{◌≡◌, ◌+◌, ◌*◌, ◌^◌, ◌<◌, ◌++◌, IfOk, OnOk, decimal, length, map, string_bytes};
+ghost use Rattle.std.specs.Prelude.{◌≡◌, ◌+◌, ◌*◌, ◌^◌, ◌<◌, ◌++◌, IfOk, OnOk, decimal, length, map, option_map, string_bytes};
 ghost use Rattle.fb_expect.specs.Reports as spec;
 
 use crate::judging::Judged;
 use crate::pattern::Pattern;
-use crate::rule::Rule;
+use crate::rule::{Need, Rule};
 use crate::sight::{Sight, Sights};
 use crate::verdict::{Breach, Fault, Verdict};
 use std::alloc::{AllocError, Global};
 
 /// Appends one text after the other to a text.
-fn put_all(text: &mut Vec<u8>, parts: &[&[u8]]) -> Result<(), AllocError>
+pub(crate) fn put_all(text: &mut Vec<u8>, parts: &[&[u8]]) -> Result<(), AllocError>
     ensures { OnOk result (text.new.items ≡ text.old.items ++ spec.joined (map (λ p. p.now) parts.now)) }
 {
     for part in parts {
@@ -88,7 +88,7 @@ fn numbered(alloc: Global, key: &[u8], value: u64) -> Result<Vec<u8>, AllocError
 }
 
 /// The message of a fault.
-fn message_of(fault: Fault) -> &'static [u8]
+pub(crate) fn message_of(fault: Fault) -> &'static [u8]
     ensures { result.now ≡ spec.message_of fault }
 {
     match fault {
@@ -190,17 +190,49 @@ fn undecided_block(alloc: Global, trace: &str) -> Result<Vec<u8>, AllocError>
     )
 }
 
-/// The end of a point's line, and the block after it.
-fn tail(
+/// The block of a rule that nothing decides.
+#[tactic(auto, unfolding(crate::specs::Reports::never_block))]
+fn never_block(alloc: Global, trace: &str) -> Result<Vec<u8>, AllocError>
+    ensures { IfOk result (λ t. t.items ≡ spec.never_block trace.now) }
+{
+    let message = quoted_line(
+        alloc,
+        b"message",
+        b"never applied: no line of the trace decides this rule",
+    )?;
+    let trace = quoted_line(alloc, b"trace", trace.as_bytes())?;
+    join(
+        alloc,
+        &[b"  ---\n", message.as_slice(), trace.as_slice(), b"  ...\n"],
+    )
+}
+
+/// The end of the line of a rule that holds, and the block after it.
+fn tail_of_held(
     alloc: Global,
     is_strict: bool,
+    is_applied: bool,
     trace: &str,
-    verdict: Verdict,
 ) -> Result<Vec<u8>, AllocError>
-    ensures { IfOk result (λ t. t.items ≡ spec.tail is_strict trace.now verdict) }
+    ensures { IfOk result (λ t. t.items ≡ spec.tail_of_held is_strict is_applied trace.now) }
 {
-    match verdict {
-        Verdict::Holds => join(alloc, &[b"\n"]),
+    if is_applied {
+        return join(alloc, &[b"\n"]);
+    }
+    if is_strict {
+        let block = never_block(alloc, trace)?;
+        join(alloc, &[b"\n", block.as_slice()])
+    } else {
+        join(alloc, &[b" # SKIP never applied\n"])
+    }
+}
+
+/// The end of a point's line, and the block after it.
+fn tail(alloc: Global, is_strict: bool, trace: &str, judged: &Judged) -> Result<Vec<u8>, AllocError>
+    ensures { IfOk result (λ t. t.items ≡ spec.tail is_strict trace.now judged.now.verdict judged.now.decided) }
+{
+    match judged.verdict {
+        Verdict::Holds => tail_of_held(alloc, is_strict, judged.decided != 0, trace),
         Verdict::Broken(breach) => {
             let block = breach_block(alloc, trace, breach)?;
             join(alloc, &[b"\n", block.as_slice()])
@@ -216,22 +248,83 @@ fn tail(
     }
 }
 
+/// The word after a count.
+fn times(count: u64) -> &'static [u8]
+    ensures { result.now ≡ spec.times count }
+{
+    if count == 1 { b" time" } else { b" times" }
+}
+
+/// Whether a P of the rule may wait for the end of the trace.
+fn can_wait(need: Need) -> bool
+    ensures { result ≡ spec.can_wait need }
+{
+    matches!(need, Need::See { .. } | Need::Not { .. })
+}
+
+/// Whether the last P is not decided.
+fn is_last_open(need: Need, verdict: Verdict) -> bool
+    ensures { result ≡ spec.is_last_open need verdict }
+{
+    match verdict {
+        Verdict::Undecided => can_wait(need),
+        Verdict::Holds | Verdict::Broken(_) => false,
+    }
+}
+
+/// Appends how often a rule was decided.
+fn put_how_often(
+    alloc: Global,
+    text: &mut Vec<u8>,
+    need: Need,
+    judged: &Judged,
+) -> Result<(), AllocError>
+    ensures { OnOk result (text.new.items ≡ text.old.items ++ spec.how_often need judged.now) }
+{
+    let digits = digits_of(alloc, u128::from(judged.decided))?;
+    let times = times(judged.decided);
+    if is_last_open(need, judged.verdict) {
+        put_all(
+            text,
+            &[
+                b"# applied ",
+                digits.as_bytes(),
+                times,
+                b", the last is undecided\n",
+            ],
+        )
+    } else {
+        put_all(text, &[b"# decided ", digits.as_bytes(), times, b"\n"])
+    }
+}
+
+/// The words for what a trace does not have of a pattern.
+fn lack_of(sight: Sight) -> Option<&'static [u8]>
+    ensures { option_map (λ w. w.now) result ≡ spec.lack_of sight }
+{
+    match sight {
+        Sight::Nothing => Some(b"# no line of the trace is of: "),
+        Sight::Port => Some(b"# no such line of the trace has the variables of: "),
+        Sight::Named => Some(b"# no such line of the trace has values of these kinds: "),
+        Sight::Fitting => Some(b"# no such line of the trace meets: "),
+        Sight::Met => None,
+    }
+}
+
+/// Appends a line of these words and a pattern.
+fn put_lack(text: &mut Vec<u8>, words: &[u8], pattern: &[u8]) -> Result<(), AllocError>
+    ensures { OnOk result (text.new.items ≡ text.old.items ++ spec.lack words.now pattern.now) }
+{
+    put_all(text, &[words, pattern, b"\n"])
+}
+
 /// Appends a line that says what a trace does not have of a pattern, or nothing.
 fn put_comment(text: &mut Vec<u8>, pattern: &Pattern, sight: Sight) -> Result<(), AllocError>
     ensures { OnOk result (text.new.items ≡ text.old.items ++ spec.comment pattern.now sight) }
 {
-    let of = pattern.text.as_slice();
-    match sight {
-        Sight::Nothing => put_all(text, &[b"# no line of the trace is of: ", of, b"\n"]),
-        Sight::Port => put_all(
-            text,
-            &[
-                b"# no such line of the trace has the variables of: ",
-                of,
-                b"\n",
-            ],
-        ),
-        Sight::All => Ok(()),
+    match lack_of(sight) {
+        Some(words) => put_lack(text, words, pattern.text.as_slice()),
+        None => Ok(()),
     }
 }
 
@@ -258,12 +351,12 @@ fn put_comments(text: &mut Vec<u8>, rule: &Rule, sights: Sights) -> Result<(), A
         .and(put_may_comment(text, &rule.third, sights.third))
 }
 
-/// Whether a verdict is well.
-fn is_well(is_strict: bool, verdict: Verdict) -> bool
-    ensures { result ≡ spec.is_well is_strict verdict }
+/// Whether the result of a rule is well.
+pub(crate) fn is_well(is_strict: bool, judged: &Judged) -> bool
+    ensures { result ≡ spec.is_well is_strict judged.now }
 {
-    match verdict {
-        Verdict::Holds => true,
+    match judged.verdict {
+        Verdict::Holds => !(is_strict && judged.decided == 0),
         Verdict::Undecided => !is_strict,
         Verdict::Broken(_) => false,
     }
@@ -274,7 +367,7 @@ pub fn are_well(is_strict: bool, judged: &[Judged]) -> bool
     ensures { result ≡ spec.are_well is_strict judged.now }
 {
     for one in judged {
-        if !is_well(is_strict, one.verdict) {
+        if !is_well(is_strict, one) {
             return false;
         }
     }
@@ -293,10 +386,10 @@ fn put_point(
 ) -> Result<(), AllocError>
     ensures { OnOk result (text.new.items ≡ text.old.items ++ spec.point is_strict of.entry number rule.now judged.now) }
 {
-    let verdict = judged.verdict;
-    let head = head(alloc, is_well(is_strict, verdict), number, rule, of)?;
-    let tail = tail(alloc, is_strict, of.trace, verdict)?;
-    put_all(text, &[head.as_slice(), tail.as_slice()]).and(put_comments(text, rule, judged.sights))
+    let head = head(alloc, is_well(is_strict, judged), number, rule, of)?;
+    let tail = tail(alloc, is_strict, of.trace, judged)?;
+    put_all(text, &[head.as_slice(), tail.as_slice()])?;
+    put_how_often(alloc, text, rule.need, judged).and(put_comments(text, rule, judged.sights))
 }
 
 /// The count of points of this many rules at this many traces.

@@ -84,7 +84,7 @@ fn conclude_last(within: u64, last: Option<u64>, end: End) -> Verdict
 }
 
 /// How many windows are over at an end.
-fn windows_over(every: Option<u64>, end: End) -> u64
+pub(crate) fn windows_over(every: Option<u64>, end: End) -> u64
     ensures { result ≡ spec.windows_over every end }
 {
     match every {

@@ -5,16 +5,19 @@ ghost use Rattle.std.specs.List.{slice_split};
 ghost use Rattle.fb_expect.specs.Words as spec;
 
 /// Whether a byte ends a word of a line: a blank or a line feed.
-fn is_end(byte: u8) -> bool {
+fn is_end(byte: u8) -> bool
+    ensures { result ≡ spec.is_end byte }
+{
     byte == b' ' || byte == b'\n'
 }
 
 /// The bytes before the first that ends a word, and the rest from that one on.
 pub(crate) fn cut(text: &[u8]) -> Option<(&[u8], &[u8])>
-    ensures { IfSome result (λ p. text.now ≡ p.0.now ++ p.1.now) }
+    ensures parts { IfSome result (λ p. text.now ≡ p.0.now ++ p.1.now) }
+    ensures exact { option_map (λ p. (p.0.now, p.1.now)) result ≡ spec.cut text.now }
 {
-    for (at, byte) in text.iter().enumerate() {
-        if is_end(*byte) {
+    for at in 0..text.len() {
+        if is_end(text[at]) {
             return Some((&text[..at], &text[at..]));
         }
     }

@@ -23,8 +23,9 @@ if TYPE_CHECKING:
 Value = int | bool
 # A point of a report of `fbsim expect`, with the block and the comments after it.
 POINT = re.compile(
-    r"^(not )?ok \d+ - (.*?)( # SKIP undecided)?\n"
+    r"^(not )?ok \d+ - (.*?)(?: # SKIP (undecided|never applied))?\n"
     r'(?:  ---\n  message: "(.*)"\n  trace: .*\n(?:  line: (\d+)\n  tick: (\d+)\n)?  \.\.\.\n)?'
+    r"# (?:decided|applied) (\d+) times?(?:, .*)?\n"
     r"((?:# .*\n)*)", re.MULTILINE
 )
 
@@ -225,7 +226,7 @@ class Trace(Lines):
     def expect(self, rules: str | os.PathLike[str], strict: bool = False) -> Report:
         """Checks the rules of a file by `fbsim expect`, and raises `RulesBroken` if one does not hold.
 
-        With `strict`, an undecided rule counts as broken.
+        With `strict`, a rule that is undecided or never applied counts as broken.
         """
         report = check_rules(self, rules, strict)
         if report.broken:
@@ -238,9 +239,9 @@ class Trace(Lines):
 
 
 class Verdict(NamedTuple):
-    """What a rule comes to: kept, broken or undecided. A broken one has a message, and the line at which it breaks.
+    """What a rule comes to: kept, broken, undecided or never applied. A broken one has a message, and the line at which it breaks.
 
-    `notes` says which patterns no line of the trace can match.
+    `decided` is how often the rule was decided, and `notes` says which patterns no line of the trace meets.
     """
 
     rule: str
@@ -250,6 +251,7 @@ class Verdict(NamedTuple):
     tick: int | None = None
     text: str = ""
     notes: tuple[str, ...] = ()
+    decided: int = 0
 
     def __str__(self) -> str:
         place = "" if self.line is None else f" at line {self.line}, tick {self.tick}: {self.text}"
@@ -262,7 +264,7 @@ class Report(NamedTuple):
     verdicts: tuple[Verdict, ...]
 
     def of(self, verdict: str) -> list[Verdict]:
-        """Returns the rules that are kept, broken or undecided."""
+        """Returns the rules that are kept, broken, undecided or never applied."""
         return [it for it in self.verdicts if it.verdict == verdict]
 
     @property
@@ -282,9 +284,9 @@ def read_report(text: str, trace: Trace) -> Report:
     verdicts = []
     for it in points:
         line_number, tick = (int(it[k]) if it[k] else None for k in (5, 6))
-        verdict, rule = "broken" if it[1] else "undecided" if it[3] else "kept", re.sub(r"\\([\\#])", r"\1", it[2])
-        notes = tuple(note[2:] for note in it[7].splitlines())
-        verdicts.append(Verdict(rule, verdict, it[4] or "", line_number, tick, wanted.get(line_number or 0, ""), notes))
+        verdict, rule = "broken" if it[1] else it[3] or "kept", re.sub(r"\\([\\#])", r"\1", it[2])
+        notes = tuple(note[2:] for note in it[8].splitlines())
+        verdicts.append(Verdict(rule, verdict, it[4] or "", line_number, tick, wanted.get(line_number or 0, ""), notes, int(it[7])))
     return Report(tuple(verdicts))
 
 

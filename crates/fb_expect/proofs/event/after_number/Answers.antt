@@ -12,5 +12,5 @@ number most text digits rest (Some r) parts is blank =
 
 pub returns-then-is_number : goal.returns-then-is_number
 returns-then-is_number c =
-    number c.args.most c.args.text.now c.in_ok-digits.digits.now c.in_ok-digits.rest.now c.after_front.result c.in_ok-digits.ensures (sym c.is_number.ensures ∙ c.if-is_number.true)
+    number c.args.most c.args.text.now c.in_ok-digits.digits.now c.in_ok-digits.rest.now c.after_front.result c.in_ok-digits.ensures.parts (sym c.is_number.ensures ∙ c.if-is_number.true)
     c.after_front.ensures.parts

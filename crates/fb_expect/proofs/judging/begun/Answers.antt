@@ -27,7 +27,7 @@ loop-rule-preserved c =
     let one = c.push_reserved.ensures in
     record {
       rules = begun-one ws _ c.args.rules.now c.loop-rule.rule-index c.rule-item.result _ c.loop-rule-test.true c.rule-item.is inv.rules one.items;
-      follow = all-one [] ws _ _ one.items inv.follow (record { knows = c.begin.ensures; saw = c.begin_sights.ensures; covers = c.ports_of.ensures });
+      follow = all-one [] ws _ _ one.items inv.follow (record { knows = c.state_of.ensures; counts = c.begin_tally.ensures; saw = c.begin_sights.ensures; covers = c.ports_of.ensures });
       len = omega (arith, inv.len, one.len);
       room = omega (arith, inv.room, one.capacity);
     }

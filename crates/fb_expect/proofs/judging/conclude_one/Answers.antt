@@ -2,4 +2,4 @@ use Rattle.fb_expect.proofs.Following.{concluded}
 use Rattle.fb_expect.proofs.judging.conclude_one.Goals as goal
 
 pub returns : goal.returns
-returns c = concluded c.args.number c.args.end c.args.watcher.now c.verdict_of.result c.verdict_of.ensures
+returns c = concluded c.args.number c.args.end c.args.watcher.now c.verdict_at.result c.decided_by.result c.verdict_at.ensures c.decided_by.ensures

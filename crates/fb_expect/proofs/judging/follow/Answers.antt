@@ -30,16 +30,16 @@ loop-number-preserved g c =
     let new = c.take_line.new.watchers in
     let value = c.as_mut_slice.ensures.value in
     let is : take c.loop-number.watchers.len (new ++ drop (length new) ws) ≡ new =
-    front new (drop (length new) ws) c.loop-number.watchers.len (as-many new c.as_mut_slice.result.now c.loop-number.watchers.len c.take_line.ensures.rules c.as_mut_slice.ensures.len)
+    front new (drop (length new) ws) c.loop-number.watchers.len (as-many new c.as_mut_slice.result.now c.loop-number.watchers.len c.in_ok-take_line-in-Some-read_entry.ensures.rules c.as_mut_slice.ensures.len)
     in
     let is_line : IsLine form line (event_of entry) =
     subst (λ (t : Text). IsLine form t (event_of entry)) c.as_slice-in-loop-number-2.ensures.value c.in-Some-read_entry.ensures
     in
-    let moves : AllMove number (event_of entry) ws new = subst (λ (vs : List Watcher). AllMove number (event_of entry) vs new) value c.take_line.ensures.moves in
+    let moves : AllMove number (event_of entry) ws new = subst (λ (vs : List Watcher). AllMove number (event_of entry) vs new) value c.in_ok-take_line-in-Some-read_entry.ensures.moves in
     record {
       read =
           subst (λ (vs : List Watcher). IsRead form input left next entry.tick (number + 1) vs) (sym is)
           (read-one form input (g.R.Read.remaining c.loop-number.input) left line next c.loop-number.tick number (event_of entry) ws new c.loop-number.invariant.read is_line
           c.if-tick-entry.true moves c.in_ok-next_line-2.ensures.read c.in_ok-next_line-2.ensures.one);
-      rules = ap rules_of is ∙ c.take_line.ensures.rules ∙ ap rules_of value ∙ c.loop-number.invariant.rules;
+      rules = ap rules_of is ∙ c.in_ok-take_line-in-Some-read_entry.ensures.rules ∙ ap rules_of value ∙ c.loop-number.invariant.rules;
     }

@@ -17,10 +17,10 @@ loop-watcher-preserved c =
     let lt : i < length ws = omega (arith, c.loop-watcher-test.true, c.loop-watcher.auto.watchers) in
     record {
       rules =
-          map-set_same (λ (w : Watcher). w.rule.now) ws i c.next.new.watcher c.watcher-item.result (ap (λ (r : Bor Rule). r.now) c.next.ensures.rule)
+          map-set_same (λ (w : Watcher). w.rule.now) ws i c.next.new.watcher c.watcher-item.result (ap (λ (r : Bor Rule). r.now) c.in_ok-next.ensures.rule)
           ∙ c.loop-watcher.invariant.rules;
       moves = λ es counted below all.
-          at-one c.args.number (event_of c.args.entry.now) es ws i c.watcher-item.result c.next.new.watcher lt c.next.ensures counted below
+          at-one c.args.number (event_of c.args.entry.now) es ws i c.watcher-item.result c.next.new.watcher lt c.in_ok-next.ensures counted below
           (c.loop-watcher.invariant.moves es counted below all);
     }
 

@@ -4,4 +4,4 @@ use Rattle.fb_expect.specs.Patterns.{is_found}
 use Rattle.fb_expect.proofs.meeting.are_found.Given as goal
 
 abbrev pub invariant-loop-condition : goal.invariant-loop-condition
-invariant-loop-condition l = list_all (λ c. is_found c l.must_meet l.values) l.conditions ≡ list_all (λ c. is_found c l.must_meet l.values) (drop l.condition-index l.conditions)
+invariant-loop-condition l = list_all (λ c. is_found c l.demand l.values) l.conditions ≡ list_all (λ c. is_found c l.demand l.values) (drop l.condition-index l.conditions)

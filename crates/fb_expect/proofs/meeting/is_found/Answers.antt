@@ -1,6 +1,7 @@
-use Rattle.std.proofs.Common.{sym, ap, ◌∙◌}
-use Rattle.std.specs.List.{list_any}
-use Rattle.fb_expect.specs.Patterns.{is_found_by}
+use Rattle.std.proofs.Common.{List, nat_eq, sym, ap, ◌∙◌}
+use Rattle.std.specs.List.{list_any, slice_split}
+use Rattle.fb_expect.specs.Patterns.{has_value, is_right_for, is_value_of}
+use Rattle.fb_expect.specs.Words.{Text}
 use Rattle.fb_expect.proofs.Parts.{any-first, any-last, part_shorter}
 use Rattle.fb_expect.proofs.meeting.is_found.Goals as goal
 
@@ -9,15 +10,24 @@ loop-word-smaller c = part_shorter 32 c.loop-word.rest.now _ _ c.in-Some-split_a
 
 pub loop-word-preserved : goal.loop-word-preserved
 loop-word-preserved c =
+    let a = c.args in
+    let words = slice_split (nat_eq 32) c.in-Some.words.now in
     c.loop-word.invariant
-    ∙ any-first (is_found_by c.args.condition.now c.args.must_meet) 32 c.loop-word.rest.now _ _ _ c.in-Some-split_at_mark.ensures (sym c.is_found_by.ensures ∙ c.if-is_found_by.false)
+    ∙ any-first (is_value_of a.condition.now.variable (is_right_for a.condition.now a.demand words)) 32 c.loop-word.rest.now _ _ _ c.in-Some-split_at_mark.ensures
+    (sym c.is_found_by.ensures ∙ c.if-is_found_by.false)
 
 pub returns-then-is_found_by : goal.returns-then-is_found_by
 returns-then-is_found_by c =
-    sym (ap (list_any (is_found_by c.args.condition.now c.args.must_meet)) c.in-Some.ensures.some ∙ c.loop-word.invariant
-    ∙ any-first (is_found_by c.args.condition.now c.args.must_meet) 32 c.loop-word.rest.now _ _ _ c.in-Some-split_at_mark.ensures (sym c.is_found_by.ensures ∙ c.if-is_found_by.true))
+    let a = c.args in
+    let words = slice_split (nat_eq 32) c.in-Some.words.now in
+    sym (ap (λ (ws : List Text). has_value a.condition.now.variable (is_right_for a.condition.now a.demand ws) ws) c.in-Some.ensures.some ∙ c.loop-word.invariant
+    ∙ any-first (is_value_of a.condition.now.variable (is_right_for a.condition.now a.demand words)) 32 c.loop-word.rest.now _ _ _ c.in-Some-split_at_mark.ensures
+    (sym c.is_found_by.ensures ∙ c.if-is_found_by.true))
 
 pub returns : goal.returns
 returns c =
-    c.is_found_by-2.ensures ∙ sym (ap (list_any (is_found_by c.args.condition.now c.args.must_meet)) c.in-Some.ensures.some ∙ c.loop-word.invariant
-    ∙ any-last (is_found_by c.args.condition.now c.args.must_meet) 32 c.loop-word.rest.now c.in_default-split_at_mark.ensures)
+    let a = c.args in
+    let words = slice_split (nat_eq 32) c.in-Some.words.now in
+    c.is_found_by-2.ensures
+    ∙ sym (ap (λ (ws : List Text). has_value a.condition.now.variable (is_right_for a.condition.now a.demand ws) ws) c.in-Some.ensures.some ∙ c.loop-word.invariant
+    ∙ any-last (is_value_of a.condition.now.variable (is_right_for a.condition.now a.demand words)) 32 c.loop-word.rest.now c.in_default-split_at_mark.ensures)

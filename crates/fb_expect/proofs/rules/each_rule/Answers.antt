@@ -4,7 +4,7 @@ use Rattle.fb_expect.specs.Drafts.{text_of}
 use Rattle.fb_expect.specs.Lists.{each}
 use Rattle.fb_expect.specs.Needs.{rule_of}
 use Rattle.fb_expect.specs.declared.rule.Rule.{Rule}
-use Rattle.fb_expect.proofs.Each.{done, fails, more, next_at, with_front}
+use Rattle.fb_expect.proofs.Each.{done, fails, more, next_seen, with_front}
 use Rattle.fb_expect.proofs.rules.each_rule.Goals as goal
 
 pub loop-draft-preserved : goal.loop-draft-preserved
@@ -12,13 +12,13 @@ loop-draft-preserved c =
     let ds = c.args.drafts.now in
     let i = c.loop-draft.draft-index in
     subst (λ (rs : List Rule). each rule_of (map text_of ds) ≡ with_front rs (each rule_of (map text_of (drop (i + 1) ds)))) (sym c.in_ok-push-in-Some.ensures.ok)
-    (more rule_of c.loop-draft.rules _ (map text_of (drop (i + 1) ds)) _ _ _ (next_at text_of ds i _ c.loop-draft-test.true) (sym c.in_ok-rule.ensures ∙ c.in-Some.is) c.loop-draft.invariant)
+    (more rule_of c.loop-draft.rules _ (map text_of (drop (i + 1) ds)) _ _ _ (next_seen text_of ds i c.draft-item.result c.loop-draft-test.true c.draft-item.is) (sym c.in_ok-rule.ensures ∙ c.in-Some.is) c.loop-draft.invariant)
 
 pub returns-in-None : goal.returns-in-None
 returns-in-None c =
     let ds = c.args.drafts.now in
     let i = c.loop-draft.draft-index in
-    fails rule_of c.loop-draft.rules _ (map text_of (drop (i + 1) ds)) _ _ (next_at text_of ds i _ c.loop-draft-test.true) (sym c.in_ok-rule.ensures ∙ c.in-None.is) c.loop-draft.invariant
+    fails rule_of c.loop-draft.rules _ (map text_of (drop (i + 1) ds)) _ _ (next_seen text_of ds i c.draft-item.result c.loop-draft-test.true c.draft-item.is) (sym c.in_ok-rule.ensures ∙ c.in-None.is) c.loop-draft.invariant
 
 pub returns : goal.returns
 returns c =

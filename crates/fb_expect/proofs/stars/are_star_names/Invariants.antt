@@ -1,0 +1,10 @@
+use Rattle.std.proofs.Common.{◌≡◌, length, nat_eq}
+use Rattle.std.specs.List.{list_all, slice_split}
+use Rattle.fb_expect.specs.Stars.{is_star_name}
+use Rattle.fb_expect.proofs.stars.are_star_names.Given as goal
+
+abbrev pub invariant-loop-name : goal.invariant-loop-name
+invariant-loop-name l = list_all is_star_name (slice_split (nat_eq 46) l.text) ≡ list_all is_star_name (slice_split (nat_eq 46) l.rest)
+
+abbrev pub decreases-loop-name : goal.decreases-loop-name
+decreases-loop-name l = length l.rest
