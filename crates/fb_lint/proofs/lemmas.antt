@@ -1,4 +1,6 @@
 pub mod WarningLists
 pub mod Edges
 pub mod ReachedStates
+pub mod Tests
 pub mod WarningsHold
+pub mod WarningsListed

@@ -11,7 +11,7 @@ use Rattle.fb_types.specs.declared.text.Expr.{Expr}
 use Rattle.fb_check_names.specs.declared.ports.PortKind.TheVariants as kind
 use Rattle.fb_lint.specs.Findings.{when, each_from}
 use Rattle.fb_lint.specs.declared.warning.Warning.{Warning}
-use Rattle.fb_lint.specs.declared.warning.Warning.TheVariants.{FinalState, ShadowedTransition, UnnamedEvent, UnusedAlgorithm, UnusedPort}
+use Rattle.fb_lint.specs.declared.warning.Warning.TheVariants.{FinalState, ShadowedTransition, UnusedAlgorithm, UnusedPort}
 
 -- a name that may be left out is this one
 abbrev pub is_named : Name → Option Name → Bool
@@ -49,17 +49,6 @@ shadowed_transition b xs k x = when (list_any (shadows x) (take k xs)) (Shadowed
 
 abbrev pub shadowed_transitions : (block : ℕ) → List Transition → List Warning
 shadowed_transitions b xs = each_from (shadowed_transition b xs) 0 xs
-
--- ---- L08
-
-abbrev pub names_event : (event : Name) → Transition → Bool
-names_event e x = is_named e x.condition.event
-
-abbrev pub unnamed_event : (block : ℕ) → List Transition → ℕ → EventPort → List Warning
-unnamed_event b xs k e = when (not (list_any (names_event e.name) xs)) (UnnamedEvent b k)
-
-abbrev pub unnamed_events : (block : ℕ) → List Transition → List EventPort → List Warning
-unnamed_events b xs es = each_from (unnamed_event b xs) 0 es
 
 -- ---- L09
 

@@ -5,7 +5,15 @@ pub mod Charts
 pub mod Reached
 pub mod Networks
 pub mod Reads
+pub mod Events
+pub mod Parameters
+pub mod Outputs
+pub mod Instances
+pub mod Circles
+pub mod Constants
+pub mod Statements
 pub mod Warnings
 pub mod Conditions
+pub mod Subjects
 pub mod Lines
 pub mod Positions

@@ -1,10 +1,10 @@
 -- Data inputs of instances that nothing feeds, block types without an instance, and links that nothing crosses (IEC 61499-1, 5.3
 -- and 7; links are this project's profile).
-use Rattle.std.specs.Prelude.{ℕ, List, [], Bool, false, not, ◌&&◌, ◌||◌, Option, Some, None, option_map}
+use Rattle.std.specs.Prelude.{ℕ, List, [], Bool, false, not, ◌&&◌, ◌||◌, Option, Some, None, option_map, is_some, codes}
 use Rattle.std.specs.List.{list_any}
 use Rattle.fb_types.specs.Names.{Name, same_name}
 use Rattle.fb_types.specs.Blocks.{among, ports_of}
-use Rattle.fb_types.specs.Flat.{type_name, type_named}
+use Rattle.fb_types.specs.Flat.{type_named}
 use Rattle.fb_types.specs.declared.deploy.Link.{Link}
 use Rattle.fb_types.specs.declared.deploy.ResourceEntry.{ResourceEntry}
 use Rattle.fb_types.specs.declared.deploy.Setting.{Setting}
@@ -43,8 +43,23 @@ sets i v s = same_name i s.instance && list_any (is_setting v) s.settings
 abbrev pub is_fed : List Connection → List Stimulus → Instance → (input : Name) → Bool
 is_fed cs ss i v = list_any (leads_to i.name v) cs || (list_any (is_parameter v) i.parameters || list_any (sets i.name v) ss)
 
+-- the connection comes from the data output of the instance
+abbrev pub comes_from : (instance output : Name) → Connection → Bool
+comes_from i v c = same_name v c.from.port && is_named i c.from.component
+
+-- a counter whose Q no connection reads: its limit makes no difference
+abbrev pub is_plain_counter : List Connection → Instance → Bool
+is_plain_counter cs i = same_name (codes "E_CTU") i.block_type && not (list_any (comes_from i.name (codes "Q")) cs)
+
+-- the input has a declared value, or it is the limit of such a counter
+abbrev pub may_stay : List Connection → Instance → Variable → Bool
+may_stay cs i v = is_some v.initial || is_plain_counter cs i
+
+abbrev pub is_forgotten : List Connection → List Stimulus → Instance → Variable → Bool
+is_forgotten cs ss i v = not (is_fed cs ss i v.name) && not (may_stay cs i v)
+
 abbrev pub unfed_input : Site → List Connection → List Stimulus → ℕ → Instance → ℕ → Variable → List Warning
-unfed_input at cs ss k i j v = when (not (is_fed cs ss i v.name)) (UnfedInput at k j)
+unfed_input at cs ss k i j v = when (is_forgotten cs ss i v) (UnfedInput at k j)
 
 abbrev pub unfed_inputs : Site → List Connection → List Stimulus → ℕ → Instance → List Variable → List Warning
 unfed_inputs at cs ss k i vs = each_from (unfed_input at cs ss k i) 0 vs
@@ -72,8 +87,8 @@ has_inside n (block.Composite t) = list_any (is_of_type n) t.network.instances
 abbrev pub is_used_type : Library → (of : Name) → Bool
 is_used_type lib n = list_any (is_of_type n) lib.application.network.instances || list_any (has_inside n) lib.blocks
 
-abbrev pub unused_type : Library → ℕ → BlockType → List Warning
-unused_type lib k b = when (not (is_used_type lib (type_name b))) (UnusedType k)
+abbrev pub unused_type : Library → (of : Name) → (block : ℕ) → List Warning
+unused_type lib n k = when (not (is_used_type lib n)) (UnusedType k)
 
 -- ---- L13
 

@@ -1,5 +1,5 @@
-//! States that no transition leaves (L06), transitions after one that always clears (L07), event inputs that no
-//! transition names (L08), algorithms that no action runs (L09), and event outputs that no action emits (L11).
+//! States that no transition leaves (L06), transitions after one that always clears (L07), algorithms that no
+//! action runs (L09), and event outputs that no action emits (L11).
 
 ghost use Rattle.std.specs.Prelude.{◌≡◌, ◌++◌, OnOk};
 ghost use Rattle.std.specs.List.{list_any};
@@ -40,7 +40,8 @@ pub(crate) fn push_final_states(
     Ok(())
 }
 
-fn has_no_guard(guard: &Option<Expr>) -> bool
+/// Whether there is no guard.
+pub(crate) fn has_no_guard(guard: &Option<Expr>) -> bool
     ensures { result ≡ spec.has_no_guard guard.now }
 {
     match guard {
@@ -86,34 +87,6 @@ pub(crate) fn push_shadowed_transitions(
         let is_behind = is_shadowed(later, &transitions[..transition]);
         let warning = Warning::ShadowedTransition { block, transition };
         push_if(all, is_behind, warning)?;
-    }
-    Ok(())
-}
-
-/// Whether a transition names the event.
-fn is_event_named(transitions: &[Transition], event: &Name) -> bool
-    ensures { result ≡ list_any (spec.names_event event.now) transitions.now }
-{
-    for transition in transitions {
-        if is_named(event, &transition.condition.event) {
-            return true;
-        }
-    }
-    false
-}
-
-/// Adds the event inputs that no transition names.
-pub(crate) fn push_unnamed_events(
-    all: &mut Vec<Warning>,
-    block: usize,
-    transitions: &[Transition],
-    events: &[EventPort],
-) -> Result<(), AllocError>
-    ensures { OnOk result (all.new.items ≡ all.old.items ++ spec.unnamed_events block transitions.now events.now) }
-{
-    for (event, port) in events.iter().enumerate() {
-        let is_unnamed = !is_event_named(transitions, &port.name);
-        push_if(all, is_unnamed, Warning::UnnamedEvent { block, event })?;
     }
     Ok(())
 }

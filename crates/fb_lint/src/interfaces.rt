@@ -7,13 +7,14 @@ ghost use Rattle.fb_lint.specs.Interfaces as spec;
 
 use crate::findings::push_if;
 use crate::names::is_among;
+use crate::parameters::{Subject, is_given};
 use crate::warning::Warning;
 use fb_check_names::{Named, PortKind};
 use fb_types::{CompositeType, Connection, EventPort, Name, PortName, Variable};
 use std::alloc::AllocError;
 
 /// Whether one of the events has a variable WITH it.
-fn has_with(events: &[EventPort], variable: &Name) -> bool
+pub(crate) fn has_with(events: &[EventPort], variable: &Name) -> bool
     ensures { result ≡ list_any (spec.has_with variable.now) events.now }
 {
     for event in events {
@@ -24,18 +25,29 @@ fn has_with(events: &[EventPort], variable: &Name) -> bool
     false
 }
 
-/// Adds the data inputs that none of the event inputs samples.
+/// Whether none of the event inputs samples the data input, and it has no parameter at each instance.
+fn is_never_sampled(of: &Subject<'_>, events: &[EventPort], input: &Name) -> bool
+    ensures { result ≡ spec.is_never_sampled of.now.library.now of.now.name.now events.now input.now }
+{
+    !has_with(events, input) && !is_given(of, input)
+}
+
+/// Adds the data inputs that none of the event inputs samples, and that have no parameter at each instance.
 pub(crate) fn push_unsampled_inputs(
     all: &mut Vec<Warning>,
-    block: usize,
+    of: &Subject<'_>,
     events: &[EventPort],
     inputs: &[Variable],
 ) -> Result<(), AllocError>
-    ensures { OnOk result (all.new.items ≡ all.old.items ++ spec.unsampled_inputs block events.now inputs.now) }
+    ensures { OnOk result (all.new.items ≡ all.old.items ++ spec.unsampled_inputs of.now.library.now of.now.name.now of.now.block events.now inputs.now) }
 {
     for (input, variable) in inputs.iter().enumerate() {
-        let is_unsampled = !has_with(events, &variable.name);
-        push_if(all, is_unsampled, Warning::UnsampledInput { block, input })?;
+        let is_unsampled = is_never_sampled(of, events, &variable.name);
+        let warning = Warning::UnsampledInput {
+            block: of.block,
+            input,
+        };
+        push_if(all, is_unsampled, warning)?;
     }
     Ok(())
 }
@@ -60,7 +72,8 @@ fn joins(port_kind: PortKind, name: &Name, connection: &Connection) -> bool
     }
 }
 
-fn is_joined(port_kind: PortKind, name: &Name, connections: &[Connection]) -> bool
+/// Whether one of the connections joins the port.
+pub(crate) fn is_joined(port_kind: PortKind, name: &Name, connections: &[Connection]) -> bool
     ensures { result ≡ list_any (spec.joins port_kind name.now) connections.now }
 {
     for connection in connections {
@@ -93,6 +106,47 @@ fn push_unjoined<T: Named>(
     Ok(())
 }
 
+/// Whether a connection inside reads one of the variables.
+fn has_joined(connections: &[Connection], variables: &[Name]) -> bool
+    ensures { result ≡ list_any (spec.is_input_joined connections.now) variables.now }
+{
+    for variable in variables {
+        if is_joined(PortKind::Input, variable, connections) {
+            return true;
+        }
+    }
+    false
+}
+
+/// Whether an event connection inside comes from the event input, or a data connection from a variable WITH it.
+fn is_event_used(events: &[Connection], values: &[Connection], port: &EventPort) -> bool
+    ensures { result ≡ spec.is_event_used events.now values.now port.now }
+{
+    is_joined(PortKind::EventInput, &port.name, events) || has_joined(values, port.with.as_slice())
+}
+
+/// Adds the event inputs of a composite type that nothing inside uses.
+fn push_unused_events(
+    all: &mut Vec<Warning>,
+    block: usize,
+    events: &[Connection],
+    values: &[Connection],
+    ports: &[EventPort],
+) -> Result<(), AllocError>
+    ensures { OnOk result (all.new.items ≡ all.old.items ++ spec.unused_events block events.now values.now ports.now) }
+{
+    for (port, each) in ports.iter().enumerate() {
+        let is_unused = !is_event_used(events, values, each);
+        let warning = Warning::UnusedPort {
+            block,
+            port_kind: PortKind::EventInput,
+            port,
+        };
+        push_if(all, is_unused, warning)?;
+    }
+    Ok(())
+}
+
 /// Adds the ports of a composite type that no connection inside names.
 pub(crate) fn push_unjoined_ports(
     all: &mut Vec<Warning>,
@@ -105,7 +159,7 @@ pub(crate) fn push_unjoined_ports(
     let events = composite.network.event_connections.as_slice();
     let data = composite.network.data_connections.as_slice();
     let inputs = ports.event_inputs.as_slice();
-    push_unjoined(all, block, PortKind::EventInput, events, inputs)?;
+    push_unused_events(all, block, events, data, inputs)?;
     let outputs = ports.event_outputs.as_slice();
     push_unjoined(all, block, PortKind::EventOutput, events, outputs)?;
     let inputs = ports.inputs.as_slice();

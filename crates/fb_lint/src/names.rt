@@ -2,6 +2,7 @@
 
 ghost use Rattle.std.specs.Prelude.{◌≡◌};
 ghost use Rattle.fb_types.specs.Blocks.{among};
+ghost use Rattle.fb_types.specs.Names.{same_name};
 ghost use Rattle.fb_lint.specs.Findings.{names_are};
 ghost use Rattle.fb_lint.specs.Charts as spec;
 
@@ -39,4 +40,11 @@ pub(crate) fn is_named(name: &Name, given: &Option<Name>) -> bool
         Some(given) => name.is(given),
         None => false,
     }
+}
+
+/// Whether a name is the text, which is in upper case.
+pub(crate) fn is_called(name: &Name, text: &str) -> bool
+    ensures { result ≡ same_name text.now name.now }
+{
+    text.as_bytes() == name.as_bytes()
 }

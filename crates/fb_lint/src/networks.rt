@@ -6,7 +6,8 @@ ghost use Rattle.std.specs.List.{list_any};
 ghost use Rattle.fb_lint.specs.Networks as spec;
 
 use crate::findings::push_if;
-use crate::names::is_named;
+use crate::names::{is_called, is_named};
+use crate::parameters::Subject;
 use crate::warning::Warning;
 use fb_check_names::Site;
 use fb_read_positions::BlockTypes;
@@ -15,8 +16,8 @@ use fb_types::{
 };
 use std::alloc::AllocError;
 
-/// Whether one of the connections leads to the data input of the instance.
-fn has_source(connections: &[Connection], instance: &Name, input: &Name) -> bool
+/// Whether one of the connections leads to the input of the instance.
+pub(crate) fn has_source(connections: &[Connection], instance: &Name, input: &Name) -> bool
     ensures { result ≡ list_any (spec.leads_to instance.now input.now) connections.now }
 {
     for connection in connections {
@@ -27,7 +28,8 @@ fn has_source(connections: &[Connection], instance: &Name, input: &Name) -> bool
     false
 }
 
-fn has_parameter(parameters: &[Parameter], input: &Name) -> bool
+/// Whether one of the parameters is for the input.
+pub(crate) fn has_parameter(parameters: &[Parameter], input: &Name) -> bool
     ensures { result ≡ list_any (spec.is_parameter input.now) parameters.now }
 {
     for parameter in parameters {
@@ -61,6 +63,34 @@ fn has_stimulus(stimuli: &[Stimulus], instance: &Name, input: &Name) -> bool
     false
 }
 
+/// Whether one of the connections comes from the data output of the instance.
+fn is_read_at(connections: &[Connection], instance: &Name, output: &str) -> bool
+    ensures { result ≡ list_any (spec.comes_from instance.now output.now) connections.now }
+{
+    for connection in connections {
+        if is_called(&connection.from.port, output)
+            && is_named(instance, &connection.from.component)
+        {
+            return true;
+        }
+    }
+    false
+}
+
+/// Whether the instance is a counter whose Q no connection reads: its limit makes no difference.
+fn is_plain_counter(connections: &[Connection], instance: &Instance) -> bool
+    ensures { result ≡ spec.is_plain_counter connections.now instance.now }
+{
+    is_called(&instance.block_type, "E_CTU") && !is_read_at(connections, &instance.name, "Q")
+}
+
+/// Whether a data input may stay as it begins: it has a declared value, or its instance is a counter without a limit.
+fn may_stay(connections: &[Connection], instance: &Instance, input: &Variable) -> bool
+    ensures { result ≡ spec.may_stay connections.now instance.now input.now }
+{
+    input.initial.is_some() || is_plain_counter(connections, instance)
+}
+
 /// Whether the data input of an instance has a source, a parameter or a stimulus.
 fn is_fed(
     connections: &[Connection],
@@ -75,12 +105,27 @@ fn is_fed(
         || has_stimulus(stimuli, &instance.name, input)
 }
 
+/// Whether the data input of an instance has none of them, and may not stay as it begins.
+fn is_forgotten(
+    connections: &[Connection],
+    stimuli: &[Stimulus],
+    instance: &Instance,
+    input: &Variable,
+) -> bool
+    ensures { result ≡ spec.is_forgotten connections.now stimuli.now instance.now input.now }
+{
+    !is_fed(connections, stimuli, instance, &input.name) && !may_stay(connections, instance, input)
+}
+
 /// An instance, by its network and its index there.
 #[derive(Clone, Copy)]
-struct Located<'a> {
-    site: Site,
-    index: usize,
-    instance: &'a Instance,
+pub(crate) struct Located<'a> {
+    /// The network.
+    pub(crate) site: Site,
+    /// The index of the instance in it.
+    pub(crate) index: usize,
+    /// The instance.
+    pub(crate) instance: &'a Instance,
 }
 
 /// Adds the data inputs of an instance that have none of them.
@@ -94,7 +139,7 @@ fn push_unfed_inputs(
     ensures { OnOk result (all.new.items ≡ all.old.items ++ spec.unfed_inputs at.now.site connections.now stimuli.now at.now.index at.now.instance.now inputs.now) }
 {
     for (input, variable) in inputs.iter().enumerate() {
-        let is_unfed = !is_fed(connections, stimuli, at.instance, &variable.name);
+        let is_unfed = is_forgotten(connections, stimuli, at.instance, variable);
         let warning = Warning::UnfedInput {
             site: at.site,
             instance: at.index,
@@ -178,21 +223,18 @@ fn is_inside(blocks: &[BlockType], name: &Name) -> bool
     false
 }
 
-/// Adds a block type if neither the application nor a composite type has an instance of it.
-pub(crate) fn push_unused_type(
-    all: &mut Vec<Warning>,
-    library: &Library,
-    block: usize,
-    entry: &BlockType,
-) -> Result<(), AllocError>
-    ensures { OnOk result (all.new.items ≡ all.old.items ++ spec.unused_type library.now block entry.now) }
+/// Whether the application or a composite type has an instance of the type.
+pub(crate) fn is_used_type(library: &Library, name: &Name) -> bool
+    ensures { result ≡ spec.is_used_type library.now name.now }
 {
-    let name = entry.type_name();
-    if has_instance(library.application.network.instances.as_slice(), name)
+    has_instance(library.application.network.instances.as_slice(), name)
         || is_inside(library.blocks.as_slice(), name)
-    {
-        return Ok(());
-    }
-    all.push(Warning::UnusedType { block })?;
-    Ok(())
+}
+
+/// Adds a block type if neither the application nor a composite type has an instance of it.
+pub(crate) fn push_unused_type(all: &mut Vec<Warning>, of: &Subject<'_>) -> Result<(), AllocError>
+    ensures { OnOk result (all.new.items ≡ all.old.items ++ spec.unused_type of.now.library.now of.now.name.now of.now.block) }
+{
+    let is_unused = !is_used_type(of.library, of.name);
+    push_if(all, is_unused, Warning::UnusedType { block: of.block })
 }

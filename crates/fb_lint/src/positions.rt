@@ -5,7 +5,9 @@ ghost use Rattle.fb_lint.specs.Positions as spec;
 
 use crate::warning::Warning;
 use fb_check_names::{PortKind, Site};
-use fb_read_positions::{BasicPart, NetworkPart, PortPart, Position, TransitionPart};
+use fb_read_positions::{
+    BasicPart, ConnectionPart, NetworkPart, PortPart, Position, TransitionPart,
+};
 use std::alloc::{AllocError, Global};
 
 /// The name of a port.
@@ -30,7 +32,19 @@ fn instance_of(site: Site, instance: usize) -> Position
     }
 }
 
-/// The position in the declaration at which a warning is shown. There is none for a link.
+/// The beginning of an event connection.
+fn connection_of(site: Site, connection: usize) -> Position
+    ensures { result ≡ spec.connection_of site connection }
+{
+    let part = NetworkPart::EventConnection(connection, ConnectionPart::From);
+    match site {
+        Site::Application => Position::InApplication(part),
+        Site::Inside(block) => Position::InComposite(block, part),
+    }
+}
+
+/// The position in the declaration at which a warning is shown. There is none for a link and for a
+/// stimulus.
 pub fn position_of(warning: &Warning) -> Option<Position>
     ensures { result ≡ spec.position_of warning.now }
 {
@@ -39,7 +53,9 @@ pub fn position_of(warning: &Warning) -> Option<Position>
             block,
             PortPart::Input(input),
         ),
-        Warning::UnfedInput { site, instance, .. } => instance_of(site, instance),
+        Warning::UnfedInput { site, instance, .. }
+        | Warning::UnreachedInstance { site, instance }
+        | Warning::UnreachedEvent { site, instance, .. } => instance_of(site, instance),
         Warning::UnsampledInGuard {
             block,
             transition,
@@ -56,7 +72,9 @@ pub fn position_of(warning: &Warning) -> Option<Position>
         | Warning::UnusedAlgorithm { block, algorithm } => {
             Position::InBasic(block, BasicPart::Algorithm(algorithm))
         }
-        Warning::UnreachedState { block, state } | Warning::FinalState { block, state } => {
+        Warning::UnreachedState { block, state }
+        | Warning::FinalState { block, state }
+        | Warning::EndlessState { block, state } => {
             Position::InBasic(block, BasicPart::State(state))
         }
         Warning::ShadowedTransition { block, transition } => Position::InBasic(
@@ -75,7 +93,33 @@ pub fn position_of(warning: &Warning) -> Option<Position>
         Warning::UnassignedEvent { block, event } => {
             Position::InPorts(block, PortPart::EventOutput(event))
         }
-        Warning::UnusedLink { .. } => return None,
+        Warning::UnsentOutput { block, output } => {
+            Position::InPorts(block, PortPart::Output(output))
+        }
+        Warning::SilentSource { site, connection } => connection_of(site, connection),
+        Warning::UnheldConstant {
+            block,
+            algorithm,
+            statement,
+        }
+        | Warning::ZeroDivisor {
+            block,
+            algorithm,
+            statement,
+        }
+        | Warning::RepeatedLabel {
+            block,
+            algorithm,
+            statement,
+        } => Position::InBasic(block, BasicPart::Statement(algorithm, statement)),
+        Warning::ZeroDivisorInGuard { block, transition } => Position::InBasic(
+            block,
+            BasicPart::Transition(transition, TransitionPart::Guard),
+        ),
+        Warning::UnreadInternal { block, internal } => {
+            Position::InBasic(block, BasicPart::Internal(internal))
+        }
+        Warning::UnusedLink { .. } | Warning::EarlyStimulus { .. } => return None,
     };
     Some(position)
 }

@@ -57,16 +57,15 @@ fn follow<'a>(
     Ok(others)
 }
 
-/// The names of the states to which transitions lead from the initial state, and of this one. A name may be there more
-/// than once.
-fn reached_from<'a>(
+/// The names of the states to which edges lead from the initial state, and of this one. A name may be there more than once.
+pub(crate) fn reached_by<'a>(
     alloc: Global,
     initial: &'a Name,
-    transitions: &'a [Transition],
+    edges: Vec<Edge<'a>>,
 ) -> Result<Vec<&'a Name>, AllocError>
-    ensures { IfOk result (λ v. AreReached (map edge_of transitions.now) initial.now (names_are v.items)) }
+    ensures { IfOk result (λ v. AreReached (edges_are edges.entry.items) initial.now (names_are v.items)) }
 {
-    let mut rest = edges(alloc, transitions)?;
+    let mut rest = edges;
     let mut todo = Vec::new(alloc);
     todo.push(initial)?;
     let mut reached = Vec::new(alloc);
@@ -75,6 +74,18 @@ fn reached_from<'a>(
         reached.push(state)?;
     }
     Ok(reached)
+}
+
+/// The names of the states to which transitions lead from the initial state, and of this one.
+fn reached_from<'a>(
+    alloc: Global,
+    initial: &'a Name,
+    transitions: &'a [Transition],
+) -> Result<Vec<&'a Name>, AllocError>
+    ensures { IfOk result (λ v. AreReached (map edge_of transitions.now) initial.now (names_are v.items)) }
+{
+    let edges = edges(alloc, transitions)?;
+    reached_by(alloc, initial, edges)
 }
 
 /// Adds the states that are not among the names.

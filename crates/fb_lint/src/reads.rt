@@ -9,6 +9,7 @@ ghost use Rattle.fb_lint.specs.Reads as spec;
 
 use crate::findings::push_if;
 use crate::names::is_among;
+use crate::parameters::{Subject, is_given};
 use crate::warning::Warning;
 use fb_check::types::mentions::{Mention, push_expression};
 use fb_types::{EventPort, Name, Transition, Variable};
@@ -37,7 +38,7 @@ pub(crate) fn is_mentioned(mentions: &[Mention], name: &Name) -> bool
 }
 
 /// Whether one of the events has the name, and the variable WITH it.
-fn samples(events: &[EventPort], event: &Name, variable: &Name) -> bool
+pub(crate) fn samples(events: &[EventPort], event: &Name, variable: &Name) -> bool
     ensures { result ≡ list_any (goes_with event.now variable.now) events.now }
 {
     for port in events {
@@ -70,15 +71,29 @@ fn is_read_unsampled(
     is_mentioned(mentions, variable) && is_unsampled(events, event, variable)
 }
 
-/// A transition, by its index.
+/// Whether the variable is named, there is an event that does not sample it, and it has no parameter at each instance.
+fn is_read_late(
+    of: &Subject<'_>,
+    events: &[EventPort],
+    event: &Option<Name>,
+    mentions: &[Mention],
+    variable: &Name,
+) -> bool
+    ensures { result ≡ spec.is_read_late of.now.library.now of.now.name.now events.now event.now (meant_all mentions.now) variable.now }
+{
+    is_read_unsampled(events, event, mentions, variable) && !is_given(of, variable)
+}
+
+/// A transition of a basic type, by its index.
 #[derive(Clone, Copy)]
 struct Passage<'a> {
-    block: usize,
+    of: Subject<'a>,
     index: usize,
     transition: &'a Transition,
 }
 
-/// Adds the data inputs that are among what a guard names and that the event of its transition does not sample.
+/// Adds the data inputs that are among what a guard names, that the event of its transition does not sample, and that have
+/// no parameter at each instance.
 fn push_unsampled_by_guard(
     all: &mut Vec<Warning>,
     at: &Passage<'_>,
@@ -86,13 +101,13 @@ fn push_unsampled_by_guard(
     mentions: &[Mention],
     inputs: &[Variable],
 ) -> Result<(), AllocError>
-    ensures { OnOk result (all.new.items ≡ all.old.items ++ spec.unsampled_by_guard at.now.block at.now.index events.now at.now.transition.now.condition.event (meant_all mentions.now) inputs.now) }
+    ensures { OnOk result (all.new.items ≡ all.old.items ++ spec.unsampled_by_guard at.now.of.library.now at.now.of.name.now at.now.of.block at.now.index events.now at.now.transition.now.condition.event (meant_all mentions.now) inputs.now) }
 {
     for (input, variable) in inputs.iter().enumerate() {
         let event = &at.transition.condition.event;
-        let applies = is_read_unsampled(events, event, mentions, &variable.name);
+        let applies = is_read_late(&at.of, events, event, mentions, &variable.name);
         let warning = Warning::UnsampledInGuard {
-            block: at.block,
+            block: at.of.block,
             transition: at.index,
             input,
         };
@@ -122,7 +137,7 @@ fn push_unsampled_at(
     events: &[EventPort],
     inputs: &[Variable],
 ) -> Result<(), AllocError>
-    ensures { OnOk result (all.new.items ≡ all.old.items ++ spec.unsampled_at at.now.block events.now inputs.now at.now.index at.now.transition.now) }
+    ensures { OnOk result (all.new.items ≡ all.old.items ++ spec.unsampled_at at.now.of.library.now at.now.of.name.now at.now.of.block events.now inputs.now at.now.index at.now.transition.now) }
 {
     let mut mentions = Vec::new(alloc);
     push_guard(&mut mentions, at.transition)?;
@@ -133,16 +148,16 @@ fn push_unsampled_at(
 pub(crate) fn push_unsampled_in_guards(
     alloc: Global,
     all: &mut Vec<Warning>,
-    block: usize,
+    of: &Subject<'_>,
     events: &[EventPort],
     inputs: &[Variable],
     transitions: &[Transition],
 ) -> Result<(), AllocError>
-    ensures { OnOk result (all.new.items ≡ all.old.items ++ spec.unsampled_in_guards block events.now inputs.now transitions.now) }
+    ensures { OnOk result (all.new.items ≡ all.old.items ++ spec.unsampled_in_guards of.now.library.now of.now.name.now of.now.block events.now inputs.now transitions.now) }
 {
     for (index, transition) in transitions.iter().enumerate() {
         let at = Passage {
-            block,
+            of: *of,
             index,
             transition,
         };

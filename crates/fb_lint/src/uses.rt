@@ -34,7 +34,7 @@ fn push_bodies<'a>(
 }
 
 /// Adds what guards name.
-fn push_guards<'a>(
+pub(crate) fn push_guards<'a>(
     mentions: &mut Vec<Mention<'a>>,
     transitions: &'a [Transition],
 ) -> Result<(), AllocError>
@@ -142,7 +142,8 @@ fn has_listed(names: &[&Name], outputs: &[Name]) -> bool
     false
 }
 
-fn has_some(names: &[Name]) -> bool
+/// Whether there is a name.
+pub(crate) fn has_some(names: &[Name]) -> bool
     ensures { result ≡ spec.has_some names.now }
 {
     match names {

@@ -76,7 +76,68 @@ pub enum Warning {
     UnusedLink {
         link: usize,
     },
+    /// A data output is assigned or read, and it is WITH no event output (L14).
+    UnsentOutput {
+        block: usize,
+        output: usize,
+    },
+    /// No event connection and no stimulus leads to an instance (L15).
+    UnreachedInstance {
+        site: Site,
+        instance: usize,
+    },
+    /// Nothing leads to an event input of an instance, and to another one something leads (L16).
+    UnreachedEvent {
+        site: Site,
+        instance: usize,
+        event: usize,
+    },
+    /// A statement assigns a constant that its variable can't hold (L17).
+    UnheldConstant {
+        block: usize,
+        algorithm: usize,
+        statement: usize,
+    },
+    /// A statement divides by the constant 0 (L18).
+    ZeroDivisor {
+        block: usize,
+        algorithm: usize,
+        statement: usize,
+    },
+    /// The guard of a transition divides by the constant 0 (L18).
+    ZeroDivisorInGuard {
+        block: usize,
+        transition: usize,
+    },
+    /// Transitions that always clear lead from a state back to it (L19).
+    EndlessState {
+        block: usize,
+        state: usize,
+    },
+    /// An event connection comes from WARM or STOP of an E_RESTART (L20).
+    SilentSource {
+        site: Site,
+        connection: usize,
+    },
+    /// Two labels of a CASE have a value in common (L21).
+    RepeatedLabel {
+        block: usize,
+        algorithm: usize,
+        statement: usize,
+    },
+    /// No guard and no algorithm reads an internal variable (L22).
+    UnreadInternal {
+        block: usize,
+        internal: usize,
+    },
+    /// A stimulus at tick 0 comes before the event from COLD that leads to its instance (L23).
+    EarlyStimulus {
+        stimulus: usize,
+    },
 }
+
+/// The number of the last warning.
+pub const LAST_NUMBER: u8 = 23;
 
 impl Warning {
     /// The number of the warning, from 1 for L01.
@@ -97,6 +158,16 @@ impl Warning {
             Warning::UnusedPort { .. } => 11,
             Warning::UnassignedEvent { .. } => 12,
             Warning::UnusedLink { .. } => 13,
+            Warning::UnsentOutput { .. } => 14,
+            Warning::UnreachedInstance { .. } => 15,
+            Warning::UnreachedEvent { .. } => 16,
+            Warning::UnheldConstant { .. } => 17,
+            Warning::ZeroDivisor { .. } | Warning::ZeroDivisorInGuard { .. } => 18,
+            Warning::EndlessState { .. } => 19,
+            Warning::SilentSource { .. } => 20,
+            Warning::RepeatedLabel { .. } => 21,
+            Warning::UnreadInternal { .. } => 22,
+            Warning::EarlyStimulus { .. } => 23,
         }
     }
 }

@@ -4,8 +4,8 @@ use crate::positions::position_of;
 use crate::warning::Warning;
 use fb_check_names::Site;
 use fb_read_positions::headings::{network_at, push_item, push_position};
-use fb_read_positions::{BlockTypes, Text};
-use fb_types::{Library, Plan};
+use fb_read_positions::{BlockTypes, PortPart, Text};
+use fb_types::{Library, Plan, Ports};
 use std::alloc::{AllocError, Global};
 
 /// Says what a warning is about, and why it is given.
@@ -46,6 +46,18 @@ fn reason(warning: &Warning) -> &'static str {
         Warning::UnusedPort { .. } => ": nothing in the block type uses it",
         Warning::UnassignedEvent { .. } => ": no algorithm assigns a data output WITH it",
         Warning::UnusedLink { .. } => ": no connection crosses it",
+        Warning::UnsentOutput { .. } => ": it is used, and it is WITH no event output",
+        Warning::UnreachedInstance { .. } => ": no event connection and no stimulus leads to it",
+        Warning::UnreachedEvent { .. } => ": no connection and no stimulus leads to it",
+        Warning::UnheldConstant { .. } => ": the variable can't hold this constant",
+        Warning::ZeroDivisor { .. } => ": it divides by 0",
+        Warning::ZeroDivisorInGuard { .. } => ", guard: it divides by 0",
+        Warning::EndlessState { .. } => ": transitions that always clear lead back to it",
+        Warning::RepeatedLabel { .. } => ": two labels have a value in common",
+        Warning::UnreadInternal { .. } => ": no guard and no algorithm reads it",
+        Warning::EarlyStimulus { .. } =>
+            ": it comes before the event from COLD that leads to its instance",
+        Warning::SilentSource { .. } => ": this event never comes, since each run is a cold start",
     }
 }
 
@@ -57,7 +69,16 @@ fn push_rest(alloc: Global, text: &mut Text, library: &Library, plan: &Plan, war
             instance,
             input,
         } => {
-            push_unfed(alloc, text, library, (site, instance), input);
+            let port = PortPart::Input(input);
+            push_port_at(alloc, text, library, (site, instance), port);
+        }
+        Warning::UnreachedEvent {
+            site,
+            instance,
+            event,
+        } => {
+            let port = PortPart::EventInput(event);
+            push_port_at(alloc, text, library, (site, instance), port);
         }
         Warning::UnsampledInGuard { block, input, .. } => {
             push_input(text, ", guard: it reads ", library, block, input);
@@ -65,6 +86,7 @@ fn push_rest(alloc: Global, text: &mut Text, library: &Library, plan: &Plan, war
         Warning::UnsampledInAlgorithm { block, input, .. } => {
             push_input(text, ": it reads ", library, block, input);
         }
+        Warning::EarlyStimulus { stimulus } => text.numbered("stimuli: row ", stimulus, ""),
         Warning::UnusedLink { link } => {
             if let Some(link) = plan.links.get(link) {
                 text.named("link ", &link.from);
@@ -82,13 +104,13 @@ fn push_input(text: &mut Text, words: &str, library: &Library, block: usize, inp
     }
 }
 
-/// Adds the type of an instance and one of its data inputs, if the instance is there.
-fn push_unfed(
+/// Adds the type of an instance and one of its ports, if the instance is there.
+fn push_port_at(
     alloc: Global,
     text: &mut Text,
     library: &Library,
     (site, instance): (Site, usize),
-    input: usize,
+    port: PortPart,
 ) {
     let Some(network) = network_at(library, site) else {
         return;
@@ -100,9 +122,22 @@ fn push_unfed(
     match BlockTypes::new(alloc, library) {
         Ok(types) => {
             if let Some(ports) = types.ports_named(&instance.block_type) {
-                push_item(text, ", data input ", ports.inputs.as_slice(), input);
+                push_port(text, ports, port);
             }
         }
         Err(_) => text.give_up(),
+    }
+}
+
+/// Adds a data input or an event input of an interface.
+fn push_port(text: &mut Text, ports: &Ports, port: PortPart) {
+    match port {
+        PortPart::Input(index) => {
+            push_item(text, ", data input ", ports.inputs.as_slice(), index);
+        }
+        PortPart::EventInput(index) => {
+            push_item(text, ", event input ", ports.event_inputs.as_slice(), index);
+        }
+        _ => {}
     }
 }

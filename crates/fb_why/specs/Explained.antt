@@ -19,7 +19,8 @@ of_rules = codes "E40" ∷ codes "E41" ∷ codes "E42" ∷ codes "E43" ∷ codes
 abbrev pub of_warnings : List Name
 of_warnings =
     codes "L01" ∷ codes "L02" ∷ codes "L03" ∷ codes "L04" ∷ codes "L05" ∷ codes "L06" ∷ codes "L07" ∷ codes "L08" ∷ codes "L09" ∷ codes "L10" ∷ codes "L11"
-    ∷ codes "L12" ∷ codes "L13" ∷ []
+    ∷ codes "L12" ∷ codes "L13" ∷ codes "L14" ∷ codes "L15" ∷ codes "L16" ∷ codes "L17" ∷ codes "L18" ∷ codes "L19" ∷ codes "L20" ∷ codes "L21"
+    ∷ codes "L22" ∷ codes "L23" ∷ []
 
 abbrev pub of_stops : List Name
 of_stops = codes "steps" ∷ codes "divide" ∷ codes "range" ∷ []

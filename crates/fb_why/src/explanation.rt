@@ -7,8 +7,8 @@ ghost use Rattle.fb_why.specs.Explained as spec;
 ghost use Rattle.fb_why.specs.Explained.{explained};
 
 use crate::table::{
-    Explanation, OF_CHECKS, OF_DECLARATIONS, OF_INPUTS, OF_MAPPINGS, OF_MORE_WARNINGS, OF_RULES,
-    OF_STOPS, OF_WARNINGS,
+    Explanation, OF_CHECKS, OF_COURSE_WARNINGS, OF_DECLARATIONS, OF_INPUTS, OF_MAPPINGS,
+    OF_MORE_WARNINGS, OF_NETWORK_WARNINGS, OF_RULES, OF_STOPS, OF_WARNINGS,
 };
 
 // A search needs only the names in a table. So each table is lent by a function whose contract is about the names only.
@@ -50,9 +50,21 @@ fn of_warnings() -> &'static [Explanation]
 }
 
 fn of_more_warnings() -> &'static [Explanation]
-    ensures { map (λ e. e.name.now) result.now ≡ drop 6 spec.of_warnings }
+    ensures { map (λ e. e.name.now) result.now ≡ take 7 (drop 6 spec.of_warnings) }
 {
     &OF_MORE_WARNINGS
+}
+
+fn of_network_warnings() -> &'static [Explanation]
+    ensures { map (λ e. e.name.now) result.now ≡ take 5 (drop 13 spec.of_warnings) }
+{
+    &OF_NETWORK_WARNINGS
+}
+
+fn of_course_warnings() -> &'static [Explanation]
+    ensures { map (λ e. e.name.now) result.now ≡ drop 18 spec.of_warnings }
+{
+    &OF_COURSE_WARNINGS
 }
 
 fn of_stops() -> &'static [Explanation]
@@ -95,5 +107,7 @@ pub fn explain(name: &str) -> Option<Explanation>
         .or(look_up(of_rules(), name))
         .or(look_up(of_warnings(), name))
         .or(look_up(of_more_warnings(), name))
+        .or(look_up(of_network_warnings(), name))
+        .or(look_up(of_course_warnings(), name))
         .or(look_up(of_stops(), name))
 }

@@ -255,14 +255,14 @@ pub static OF_WARNINGS: [Explanation; 6] = [
         meaning: "No event input of the block type samples a data input.",
         example: "A data input that is in no WITH of an event input.",
         other: "`REQ WITH A` where the algorithm reads `A` and `B`.",
-        look: "The WITH lists of the event inputs. An input that nothing samples keeps its initial value or its parameter.",
+        look: "The WITH lists of the event inputs. An input that nothing samples keeps its initial value. One to which each instance gives a parameter is not reported.",
     },
     Explanation {
         name: "L02",
         meaning: "A data input of an instance has no source, no parameter and no stimulus.",
         example: "`D : E_DELAY;` with no `DT`: the delay is 0.",
         other: "An input whose data connection leads to another instance.",
-        look: "The data connections of the network, the parameters of the instance, and, for an instance of the application, the values of the stimuli. The input keeps its initial value.",
+        look: "The data connections of the network, the parameters of the instance, and, for an instance of the application, the values of the stimuli. The input keeps its initial value: declare one with `:=` if that is meant.",
     },
     Explanation {
         name: "L03",
@@ -273,10 +273,10 @@ pub static OF_WARNINGS: [Explanation; 6] = [
     },
     Explanation {
         name: "L04",
-        meaning: "An algorithm reads a data input that an event which leads to it does not sample.",
+        meaning: "An algorithm reads a data input that no event on a way to it has sampled.",
         example: "`REQ` leads to a state with the action `SUM`, and `SUM` reads an input that is not WITH `REQ`.",
         other: "An algorithm for INIT that reads an input of REQ.",
-        look: "The transitions to the states that run the algorithm, and the WITH of their events.",
+        look: "The transitions from the initial state to the states that run the algorithm, and the WITH of their events.",
     },
     Explanation {
         name: "L05",
@@ -308,7 +308,7 @@ pub static OF_MORE_WARNINGS: [Explanation; 7] = [
         meaning: "No transition names an event input.",
         example: "An event input of a type whose chart was not extended.",
         other: "`REG` in a transition where `REQ` is meant, if both are event inputs.",
-        look: "Whether the event is to do more than sample its variables.",
+        look: "The transitions. An event that alone samples a variable which the chart reads is not reported.",
     },
     Explanation {
         name: "L09",
@@ -344,6 +344,84 @@ pub static OF_MORE_WARNINGS: [Explanation; 7] = [
         example: "A link that is left from an earlier mapping.",
         other: "A link from `R2` to `R1` where all connections lead from `R1` to `R2`.",
         look: "The resources of the two ends of each connection of the application.",
+    },
+];
+
+/// Warnings about what an application does not do.
+pub static OF_NETWORK_WARNINGS: [Explanation; 5] = [
+    Explanation {
+        name: "L14",
+        meaning: "A data output is assigned or read, and it is WITH no event output.",
+        example: "`CNF WITH Q` where the algorithm assigns `Q` and `R`, and another block reads `R`.",
+        other: "A data output of a composite type to which a connection inside leads, and that no event of the type carries.",
+        look: "The WITH lists of the event outputs. Readers of the output get its initial value for ever. If only the block itself uses it, it is an internal variable.",
+    },
+    Explanation {
+        name: "L15",
+        meaning: "No event connection and no stimulus leads to an instance.",
+        example: "A new instance whose data inputs are connected, and whose event inputs are not.",
+        other: "`A.CNF TO B.REQ;` where `C.REQ` is meant.",
+        look: "The event connections of the network, and, for an instance of the application, the stimuli of this call. Values alone do not make a block react.",
+    },
+    Explanation {
+        name: "L16",
+        meaning: "Nothing leads to an event input of an instance, and something leads to another one.",
+        example: "`E_REND` with a connection to `EI1` only: it never emits `EO`.",
+        other: "A station whose `FREE` is not connected: it takes one part and waits for ever.",
+        look: "The event connections to the instance, and the stimuli of this call. STOP and R of an event block may stay open, and so may an event whose variables all have declared values.",
+    },
+    Explanation {
+        name: "L17",
+        meaning: "A statement assigns a constant that its variable can't hold.",
+        example: "`N := 300;` where `N` is a USINT: the resource stops, for the reason range.",
+        other: "`N := -1;` where `N` is a UINT.",
+        look: "The type of the variable. docs/PROFILE.md has the range of each type.",
+    },
+    Explanation {
+        name: "L18",
+        meaning: "A statement or a guard divides by the constant 0.",
+        example: "`X := Y / 0;`: the resource stops, for the reason divide.",
+        other: "`IF X MOD 0 = 1 THEN`: a remainder by 0 is 0.",
+        look: "The operand after `/` or MOD.",
+    },
+];
+
+/// Warnings about what never comes, or comes too early.
+pub static OF_COURSE_WARNINGS: [Explanation; 5] = [
+    Explanation {
+        name: "L19",
+        meaning: "Transitions that always clear lead from a state back to it.",
+        example: "`A TO B := 1; B TO A := 1;`: the resource stops, for the reason steps.",
+        other: "`WAIT TO WAIT := 1;` where `WAIT TO WAIT := TICK;` is meant.",
+        look: "The conditions `1` of the states on the circle. A state waits if its first transition without an event has a guard.",
+    },
+    Explanation {
+        name: "L20",
+        meaning: "An event connection comes from WARM or STOP of an E_RESTART.",
+        example: "`POWER.WARM TO MOTOR.INIT;`",
+        other: "`POWER.STOP TO VALVE.CLOSE;`: a run has no end that the application sees.",
+        look: "Each run is a cold start: connect COLD, or give a stimulus.",
+    },
+    Explanation {
+        name: "L21",
+        meaning: "Two labels of a CASE have a value in common.",
+        example: "`1: X := 1; 1: X := 2;`: the second is never taken.",
+        other: "`1..5: X := 1; 3: X := 2;`",
+        look: "The labels of the CASE, from the first one on: the first that contains the value is taken.",
+    },
+    Explanation {
+        name: "L22",
+        meaning: "No guard and no algorithm reads an internal variable.",
+        example: "A counter that is assigned, and that nothing compares.",
+        other: "`LAST := NOW;` where another algorithm reads `LATEST`.",
+        look: "The guards and the algorithms. A variable that is to be seen outside is a data output.",
+    },
+    Explanation {
+        name: "L23",
+        meaning: "A stimulus at tick 0 comes before the event from COLD that leads to its instance.",
+        example: "`0,MOTOR.START,` where `POWER.COLD TO MOTOR.INIT;`",
+        other: "A row at tick 0 that sets a variable which INIT sets to its first value.",
+        look: "Stimuli come before all else in their tick. Give the row tick 1 if the block is to have started.",
     },
 ];
 

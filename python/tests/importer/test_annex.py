@@ -179,7 +179,9 @@ def test_all_types_are_accepted_without_a_warning_and_have_a_comment(tmp_path):
     (tmp_path / "all.iec").write_text(f"APPLICATION A FBS {rows} END_FBS END_APPLICATION\n")
     words = [find_program(), "check", str(tmp_path / "all.iec"), "--types", str(FILE), "--lint", "--why"]
     done = subprocess.run(words, capture_output=True, text=True)
-    assert (done.returncode, done.stdout, done.stderr) == (0, "accepted\n", "")
+    # (nothing leads to the instances of this application)
+    others = [it for it in done.stderr.splitlines() if ": L15: application A: " not in it]
+    assert (done.returncode, done.stdout, others) == (0, "accepted\n", [])
     text = FILE.read_text()
     for name in SEQUENCES:
         assert "*)\nFUNCTION_BLOCK " + name + "\n" in text

@@ -1,7 +1,7 @@
 # Completion for fbsim in fish.
 
 set -l commands run check wave expect diff draw inspect coverage explain help
-set -l refusals E01 E02 E03 E04 E05 E10 E11 E12 E13 E14 E15 E16 E20 E21 E22 E23 E24 E25 E26 E27 E28 E29 E30 E40 E41 E42 E43 E44 E45 L01 L02 L03 L04 L05 L06 L07 L08 L09 L10 L11 L12 L13 steps divide range "'file fault'"
+set -l refusals E01 E02 E03 E04 E05 E10 E11 E12 E13 E14 E15 E16 E20 E21 E22 E23 E24 E25 E26 E27 E28 E29 E30 E40 E41 E42 E43 E44 E45 L01 L02 L03 L04 L05 L06 L07 L08 L09 L10 L11 L12 L13 L14 L15 L16 L17 L18 L19 L20 L21 L22 L23 steps divide range "'file fault'"
 
 complete -c fbsim -n "not __fish_seen_subcommand_from $commands" -f
 complete -c fbsim -n "not __fish_seen_subcommand_from $commands" -a run -d "Run an application and write its trace"

@@ -1,5 +1,5 @@
 -- Lists of warnings that grow by those about one element of a list after another.
-use Rattle.std.proofs.Common.{Result, Ok, Err, ◌≡◌, ℕ, ◌+◌, ◌<◌, ◌≤◌, List, ◌∷◌, ◌++◌, drop, get_or, length, append_assoc, append-nil, sym, ◌∙◌, ap}
+use Rattle.std.proofs.Common.{Result, Ok, Err, ◌≡◌, ℕ, ◌+◌, ◌<◌, ◌≤◌, List, [], ◌∷◌, ◌++◌, drop, get_or, length, map, refl, append_assoc, append-nil, sym, ◌∙◌, ap}
 use Rattle.std.proofs.lemmas.List.{at_drop_all, at_drop_more}
 use Rattle.std.specs.Prelude.{OnOk}
 use Rattle.fb_lint.specs.Findings.{each_from}
@@ -20,6 +20,18 @@ pub all_found :
     {A B : Type 0} (f : ℕ → A → List B) (xs : List A) (i : ℕ) (new all : List B) → length xs ≤ i → new ++ each_from f i (drop i xs) ≡ all → new ≡ all
 all_found {A} {B} f xs i new all past before =
     sym (append-nil new) ∙ ap (λ (ys : List B). new ++ ys) (sym (at_drop_all (λ (ys : List A). each_from f i ys) xs i past)) ∙ before
+
+-- what is found at what the elements mean
+pub each_from-map :
+    {A B C : Type 0} (f : ℕ → B → List C) (g : A → B) (k : ℕ) (xs : List A) → each_from f k (map g xs) ≡ each_from (λ i x. f i (g x)) k xs
+each_from-map f g k [] = refl
+each_from-map {A} {B} {C} f g k (x ∷ xs) = ap (λ (rest : List C). f k (g x) ++ rest) (each_from-map f g (k + 1) xs)
+
+-- what two calls add, the last of which may fail
+pub two_found :
+    {B T E : Type 0} (r : Result T E) (old one new a b other : List B) → one ≡ old ++ a → other ≡ b → OnOk r (new ≡ one ++ other) → OnOk r (new ≡ old ++ (a ++ b))
+two_found (Err e) old one new a b other first same last = tt
+two_found {B} (Ok x) old one new a b other first same last = last ∙ (λ i. first i ++ same i) ∙ append_assoc old a b
 
 -- what four calls add, the last of which may fail
 pub four_found :

@@ -1,9 +1,10 @@
 -- Each warning of the list holds at its position.
-use Rattle.std.proofs.Common.{◌≡◌, ℕ, zero, suc, ◌+◌, ◌<◌, Bool, true, false, not, ◌&&◌, List, [], ◌∷◌, ◌++◌, map, take, Some, None, Contains, refl, sym, ◌∙◌, ap, subst, inl, inr, arith}
+use Rattle.std.proofs.Common.{◌≡◌, ℕ, zero, suc, ◌+◌, ◌<◌, Bool, true, false, not, ◌&&◌, if◌then◌else◌, List, [], ◌∷◌, ◌++◌, map, take, Option, Some, None, Contains, refl, sym, ◌∙◌, ap, subst, inl, inr, arith}
 use Rattle.std.specs.Prelude.{slice_get, option_map, option_and_then}
-use Rattle.std.specs.List.{list_any}
+use Rattle.std.specs.List.{filter, list_any}
 use Rattle.std.proofs.lemmas.Bool.{true≢false}
 use Rattle.std.proofs.lemmas.List.Elements.{Contains-append_cases}
+use Rattle.fb_types.specs.Names.{Name}
 use Rattle.fb_types.specs.Blocks.{ports_of}
 use Rattle.fb_types.specs.declared.deploy.Plan.{Plan}
 use Rattle.fb_types.specs.declared.deploy.Stimulus.{Stimulus}
@@ -18,6 +19,9 @@ use Rattle.fb_types.specs.declared.library.BlockType.TheVariants as block
 use Rattle.fb_types.specs.declared.library.CompositeType.{CompositeType}
 use Rattle.fb_types.specs.declared.library.Connection.{Connection}
 use Rattle.fb_types.specs.declared.library.EventPort.{EventPort}
+use Rattle.fb_types.specs.declared.library.Algorithm.{Algorithm}
+use Rattle.fb_types.specs.declared.library.Instance.{Instance}
+use Rattle.fb_types.specs.declared.library.Ports.{Ports}
 use Rattle.fb_types.specs.declared.library.State.{State}
 use Rattle.fb_types.specs.declared.library.Variable.{Variable}
 use Rattle.fb_types.specs.Repeated.{OwnedNetwork}
@@ -27,19 +31,28 @@ use Rattle.fb_check_names.specs.PortKinds.{names_of_kind}
 use Rattle.fb_check_names.specs.declared.ports.PortKind.{PortKind}
 use Rattle.fb_check_names.specs.declared.ports.PortKind.TheVariants as kind
 use Rattle.fb_check.specs.types.Checks.{guard_mentions}
+use Rattle.fb_check.specs.types.Statements.{Standing, each_in_body}
 use Rattle.fb_check_names.specs.Sites.{network_at, network_inside}
 use Rattle.fb_check_names.specs.declared.location.Site.{Site}
 use Rattle.fb_check_names.specs.declared.location.Site.TheVariants.{Application, Inside}
 use Rattle.fb_lint.specs.Charts as charts
-use Rattle.fb_lint.specs.Conditions.{Holds, IsAt, IsBasic, is_used_in, stimuli_at, WarningsHold}
+use Rattle.fb_lint.specs.Circles as circles
+use Rattle.fb_lint.specs.Conditions.{Holds, IsAt, IsBasic, IsStatement, is_used_event, is_used_in, stimuli_at, WarningsHold}
+use Rattle.fb_lint.specs.Constants as constants
+use Rattle.fb_lint.specs.Events as events
+use Rattle.fb_lint.specs.Instances as instances
 use Rattle.fb_lint.specs.Interfaces as ports
 use Rattle.fb_lint.specs.Networks as nets
+use Rattle.fb_lint.specs.Outputs as outputs
 use Rattle.fb_lint.specs.Reached as reached
+use Rattle.fb_lint.specs.Reached.{Reached}
 use Rattle.fb_lint.specs.Reads as reads
+use Rattle.fb_lint.specs.Statements as statements
 use Rattle.fb_lint.proofs.lemmas.Edges.{leads-is_reached}
 use Rattle.fb_lint.specs.Findings.{when, each_from}
-use Rattle.fb_lint.specs.Warnings.{readings, of_chart, of_ports, of_composite, of_type, of_block, of_blocks}
+use Rattle.fb_lint.specs.Warnings.{readings, of_chart, of_ports, of_statements, of_network, of_composite, of_type, of_block, of_blocks}
 use Rattle.fb_lint.specs.declared.warning.Warning.{Warning}
+use Rattle.fb_lint.specs.declared.warning.Warning.TheVariants.{UnheldConstant, UnreachedInstance, ZeroDivisor}
 
 -- ---- Lists of findings
 
@@ -96,17 +109,28 @@ at_taken (x ∷ xs) (suc k) (suc i) y h = let r = at_taken xs k i y h in (omega 
 
 unsampled :
     (lib : Library) (plan : Plan) (ss : List Stimulus) (b : ℕ) (t : BlockType) → IsAt lib.blocks b t → (w : Warning)
-    → Contains (ports.unsampled_inputs b (ports_of (kind_of t)).event_inputs (ports_of (kind_of t)).inputs) w → Holds lib plan ss w
+    → Contains (ports.unsampled_inputs lib (type_name t) b (ports_of (kind_of t)).event_inputs (ports_of (kind_of t)).inputs) w → Holds lib plan ss w
 unsampled lib plan ss b t at w c =
     let its = ports_of (kind_of t) in
-    let r = found_in (ports.unsampled_input b its.event_inputs) its.inputs w c in
+    let r = found_in (ports.unsampled_input lib (type_name t) b its.event_inputs) its.inputs w c in
     let q = of_test _ _ w r.3 in
-    subst (Holds lib plan ss) q.1 (record { type = t; found = at; input = r.1; at = r.2; none = of_failed _ q.0 })
+    let p = of_two _ _ q.0 in
+    subst (Holds lib plan ss) q.1 (record { type = t; found = at; input = r.1; at = r.2; none = of_failed _ p.0; not_given = of_failed _ p.1 })
+
+unsent :
+    (lib : Library) (plan : Plan) (ss : List Stimulus) (b : ℕ) (t : BlockType) → IsAt lib.blocks b t → (w : Warning)
+    → Contains (outputs.unsent_outputs lib (type_name t) b t (ports_of (kind_of t)).outputs) w → Holds lib plan ss w
+unsent lib plan ss b t at w c =
+    let its = ports_of (kind_of t) in
+    let r = found_in (outputs.unsent_output lib (type_name t) b t) its.outputs w c in
+    let q = of_test _ _ w r.3 in
+    let p = of_two _ _ q.0 in
+    subst (Holds lib plan ss) q.1 (record { type = t; found = at; output = r.1; at = r.2; none = of_failed _ p.0; used = p.1 })
 
 -- what no connection inside names
 unjoined_events :
     (lib : Library) (plan : Plan) (ss : List Stimulus) (b : ℕ) (t : BlockType) → IsAt lib.blocks b t → (p : PortKind) (es : List EventPort) (cs : List Connection)
-    → names_of_kind p (ports_of (kind_of t)) ≡ map (λ e. e.name) es → ((e : EventPort) → is_used_in t p e.name ≡ list_any (ports.joins p e.name) cs)
+    → names_of_kind p (ports_of (kind_of t)) ≡ map (λ e. e.name) es → ((k : ℕ) (e : EventPort) → is_used_in t p k e.name ≡ list_any (ports.joins p e.name) cs)
     → (w : Warning) → Contains (ports.unjoined_events b p cs es) w → Holds lib plan ss w
 unjoined_events lib plan ss b t at p es cs names uses w c =
     let r = found_in (ports.unjoined_event b p cs) es w c in
@@ -117,12 +141,12 @@ unjoined_events lib plan ss b t at p es cs names uses w c =
       found = at;
       port = r.1.name;
       at = ap (λ ns. slice_get ns r.0) names ∙ at_map (λ (e : EventPort). e.name) es r.0 r.1 r.2;
-      none = uses r.1 ∙ of_failed _ q.0;
+      none = uses r.0 r.1 ∙ of_failed _ q.0;
     })
 
 unjoined_variables :
     (lib : Library) (plan : Plan) (ss : List Stimulus) (b : ℕ) (t : BlockType) → IsAt lib.blocks b t → (p : PortKind) (vs : List Variable) (cs : List Connection)
-    → names_of_kind p (ports_of (kind_of t)) ≡ map (λ v. v.name) vs → ((v : Variable) → is_used_in t p v.name ≡ list_any (ports.joins p v.name) cs)
+    → names_of_kind p (ports_of (kind_of t)) ≡ map (λ v. v.name) vs → ((k : ℕ) (v : Variable) → is_used_in t p k v.name ≡ list_any (ports.joins p v.name) cs)
     → (w : Warning) → Contains (ports.unjoined_variables b p cs vs) w → Holds lib plan ss w
 unjoined_variables lib plan ss b t at p vs cs names uses w c =
     let r = found_in (ports.unjoined_variable b p cs) vs w c in
@@ -133,7 +157,23 @@ unjoined_variables lib plan ss b t at p vs cs names uses w c =
       found = at;
       port = r.1.name;
       at = ap (λ ns. slice_get ns r.0) names ∙ at_map (λ (v : Variable). v.name) vs r.0 r.1 r.2;
-      none = uses r.1 ∙ of_failed _ q.0;
+      none = uses r.0 r.1 ∙ of_failed _ q.0;
+    })
+
+unused_events :
+    (lib : Library) (plan : Plan) (ss : List Stimulus) (b : ℕ) (t : CompositeType) → IsAt lib.blocks b (block.Composite t) → (w : Warning)
+    → Contains (ports.unused_events b t.network.event_connections t.network.data_connections t.ports.event_inputs) w → Holds lib plan ss w
+unused_events lib plan ss b t at w c =
+    let es = t.ports.event_inputs in
+    let r = found_in (ports.unused_event b t.network.event_connections t.network.data_connections) es w c in
+    let q = of_test _ _ w r.3 in
+    subst (Holds lib plan ss) q.1
+    (record {
+      type = block.Composite t;
+      found = at;
+      port = r.1.name;
+      at = at_map (λ (e : EventPort). e.name) es r.0 r.1 r.2;
+      none = ap (is_used_event t) r.2 ∙ of_failed _ q.0;
     })
 
 unjoined :
@@ -142,49 +182,89 @@ unjoined :
 unjoined lib plan ss b t at w c =
     let its = t.ports in
     let net = t.network in
-    let one = ports.unjoined_events b kind.EventInput net.event_connections its.event_inputs in
+    let one = ports.unused_events b net.event_connections net.data_connections its.event_inputs in
     let two = ports.unjoined_events b kind.EventOutput net.event_connections its.event_outputs in
     let three = ports.unjoined_variables b kind.Input net.data_connections its.inputs in
     let four = ports.unjoined_variables b kind.Output net.data_connections its.outputs in
     elim (Contains-append_cases (one ++ two ++ three) four w c) [
       | inl front ↦ elim (Contains-append_cases (one ++ two) three w front) [
         | inl first ↦ elim (Contains-append_cases one two w first) [
-          | inl h ↦ unjoined_events lib plan ss b (block.Composite t) at kind.EventInput its.event_inputs net.event_connections refl (λ e. refl) w h
-          | inr h ↦ unjoined_events lib plan ss b (block.Composite t) at kind.EventOutput its.event_outputs net.event_connections refl (λ e. refl) w h
+          | inl h ↦ unused_events lib plan ss b t at w h
+          | inr h ↦ unjoined_events lib plan ss b (block.Composite t) at kind.EventOutput its.event_outputs net.event_connections refl (λ _ _. refl) w h
         ]
-        | inr h ↦ unjoined_variables lib plan ss b (block.Composite t) at kind.Input its.inputs net.data_connections refl (λ v. refl) w h
+        | inr h ↦ unjoined_variables lib plan ss b (block.Composite t) at kind.Input its.inputs net.data_connections refl (λ _ _. refl) w h
       ]
-      | inr h ↦ unjoined_variables lib plan ss b (block.Composite t) at kind.Output its.outputs net.data_connections refl (λ v. refl) w h
+      | inr h ↦ unjoined_variables lib plan ss b (block.Composite t) at kind.Output its.outputs net.data_connections refl (λ _ _. refl) w h
     ]
 
 -- ---- Readings
 
 guards :
     (lib : Library) (plan : Plan) (ss : List Stimulus) (b : ℕ) (t : BasicType) → IsBasic lib b t → (w : Warning)
-    → Contains (reads.unsampled_in_guards b t.ports.event_inputs t.ports.inputs t.transitions) w → Holds lib plan ss w
+    → Contains (reads.unsampled_in_guards lib t.name b t.ports.event_inputs t.ports.inputs t.transitions) w → Holds lib plan ss w
 guards lib plan ss b t at w c =
     let es = t.ports.event_inputs in
     let vs = t.ports.inputs in
-    let r = found_in (reads.unsampled_at b es vs) t.transitions w c in
-    let s = found_in (reads.unsampled_in_guard b r.0 es r.1.condition.event (guard_mentions r.1)) vs w r.3 in
+    let r = found_in (reads.unsampled_at lib t.name b es vs) t.transitions w c in
+    let s = found_in (reads.unsampled_in_guard lib t.name b r.0 es r.1.condition.event (guard_mentions r.1)) vs w r.3 in
     let q = of_test _ _ w s.3 in
     let p = of_two _ _ q.0 in
+    let u = of_two _ _ p.0 in
     subst (Holds lib plan ss) q.1
-    (record { type = t; found = at; transition = r.1; at = r.2; input = s.1; input_at = s.2; named = p.0; unsampled = p.1 })
+    (record {
+      type = t;
+      found = at;
+      transition = r.1;
+      at = r.2;
+      input = s.1;
+      input_at = s.2;
+      named = u.0;
+      unsampled = u.1;
+      not_given = of_failed _ p.1;
+    })
+
+-- the first state, from which the transitions lead
+first_leading :
+    (c : reads.Chart) (v : Name) (states : List State) (n : Name) → reads.leads_passing c v states n ≡ true
+    → (initial : State) × (first_of states ≡ Some initial) × Reached (filter (reads.passes_by c.events v) c.transitions) initial.name n
+first_leading c v [] n h = absurd (true≢false (sym h))
+first_leading c v (s ∷ ss) n h = (s, refl, (leads-is_reached (reads.passing c v) s.name n).0 h)
+
+abbrev pub chart : BasicType → reads.Chart
+chart t = record { states = t.states; transitions = t.transitions; events = t.ports.event_inputs }
 
 algorithms :
     (lib : Library) (plan : Plan) (ss : List Stimulus) (b : ℕ) (t : BasicType) → IsBasic lib b t → (w : Warning)
-    → Contains (reads.unsampled_in_algorithms (record { states = t.states; transitions = t.transitions; events = t.ports.event_inputs }) b t.ports.inputs t.algorithms) w
-    → Holds lib plan ss w
+    → Contains (reads.unsampled_in_algorithms lib t.name (chart t) b t.ports.inputs t.algorithms) w → Holds lib plan ss w
 algorithms lib plan ss b t at w c =
-    let chart : reads.Chart = record { states = t.states; transitions = t.transitions; events = t.ports.event_inputs } in
     let vs = t.ports.inputs in
-    let r = found_in (reads.unsampled_in chart b vs) t.algorithms w c in
-    let s = found_in (reads.unsampled_in_algorithm chart b r.0 r.1.name (mentions_body (body_of r.1.body))) vs w r.3 in
+    let r = found_in (reads.unsampled_in lib t.name (chart t) b vs) t.algorithms w c in
+    let s = found_in (reads.unsampled_in_algorithm lib t.name (chart t) b r.0 r.1.name (mentions_body (body_of r.1.body))) vs w r.3 in
     let q = of_test _ _ w s.3 in
     let p = of_two _ _ q.0 in
+    let u = of_two _ _ p.0 in
+    let e = passes_somewhere (reads.leads_unsampled (chart t) r.1.name s.1.name) t.transitions u.1 in
+    let x = of_two _ _ e.2 in
+    let y = of_two _ _ x.0 in
+    let f = first_leading (chart t) s.1.name t.states e.0.from x.1 in
     subst (Holds lib plan ss) q.1
-    (record { type = t; found = at; algorithm = r.1; at = r.2; input = s.1; input_at = s.2; named = p.0; leads = p.1 })
+    (record {
+      type = t;
+      found = at;
+      algorithm = r.1;
+      at = r.2;
+      input = s.1;
+      input_at = s.2;
+      named = u.0;
+      transition = e.0;
+      is_one = e.1;
+      unsampled = y.0;
+      runs = y.1;
+      initial = f.0;
+      first = f.1;
+      reached = f.2;
+      not_given = of_failed _ p.1;
+    })
 
 -- ---- Charts
 
@@ -239,11 +319,12 @@ shadowed lib plan ss b t at w c =
 
 unnamed :
     (lib : Library) (plan : Plan) (ss : List Stimulus) (b : ℕ) (t : BasicType) → IsBasic lib b t → (w : Warning)
-    → Contains (charts.unnamed_events b t.transitions t.ports.event_inputs) w → Holds lib plan ss w
+    → Contains (events.unnamed_events b t t.ports.event_inputs) w → Holds lib plan ss w
 unnamed lib plan ss b t at w c =
-    let r = found_in (charts.unnamed_event b t.transitions) t.ports.event_inputs w c in
+    let r = found_in (events.unnamed_event b t) t.ports.event_inputs w c in
     let q = of_test _ _ w r.3 in
-    subst (Holds lib plan ss) q.1 (record { type = t; found = at; event = r.1; at = r.2; none = of_failed _ q.0 })
+    let p = of_two _ _ q.0 in
+    subst (Holds lib plan ss) q.1 (record { type = t; found = at; event = r.1; at = r.2; none = of_failed _ p.0; samples_none = of_failed _ p.1 })
 
 unused :
     (lib : Library) (plan : Plan) (ss : List Stimulus) (b : ℕ) (t : BasicType) → IsBasic lib b t → (w : Warning)
@@ -252,6 +333,18 @@ unused lib plan ss b t at w c =
     let r = found_in (charts.unused_algorithm b t.states) t.algorithms w c in
     let q = of_test _ _ w r.3 in
     subst (Holds lib plan ss) q.1 (record { type = t; found = at; algorithm = r.1; at = r.2; none = of_failed _ q.0 })
+
+endless :
+    (lib : Library) (plan : Plan) (ss : List Stimulus) (b : ℕ) (t : BasicType) → IsBasic lib b t → (w : Warning)
+    → Contains (circles.endless_states b t.transitions t.states) w → Holds lib plan ss w
+endless lib plan ss b t at w c =
+    let es = circles.certain_edges t.transitions in
+    let r = found_in (circles.endless_state b es) t.states w c in
+    let q = of_test _ _ w r.3 in
+    let e = passes_somewhere (circles.leads_back es r.1.name) es q.0 in
+    let p = of_two _ _ e.2 in
+    subst (Holds lib plan ss) q.1
+    (record { type = t; found = at; state = r.1; at = r.2; edge = e.0; is_certain = e.1; leaves = p.0; back = p.1 })
 
 -- ---- Ports of a basic type
 
@@ -273,7 +366,7 @@ silent lib plan ss b t at w c =
 unmentioned :
     (lib : Library) (plan : Plan) (ss : List Stimulus) (b : ℕ) (t : BasicType) → IsBasic lib b t → (p : PortKind) (vs : List Variable)
     → names_of_kind p t.ports ≡ map (λ v. v.name) vs
-    → ((v : Variable) → is_used_in (block.Basic t) p v.name ≡ list_any (reads.is_variable v.name) (reads.mentions_of t.algorithms t.transitions))
+    → ((k : ℕ) (v : Variable) → is_used_in (block.Basic t) p k v.name ≡ list_any (reads.is_variable v.name) (reads.mentions_of t.algorithms t.transitions))
     → (w : Warning) → Contains (reads.unmentioned_variables b p (reads.mentions_of t.algorithms t.transitions) vs) w → Holds lib plan ss w
 unmentioned lib plan ss b t at p vs names uses w c =
     let r = found_in (reads.unmentioned b p (reads.mentions_of t.algorithms t.transitions)) vs w c in
@@ -284,7 +377,7 @@ unmentioned lib plan ss b t at p vs names uses w c =
       found = at;
       port = r.1.name;
       at = ap (λ ns. slice_get ns r.0) names ∙ at_map (λ (v : Variable). v.name) vs r.0 r.1 r.2;
-      none = uses r.1 ∙ of_failed _ q.0;
+      none = uses r.0 r.1 ∙ of_failed _ q.0;
     })
 
 unassigned :
@@ -307,9 +400,9 @@ basic_ports lib plan ss b t at w c =
       | inl front ↦ elim (Contains-append_cases (one ++ two) three w front) [
         | inl first ↦ elim (Contains-append_cases one two w first) [
           | inl h ↦ silent lib plan ss b t at w h
-          | inr h ↦ unmentioned lib plan ss b t at kind.Input t.ports.inputs refl (λ v. refl) w h
+          | inr h ↦ unmentioned lib plan ss b t at kind.Input t.ports.inputs refl (λ _ _. refl) w h
         ]
-        | inr h ↦ unmentioned lib plan ss b t at kind.Output t.ports.outputs refl (λ v. refl) w h
+        | inr h ↦ unmentioned lib plan ss b t at kind.Output t.ports.outputs refl (λ _ _. refl) w h
       ]
       | inr h ↦ unassigned lib plan ss b t at w h
     ]
@@ -320,28 +413,80 @@ chart_holds lib plan ss b t at w c =
     let one = reached.unreached_states b t.transitions t.states in
     let two = charts.final_states b t.transitions t.states in
     let three = charts.shadowed_transitions b t.transitions in
-    let four = charts.unnamed_events b t.transitions t.ports.event_inputs in
+    let four = events.unnamed_events b t t.ports.event_inputs in
     let five = charts.unused_algorithms b t.states t.algorithms in
-    elim (Contains-append_cases (one ++ two ++ three ++ four) five w c) [
-      | inl some ↦ elim (Contains-append_cases (one ++ two ++ three) four w some) [
-        | inl front ↦ elim (Contains-append_cases (one ++ two) three w front) [
-          | inl first ↦ elim (Contains-append_cases one two w first) [
-            | inl h ↦ unreached_in lib plan ss b t at w t.states refl h
-            | inr h ↦ final lib plan ss b t at w h
+    let six = circles.endless_states b t.transitions t.states in
+    elim (Contains-append_cases (one ++ two ++ three ++ four ++ five) six w c) [
+      | inl most ↦ elim (Contains-append_cases (one ++ two ++ three ++ four) five w most) [
+        | inl some ↦ elim (Contains-append_cases (one ++ two ++ three) four w some) [
+          | inl front ↦ elim (Contains-append_cases (one ++ two) three w front) [
+            | inl first ↦ elim (Contains-append_cases one two w first) [
+              | inl h ↦ unreached_in lib plan ss b t at w t.states refl h
+              | inr h ↦ final lib plan ss b t at w h
+            ]
+            | inr h ↦ shadowed lib plan ss b t at w h
           ]
-          | inr h ↦ shadowed lib plan ss b t at w h
+          | inr h ↦ unnamed lib plan ss b t at w h
         ]
-        | inr h ↦ unnamed lib plan ss b t at w h
+        | inr h ↦ unused lib plan ss b t at w h
       ]
-      | inr h ↦ unused lib plan ss b t at w h
+      | inr h ↦ endless lib plan ss b t at w h
     ]
 
 readings_hold :
-    (lib : Library) (plan : Plan) (ss : List Stimulus) (b : ℕ) (t : BasicType) → IsBasic lib b t → (w : Warning) → Contains (readings b t) w → Holds lib plan ss w
+    (lib : Library) (plan : Plan) (ss : List Stimulus) (b : ℕ) (t : BasicType) → IsBasic lib b t → (w : Warning) → Contains (readings lib t.name b t) w → Holds lib plan ss w
 readings_hold lib plan ss b t at w c =
-    let one = reads.unsampled_in_guards b t.ports.event_inputs t.ports.inputs t.transitions in
-    let two = reads.unsampled_in_algorithms (record { states = t.states; transitions = t.transitions; events = t.ports.event_inputs }) b t.ports.inputs t.algorithms in
+    let one = reads.unsampled_in_guards lib t.name b t.ports.event_inputs t.ports.inputs t.transitions in
+    let two = reads.unsampled_in_algorithms lib t.name (chart t) b t.ports.inputs t.algorithms in
     elim (Contains-append_cases one two w c) [ inl h ↦ guards lib plan ss b t at w h | inr h ↦ algorithms lib plan ss b t at w h ]
+
+-- ---- Statements, guards and internal variables
+
+dividing_guard :
+    (lib : Library) (plan : Plan) (ss : List Stimulus) (b : ℕ) (t : BasicType) → IsBasic lib b t → (w : Warning)
+    → Contains (constants.dividing_guards b t.transitions) w → Holds lib plan ss w
+dividing_guard lib plan ss b t at w c =
+    let r = found_in (constants.dividing_guard b) t.transitions w c in
+    let q = of_test _ _ w r.3 in
+    subst (Holds lib plan ss) q.1 (record { type = t; found = at; transition = r.1; at = r.2; divides = q.0 })
+
+-- a statement of an algorithm
+a_statement :
+    (lib : Library) (b a k : ℕ) (t : BasicType) → IsBasic lib b t → (x : Algorithm) → IsAt t.algorithms a x → (s : Standing)
+    → IsAt (each_in_body false (body_of x.body)) k s → IsStatement lib b a k t s.1
+a_statement lib b a k t at x x_at s s_at = record { found = at; algorithm = x; at = x_at; in_loop = s.0; statement_at = s_at }
+
+constants_hold :
+    (lib : Library) (plan : Plan) (ss : List Stimulus) (b : ℕ) (t : BasicType) → IsBasic lib b t → (w : Warning)
+    → Contains (constants.constants_of_algorithms t b t.algorithms) w → Holds lib plan ss w
+constants_hold lib plan ss b t at w c =
+    let r = found_in (constants.constants_in t b) t.algorithms w c in
+    let s = found_in (constants.constants_of t b r.0) (each_in_body false (body_of r.1.body)) w r.3 in
+    let is = a_statement lib b r.0 s.0 t at r.1 r.2 s.1 s.2 in
+    let one = when (constants.assigns_too_large t s.1.1) (UnheldConstant b r.0 s.0) in
+    let two = when (constants.divides_in s.1.1) (ZeroDivisor b r.0 s.0) in
+    elim (Contains-append_cases one two w s.3) [
+      | inl h ↦ let q = of_test _ _ w h in subst (Holds lib plan ss) q.1 (record { type = t; statement = s.1.1; is = is; too_large = q.0 })
+      | inr h ↦ let q = of_test _ _ w h in subst (Holds lib plan ss) q.1 (record { type = t; statement = s.1.1; is = is; divides = q.0 })
+    ]
+
+repeated :
+    (lib : Library) (plan : Plan) (ss : List Stimulus) (b : ℕ) (t : BasicType) → IsBasic lib b t → (w : Warning)
+    → Contains (statements.repeated_labels b t.algorithms) w → Holds lib plan ss w
+repeated lib plan ss b t at w c =
+    let r = found_in (statements.repeated_of b) t.algorithms w c in
+    let s = found_in (statements.repeated_label b r.0) (each_in_body false (body_of r.1.body)) w r.3 in
+    let q = of_test _ _ w s.3 in
+    subst (Holds lib plan ss) q.1
+    (record { type = t; statement = s.1.1; is = a_statement lib b r.0 s.0 t at r.1 r.2 s.1 s.2; repeated = q.0 })
+
+unread :
+    (lib : Library) (plan : Plan) (ss : List Stimulus) (b : ℕ) (t : BasicType) → IsBasic lib b t → (w : Warning)
+    → Contains (statements.unread_internals b t) w → Holds lib plan ss w
+unread lib plan ss b t at w c =
+    let r = found_in (statements.unread_internal b (statements.reads_of t.algorithms t.transitions)) t.internals w c in
+    let q = of_test _ _ w r.3 in
+    subst (Holds lib plan ss) q.1 (record { type = t; found = at; internal = r.1; at = r.2; none = of_failed _ q.0 })
 
 -- ---- Networks
 
@@ -354,28 +499,141 @@ unfed lib plan ss s net there w c =
     let r = found_in (nets.unfed_in_instance lib s cs given) net.1.instances w c in
     let v = found_in (nets.unfed_input s cs given r.0 r.1) (nets.inputs_of (option_map ports_of (type_named lib r.1.block_type))) w r.3 in
     let q = of_test _ _ w v.3 in
-    subst (Holds lib plan ss) q.1 (record { network = net; there = there; instance = r.1; found = r.2; input = v.1; at = v.2; none = of_failed _ q.0 })
+    let p = of_two _ _ q.0 in
+    subst (Holds lib plan ss) q.1
+    (record {
+      network = net;
+      there = there;
+      instance = r.1;
+      found = r.2;
+      input = v.1;
+      at = v.2;
+      none = of_failed _ p.0;
+      needed = of_failed _ p.1;
+    })
+
+-- what is found at an instance whose ports are these
+unreached_at :
+    (lib : Library) (plan : Plan) (ss : List Stimulus) (s : Site) (net : OwnedNetwork) → network_at lib s ≡ Some net → (i : ℕ) (x : Instance) → IsAt net.1.instances i x
+    → (p : Ports) → option_map ports_of (type_named lib x.block_type) ≡ Some p → (w : Warning) → (met : Bool)
+    → instances.is_reached net.1.event_connections (stimuli_at s ss) x.name ≡ met
+    → Contains
+    (if met then instances.unreached_events s net.1.event_connections (stimuli_at s ss) i x p.inputs p.event_inputs
+    else when (instances.has_events p.event_inputs) (UnreachedInstance s i)) w
+    → Holds lib plan ss w
+unreached_at lib plan ss s net there i x at p type w true met c =
+    let es = net.1.event_connections in
+    let given = stimuli_at s ss in
+    let r = found_in (instances.unreached_event s es given i x p.inputs) p.event_inputs w c in
+    let q = of_test _ _ w r.3 in
+    let u = of_two _ _ q.0 in
+    let v = of_two _ _ u.0 in
+    subst (Holds lib plan ss) q.1
+    (record {
+      network = net;
+      instance = x;
+      ports = p;
+      is = record { there = there; found = at; type = type };
+      event = r.1;
+      at = r.2;
+      reached = met;
+      none = of_failed _ v.0;
+      needed = of_failed _ v.1;
+      not_preset = of_failed _ u.1;
+    })
+unreached_at lib plan ss s net there i x at p type w false met c =
+    let q = of_test _ _ w c in
+    subst (Holds lib plan ss) q.1
+    (record { network = net; instance = x; ports = p; is = record { there = there; found = at; type = type }; some = q.0; none = met })
+
+unreached_of :
+    (lib : Library) (plan : Plan) (ss : List Stimulus) (s : Site) (net : OwnedNetwork) → network_at lib s ≡ Some net → (i : ℕ) (x : Instance) → IsAt net.1.instances i x
+    → (o : Option Ports) → option_map ports_of (type_named lib x.block_type) ≡ o → (w : Warning)
+    → Contains (instances.unreached_by s net.1.event_connections (stimuli_at s ss) i x o) w → Holds lib plan ss w
+unreached_of lib plan ss s net there i x at None type w c = absurd (Contains-nil w c)
+unreached_of lib plan ss s net there i x at (Some p) type w c = unreached_at lib plan ss s net there i x at p type w _ refl c
+
+unreached_net :
+    (lib : Library) (plan : Plan) (ss : List Stimulus) (s : Site) (net : OwnedNetwork) → network_at lib s ≡ Some net → (w : Warning)
+    → Contains (instances.unreached_in_network lib s net.1.event_connections (stimuli_at s ss) net.1.instances) w → Holds lib plan ss w
+unreached_net lib plan ss s net there w c =
+    let r = found_in (instances.unreached_of lib s net.1.event_connections (stimuli_at s ss)) net.1.instances w c in
+    unreached_of lib plan ss s net there r.0 r.1 r.2 (option_map ports_of (type_named lib r.1.block_type)) refl w r.3
+
+silent_net :
+    (lib : Library) (plan : Plan) (ss : List Stimulus) (s : Site) (net : OwnedNetwork) → network_at lib s ≡ Some net → (w : Warning)
+    → Contains (instances.silent_sources s net.1.instances net.1.event_connections) w → Holds lib plan ss w
+silent_net lib plan ss s net there w c =
+    let r = found_in (instances.silent_source s net.1.instances) net.1.event_connections w c in
+    let q = of_test _ _ w r.3 in
+    subst (Holds lib plan ss) q.1 (record { network = net; there = there; connection = r.1; at = r.2; silent = q.0 })
+
+network_holds :
+    (lib : Library) (plan : Plan) (ss : List Stimulus) (s : Site) (net : OwnedNetwork) → network_at lib s ≡ Some net → (w : Warning)
+    → Contains (of_network lib s net.1 (stimuli_at s ss)) w → Holds lib plan ss w
+network_holds lib plan ss s net there w c =
+    let one = nets.unfed_in_network lib s net.1.data_connections (stimuli_at s ss) net.1.instances in
+    let two = instances.unreached_in_network lib s net.1.event_connections (stimuli_at s ss) net.1.instances in
+    let three = instances.silent_sources s net.1.instances net.1.event_connections in
+    elim (Contains-append_cases (one ++ two) three w c) [
+      | inl front ↦ elim (Contains-append_cases one two w front) [
+        | inl h ↦ unfed lib plan ss s net there w h
+        | inr h ↦ unreached_net lib plan ss s net there w h
+      ]
+      | inr h ↦ silent_net lib plan ss s net there w h
+    ]
+
+early :
+    (lib : Library) (plan : Plan) (ss : List Stimulus) (w : Warning)
+    → Contains (instances.early_stimuli lib.application.network.instances lib.application.network.event_connections ss) w → Holds lib plan ss w
+early lib plan ss w c =
+    let net = lib.application.network in
+    let r = found_in (instances.early_stimulus net.instances net.event_connections) ss w c in
+    let q = of_test _ _ w r.3 in
+    subst (Holds lib plan ss) q.1 (record { stimulus = r.1; at = r.2; first = q.0 })
 
 composite_holds :
     (lib : Library) (plan : Plan) (ss : List Stimulus) (b : ℕ) (t : CompositeType) → IsAt lib.blocks b (block.Composite t) → (w : Warning)
     → Contains (of_composite lib b t) w → Holds lib plan ss w
 composite_holds lib plan ss b t at w c =
     let net = t.network in
-    elim (Contains-append_cases (nets.unfed_in_network lib (Inside b) net.data_connections [] net.instances) (ports.unjoined_ports b t) w c) [
+    elim (Contains-append_cases (of_network lib (Inside b) net []) (ports.unjoined_ports b t) w c) [
       | inl h ↦
-          unfed lib plan ss (Inside b) (Some t, net) (ap (λ o. option_and_then network_inside o) at) w h
+          network_holds lib plan ss (Inside b) (Some t, net) (ap (λ o. option_and_then network_inside o) at) w h
       | inr h ↦ unjoined lib plan ss b t at w h
+    ]
+
+statements_hold :
+    (lib : Library) (plan : Plan) (ss : List Stimulus) (b : ℕ) (t : BasicType) → IsBasic lib b t → (w : Warning) → Contains (of_statements b t) w → Holds lib plan ss w
+statements_hold lib plan ss b t at w c =
+    let one = constants.dividing_guards b t.transitions in
+    let two = constants.constants_of_algorithms t b t.algorithms in
+    let three = statements.repeated_labels b t.algorithms in
+    let four = statements.unread_internals b t in
+    elim (Contains-append_cases ((one ++ two) ++ three) four w c) [
+      | inl front ↦ elim (Contains-append_cases (one ++ two) three w front) [
+        | inl first ↦ elim (Contains-append_cases one two w first) [
+          | inl h ↦ dividing_guard lib plan ss b t at w h
+          | inr h ↦ constants_hold lib plan ss b t at w h
+        ]
+        | inr h ↦ repeated lib plan ss b t at w h
+      ]
+      | inr h ↦ unread lib plan ss b t at w h
     ]
 
 type_holds :
     (lib : Library) (plan : Plan) (ss : List Stimulus) (b : ℕ) (t : BlockType) → IsAt lib.blocks b t → (w : Warning) → Contains (of_type lib b t) w → Holds lib plan ss w
 type_holds lib plan ss b (block.Basic t) at w c =
-    elim (Contains-append_cases (readings b t ++ of_chart b t) (of_ports b t) w c) [
-      | inl front ↦ elim (Contains-append_cases (readings b t) (of_chart b t) w front) [
-        | inl h ↦ readings_hold lib plan ss b t at w h
-        | inr h ↦ chart_holds lib plan ss b t at w h
+    let one = readings lib t.name b t in
+    elim (Contains-append_cases (one ++ of_chart b t ++ of_ports b t) (of_statements b t) w c) [
+      | inl most ↦ elim (Contains-append_cases (one ++ of_chart b t) (of_ports b t) w most) [
+        | inl front ↦ elim (Contains-append_cases one (of_chart b t) w front) [
+          | inl h ↦ readings_hold lib plan ss b t at w h
+          | inr h ↦ chart_holds lib plan ss b t at w h
+        ]
+        | inr h ↦ basic_ports lib plan ss b t at w h
       ]
-      | inr h ↦ basic_ports lib plan ss b t at w h
+      | inr h ↦ statements_hold lib plan ss b t at w h
     ]
 type_holds lib plan ss b (block.Composite t) at w c = composite_holds lib plan ss b t at w c
 
@@ -383,14 +641,18 @@ block_holds :
     (lib : Library) (plan : Plan) (ss : List Stimulus) (b : ℕ) (t : BlockType) → IsAt lib.blocks b t → (w : Warning) → Contains (of_block lib b t) w → Holds lib plan ss w
 block_holds lib plan ss b t at w c =
     let its = ports_of (kind_of t) in
-    let one = nets.unused_type lib b t in
-    let two = ports.unsampled_inputs b its.event_inputs its.inputs in
-    elim (Contains-append_cases (one ++ two) (of_type lib b t) w c) [
-      | inl front ↦ elim (Contains-append_cases one two w front) [
-        | inl h ↦
-            let q = of_test _ _ w h in
-            subst (Holds lib plan ss) q.1 (record { type = t; found = at; none = of_failed (nets.is_used_type lib (type_name t)) q.0 })
-        | inr h ↦ unsampled lib plan ss b t at w h
+    let one = nets.unused_type lib (type_name t) b in
+    let two = ports.unsampled_inputs lib (type_name t) b its.event_inputs its.inputs in
+    let three = outputs.unsent_outputs lib (type_name t) b t its.outputs in
+    elim (Contains-append_cases (one ++ two ++ three) (of_type lib b t) w c) [
+      | inl some ↦ elim (Contains-append_cases (one ++ two) three w some) [
+        | inl front ↦ elim (Contains-append_cases one two w front) [
+          | inl h ↦
+              let q = of_test _ _ w h in
+              subst (Holds lib plan ss) q.1 (record { type = t; found = at; none = of_failed (nets.is_used_type lib (type_name t)) q.0 })
+          | inr h ↦ unsampled lib plan ss b t at w h
+        ]
+        | inr h ↦ unsent lib plan ss b t at w h
       ]
       | inr h ↦ type_holds lib plan ss b t at w h
     ]
@@ -409,12 +671,16 @@ pub each_holds : WarningsHold
 each_holds lib plan ss w c =
     let net = lib.application.network in
     let one = of_blocks lib lib.blocks in
-    let two = nets.unfed_in_network lib Application net.data_connections ss net.instances in
-    let three = nets.unused_links plan.resources net.event_connections net.data_connections plan.links in
-    elim (Contains-append_cases (one ++ two) three w c) [
-      | inl front ↦ elim (Contains-append_cases one two w front) [
-        | inl h ↦ let r = found_in (of_block lib) lib.blocks w h in block_holds lib plan ss r.0 r.1 r.2 w r.3
-        | inr h ↦ unfed lib plan ss Application (None, net) refl w h
+    let two = of_network lib Application net ss in
+    let three = instances.early_stimuli net.instances net.event_connections ss in
+    let four = nets.unused_links plan.resources net.event_connections net.data_connections plan.links in
+    elim (Contains-append_cases (one ++ two ++ three) four w c) [
+      | inl some ↦ elim (Contains-append_cases (one ++ two) three w some) [
+        | inl front ↦ elim (Contains-append_cases one two w front) [
+          | inl h ↦ let r = found_in (of_block lib) lib.blocks w h in block_holds lib plan ss r.0 r.1 r.2 w r.3
+          | inr h ↦ network_holds lib plan ss Application (None, net) refl w h
+        ]
+        | inr h ↦ early lib plan ss w h
       ]
       | inr h ↦ links_hold lib plan ss w h
     ]

@@ -1,7 +1,7 @@
 use Rattle.std.proofs.Common.{◌≡◌, drop}
 use Rattle.std.specs.List.{list_any}
-use Rattle.fb_lint.specs.Reads.{leads_unsampled}
+use Rattle.fb_lint.specs.Reads.{chart_of, leads_unsampled}
 use Rattle.fb_lint.proofs.algorithms.has_leading.Given as goal
 
 abbrev pub invariant-loop-transition : goal.invariant-loop-transition
-invariant-loop-transition l = list_any (leads_unsampled l.chart.states.now l.chart.events.now l.algorithm l.variable) l.transitions ≡ list_any (leads_unsampled l.chart.states.now l.chart.events.now l.algorithm l.variable) (drop l.transition-index l.transitions)
+invariant-loop-transition l = list_any (leads_unsampled (chart_of l.chart) l.algorithm l.variable) l.transitions ≡ list_any (leads_unsampled (chart_of l.chart) l.algorithm l.variable) (drop l.transition-index l.transitions)

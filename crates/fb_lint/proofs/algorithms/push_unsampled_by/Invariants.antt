@@ -7,4 +7,4 @@ use Rattle.fb_lint.proofs.algorithms.push_unsampled_by.Given as goal
 -- with what is found in the rest, all is there
 abbrev pub invariant-loop-input : goal.invariant-loop-input
 invariant-loop-input l =
-    l.all.items ++ each_from (spec.unsampled_in_algorithm (spec.chart_of l.chart) l.at.block l.at.index l.at.algorithm.now.name (meant_all l.mentions)) l.input (drop l.input l.inputs) ≡ l.fn.all.items ++ each_from (spec.unsampled_in_algorithm (spec.chart_of l.chart) l.at.block l.at.index l.at.algorithm.now.name (meant_all l.mentions)) 0 l.inputs
+    l.all.items ++ each_from (spec.unsampled_in_algorithm l.at.of.library.now l.at.of.name.now (spec.chart_of l.chart) l.at.of.block l.at.index l.at.algorithm.now.name (meant_all l.mentions)) l.input (drop l.input l.inputs) ≡ l.fn.all.items ++ each_from (spec.unsampled_in_algorithm l.at.of.library.now l.at.of.name.now (spec.chart_of l.chart) l.at.of.block l.at.index l.at.algorithm.now.name (meant_all l.mentions)) 0 l.inputs

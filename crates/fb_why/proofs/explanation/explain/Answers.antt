@@ -51,7 +51,9 @@ returns-clause-named c =
     let ruled = named n _ _ _ c.or-4.ensures mapped c.look_up-5.ensures.named in
     let warned = named n _ _ _ c.or-5.ensures ruled c.look_up-6.ensures.named in
     let more = named n _ _ _ c.or-6.ensures warned c.look_up-7.ensures.named in
-    named n _ _ _ c.or-7.ensures more c.look_up-8.ensures.named
+    let networked = named n _ _ _ c.or-7.ensures more c.look_up-8.ensures.named in
+    let coursed = named n _ _ _ c.or-8.ensures networked c.look_up-9.ensures.named in
+    named n _ _ _ c.or-9.ensures coursed c.look_up-10.ensures.named
 
 pub returns-clause-all : goal.returns-clause-all
 returns-clause-all c =
@@ -62,5 +64,7 @@ returns-clause-all c =
     let mapped = after n (of_declarations ++ of_inputs ++ take 6 of_checks) (drop 6 of_checks ++ codes "file fault" ∷ []) c.of_mappings.result.now _ _ _ c.or-3.ensures checks c.of_mappings.ensures c.look_up-4.ensures.found in
     let ruled = after n (of_declarations ++ of_inputs ++ checked) of_rules c.of_rules.result.now _ _ _ c.or-4.ensures mapped c.of_rules.ensures c.look_up-5.ensures.found in
     let warned = after n (of_declarations ++ of_inputs ++ checked ++ of_rules) (take 6 of_warnings) c.of_warnings.result.now _ _ _ c.or-5.ensures ruled c.of_warnings.ensures c.look_up-6.ensures.found in
-    let more = after n (of_declarations ++ of_inputs ++ checked ++ of_rules ++ take 6 of_warnings) (drop 6 of_warnings) c.of_more_warnings.result.now _ _ _ c.or-6.ensures warned c.of_more_warnings.ensures c.look_up-7.ensures.found in
-    after n (of_declarations ++ of_inputs ++ checked ++ of_rules ++ of_warnings) of_stops c.of_stops.result.now _ _ _ c.or-7.ensures more c.of_stops.ensures c.look_up-8.ensures.found
+    let more = after n (of_declarations ++ of_inputs ++ checked ++ of_rules ++ take 6 of_warnings) (take 7 (drop 6 of_warnings)) c.of_more_warnings.result.now _ _ _ c.or-6.ensures warned c.of_more_warnings.ensures c.look_up-7.ensures.found in
+    let networked = after n (of_declarations ++ of_inputs ++ checked ++ of_rules ++ take 13 of_warnings) (take 5 (drop 13 of_warnings)) c.of_network_warnings.result.now _ _ _ c.or-7.ensures more c.of_network_warnings.ensures c.look_up-8.ensures.found in
+    let coursed = after n (of_declarations ++ of_inputs ++ checked ++ of_rules ++ take 18 of_warnings) (drop 18 of_warnings) c.of_course_warnings.result.now _ _ _ c.or-8.ensures networked c.of_course_warnings.ensures c.look_up-9.ensures.found in
+    after n (of_declarations ++ of_inputs ++ checked ++ of_rules ++ of_warnings) of_stops c.of_stops.result.now _ _ _ c.or-9.ensures coursed c.of_stops.ensures c.look_up-10.ensures.found

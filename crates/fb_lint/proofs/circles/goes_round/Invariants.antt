@@ -1,0 +1,9 @@
+use Rattle.std.proofs.Common.{◌≡◌, drop}
+use Rattle.std.specs.List.{list_any}
+use Rattle.fb_lint.specs.Circles.{leads_back}
+use Rattle.fb_lint.specs.Reached.{edges_are}
+use Rattle.fb_lint.proofs.circles.goes_round.Given as goal
+
+abbrev pub invariant-loop-edge : goal.invariant-loop-edge
+invariant-loop-edge l =
+    list_any (leads_back (edges_are l.edges) l.state) (edges_are l.edges) ≡ list_any (leads_back (edges_are l.edges) l.state) (edges_are (drop l.edge-index l.edges))

@@ -1,0 +1,8 @@
+use Rattle.std.proofs.Common.{◌≡◌, drop}
+use Rattle.fb_check.specs.types.Trees.{choices_of}
+use Rattle.fb_lint.specs.Constants.{condition_divides}
+use Rattle.fb_lint.proofs.constants.condition_divides.Given as goal
+
+-- the conditions before do not divide by 0
+abbrev pub invariant-loop-choice : goal.invariant-loop-choice
+invariant-loop-choice l = condition_divides (choices_of l.choices) ≡ condition_divides (choices_of (drop l.choice-index l.choices))

@@ -1,0 +1,7 @@
+use Rattle.std.proofs.Common.{◌≡◌, drop}
+use Rattle.std.specs.List.{list_any}
+use Rattle.fb_lint.specs.Constants.{is_narrow}
+use Rattle.fb_lint.proofs.constants.has_narrow.Given as goal
+
+abbrev pub invariant-loop-variable : goal.invariant-loop-variable
+invariant-loop-variable l = list_any (is_narrow l.name l.number) l.variables ≡ list_any (is_narrow l.name l.number) (drop l.variable-index l.variables)

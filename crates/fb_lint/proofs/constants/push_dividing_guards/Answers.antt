@@ -1,0 +1,15 @@
+use Rattle.std.proofs.Common.{◌++◌, Bool, ◌∙◌, ap}
+use Rattle.fb_lint.specs.Findings.{when}
+use Rattle.fb_lint.specs.declared.warning.Warning.TheVariants.{ZeroDivisorInGuard}
+use Rattle.fb_lint.specs.Constants as spec
+use Rattle.fb_lint.proofs.lemmas.WarningLists.{all_found, next_found}
+use Rattle.fb_lint.proofs.constants.push_dividing_guards.Goals as goal
+
+pub loop-transition-preserved : goal.loop-transition-preserved
+loop-transition-preserved c =
+    next_found (spec.dividing_guard c.args.block) c.args.transitions.now c.loop-transition.transition c.index-transitions-transition.result c.loop-transition.all.items _ _ c.loop-transition-test.true c.index-transitions-transition.is
+    (c.in_ok-push_if.ensures ∙ ap (λ (b : Bool). c.loop-transition.all.items ++ when b (ZeroDivisorInGuard c.args.block c.loop-transition.transition)) c.guard_divides.ensures)
+    c.loop-transition.invariant
+
+pub returns : goal.returns
+returns c = all_found (spec.dividing_guard c.args.block) c.args.transitions.now c.loop-transition.transition _ _ c.loop-transition-test.false c.loop-transition.invariant

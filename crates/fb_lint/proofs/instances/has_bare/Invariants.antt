@@ -1,0 +1,7 @@
+use Rattle.std.proofs.Common.{◌≡◌, drop}
+use Rattle.std.specs.List.{list_any}
+use Rattle.fb_lint.specs.Instances.{names_bare}
+use Rattle.fb_lint.proofs.instances.has_bare.Given as goal
+
+abbrev pub invariant-loop-name : goal.invariant-loop-name
+invariant-loop-name l = list_any (names_bare l.inputs) l.names ≡ list_any (names_bare l.inputs) (drop l.name-index l.names)

@@ -1,0 +1,7 @@
+use Rattle.std.proofs.Common.{◌≡◌, drop}
+use Rattle.std.specs.List.{list_any}
+use Rattle.fb_lint.specs.Instances.{leads_cold}
+use Rattle.fb_lint.proofs.instances.has_cold.Given as goal
+
+abbrev pub invariant-loop-connection : goal.invariant-loop-connection
+invariant-loop-connection l = list_any (leads_cold l.instances l.instance) l.connections ≡ list_any (leads_cold l.instances l.instance) (drop l.connection-index l.connections)

@@ -1,0 +1,7 @@
+use Rattle.std.proofs.Common.{◌≡◌, drop}
+use Rattle.std.specs.List.{list_any}
+use Rattle.fb_lint.specs.Instances.{is_bare}
+use Rattle.fb_lint.proofs.instances.is_bare.Given as goal
+
+abbrev pub invariant-loop-input : goal.invariant-loop-input
+invariant-loop-input l = list_any (is_bare l.name) l.inputs ≡ list_any (is_bare l.name) (drop l.input-index l.inputs)

@@ -1,0 +1,9 @@
+use Rattle.std.proofs.Common.{◌≡◌, ◌++◌, drop}
+use Rattle.fb_lint.specs.Findings.{each_from}
+use Rattle.fb_lint.specs.Instances as spec
+use Rattle.fb_lint.proofs.instances.push_unreached.Given as goal
+
+-- with what is found in the rest, all is there
+abbrev pub invariant-loop-index : goal.invariant-loop-index
+invariant-loop-index l =
+    l.all.items ++ each_from (spec.unreached_of l.types.library.now l.site l.connections l.stimuli) l.index (drop l.index l.instances) ≡ l.fn.all.items ++ each_from (spec.unreached_of l.types.library.now l.site l.connections l.stimuli) 0 l.instances

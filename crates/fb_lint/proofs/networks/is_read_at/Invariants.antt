@@ -1,0 +1,7 @@
+use Rattle.std.proofs.Common.{◌≡◌, drop}
+use Rattle.std.specs.List.{list_any}
+use Rattle.fb_lint.specs.Networks.{comes_from}
+use Rattle.fb_lint.proofs.networks.is_read_at.Given as goal
+
+abbrev pub invariant-loop-connection : goal.invariant-loop-connection
+invariant-loop-connection l = list_any (comes_from l.instance l.output) l.connections ≡ list_any (comes_from l.instance l.output) (drop l.connection-index l.connections)

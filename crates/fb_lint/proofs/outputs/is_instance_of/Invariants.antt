@@ -1,0 +1,7 @@
+use Rattle.std.proofs.Common.{◌≡◌, drop}
+use Rattle.std.specs.List.{list_any}
+use Rattle.fb_lint.specs.Outputs.{is_instance}
+use Rattle.fb_lint.proofs.outputs.is_instance_of.Given as goal
+
+abbrev pub invariant-loop-instance : goal.invariant-loop-instance
+invariant-loop-instance l = list_any (is_instance l.of l.name) l.instances ≡ list_any (is_instance l.of l.name) (drop l.instance-index l.instances)

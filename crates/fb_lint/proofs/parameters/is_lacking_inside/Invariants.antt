@@ -1,0 +1,7 @@
+use Rattle.std.proofs.Common.{◌≡◌, drop}
+use Rattle.std.specs.List.{list_any}
+use Rattle.fb_lint.specs.Parameters.{lacks_inside}
+use Rattle.fb_lint.proofs.parameters.is_lacking_inside.Given as goal
+
+abbrev pub invariant-loop-block : goal.invariant-loop-block
+invariant-loop-block l = list_any (lacks_inside l.of l.input) l.blocks ≡ list_any (lacks_inside l.of l.input) (drop l.block-index l.blocks)
