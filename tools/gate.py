@@ -13,7 +13,8 @@ First it installs the system packages of tools/system_packages.txt that are miss
 - proofs, from scratch: every crate and its tests are proved, and every wrong implementation in crates/*/must-fail is refused
 - tests and programs
 - calls of the program: each status (tools/calls.py), the commands that pages of docs/ show (tools/pages.py), the suite of
-  examples/bottling, whole and broken (tools/bottling_suite.py), ./simulate (tools/launcher.py), the packages (tools/packages.py),
+  examples/bottling, whole and broken (tools/bottling_suite.py), the warnings about mistakes in copies of the examples
+  (tools/slips.py), ./simulate (tools/launcher.py), the packages (tools/packages.py),
   waveforms of the examples (tools/waves.py), graphs of declarations (tools/graphs.py), what happens inside traces (tools/insides.py),
   waveforms with it (tools/state_waves.py), texts that are no traces (tools/traces.py), the stored cases of cases/ (tools/cases.py),
   rings of resources (tools/rings.py), random systems (tools/drawn.py), random types (tools/drawn_types.py), where they stop
@@ -67,6 +68,7 @@ import pages
 import python_package
 import refuse
 import rings
+import slips
 import state_waves
 import stops
 import system_packages
@@ -226,6 +228,7 @@ def call_after_each_run():
     def tries(made):
         yield pages.main(made) == 0
         yield bottling_suite.try_all(made)
+        yield slips.try_all(made)
         yield launcher.main(made) == 0
         yield packages.main(made) == 0
         yield waves.make_all(made)
