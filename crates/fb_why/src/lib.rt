@@ -46,6 +46,7 @@ pub use listing::{Findings, MOST_FINDINGS, discard_findings};
 pub use location::{Finding, FindingLocation};
 pub use place::PlacedFinding;
 pub use rules_messages::{rules_message, unknown_key_message};
-pub use stimuli_messages::stimuli_message;
+pub use stimuli_messages::{row_message, stimuli_message};
+pub use stimulus_messages::unfit_message;
 pub use table::{Explanation, OF_CHECKS, OF_DECLARATIONS, OF_INPUTS};
 pub use text_messages::text_message;

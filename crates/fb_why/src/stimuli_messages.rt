@@ -35,7 +35,15 @@ pub fn stimuli_message(
 /// because memory ran out.
 fn push_record(alloc: Global, text: &mut Text, bytes: &[u8], at: usize, fault: Option<RowFault>) {
     match (record_at(alloc, bytes, at), fault) {
-        (Ok(Some(row)), Some(fault)) => push_fault(text, &row, fault),
+        (Ok(Some(row)), Some(fault)) => {
+            let fields = Fields {
+                count: row.len(),
+                tick: row.get(0),
+                event: row.get(1),
+                values: row.get(2),
+            };
+            push_fault(text, &fields, fault);
+        }
         (Ok(Some(first)), None) => push_fields(text, &first),
         (Ok(None), _) => {}
         (Err(_), _) => text.give_up(),
@@ -55,23 +63,53 @@ fn push_fields(text: &mut Text, first: &ByteRecord) {
     text.words(" is not tick,event,values");
 }
 
-fn push_fault(text: &mut Text, row: &ByteRecord, fault: RowFault) {
+/// The fields of a row, as far as it has them.
+#[derive(Clone, Copy)]
+struct Fields<'a> {
+    count: usize,
+    tick: Option<&'a [u8]>,
+    event: Option<&'a [u8]>,
+    values: Option<&'a [u8]>,
+}
+
+/// What is wrong with a row that is given by its three fields, under the number that it would have.
+pub fn row_message(
+    alloc: Global,
+    row: usize,
+    tick: &[u8],
+    event: &[u8],
+    values: &[u8],
+    fault: RowFault,
+) -> Result<String, AllocError> {
+    let mut text = Text::new(alloc);
+    text.numbered("row ", row, ": ");
+    let fields = Fields {
+        count: 3,
+        tick: Some(tick),
+        event: Some(event),
+        values: Some(values),
+    };
+    push_fault(&mut text, &fields, fault);
+    text.into_string()
+}
+
+fn push_fault(text: &mut Text, row: &Fields<'_>, fault: RowFault) {
     match fault {
-        RowFault::Fields => text.numbered("", row.len(), " instead of 3 fields"),
-        RowFault::Event => push_field(text, "the event ", row.get(1), " is not INSTANCE.EVENT"),
+        RowFault::Fields => text.numbered("", row.count, " instead of 3 fields"),
+        RowFault::Event => push_field(text, "the event ", row.event, " is not INSTANCE.EVENT"),
         RowFault::Word(word) => {
             push_field(text, "the word ", word_at(row, word), " is not NAME=VALUE");
         }
-        RowFault::Tick => push_field(text, "the tick ", row.get(0), " is not a number"),
+        RowFault::Tick => push_field(text, "the tick ", row.tick, " is not a number"),
         RowFault::Value(word) => push_field(text, "the word ", word_at(row, word), NO_VALUE),
-        RowFault::Late => push_field(text, "the tick ", row.get(0), " is over 1,000,000,000,000"),
+        RowFault::Late => push_field(text, "the tick ", row.tick, " is over 1,000,000,000,000"),
         RowFault::Crowded => text.words("100,000 rows are before it"),
     }
 }
 
 /// The word of the last field at an index among those between spaces.
-fn word_at(row: &ByteRecord, index: usize) -> Option<&[u8]> {
-    let mut rest = row.get(2)?;
+fn word_at<'a>(row: &Fields<'a>, index: usize) -> Option<&'a [u8]> {
+    let mut rest = row.values?;
     for _ in 0..index {
         rest = split_front(split_front(rest, ByteKind::Spaces).1, ByteKind::NotSpaces).1;
     }

@@ -5,6 +5,7 @@ use fb_check::types::variable_type;
 use fb_check::{StimulusFault, StimulusLocation};
 use fb_read_positions::{BlockTypes, Text};
 use fb_types::{Connection, Name, Setting, Stimulus, Ty, instance_named};
+use std::alloc::{AllocError, Global};
 
 /// Adds what is wrong with the stimulus at this location. Rows are counted from 0 after the heading, as in the keys of
 /// events.
@@ -14,10 +15,27 @@ pub(crate) fn push_stimulus(
     stimuli: &[Stimulus],
     location: StimulusLocation,
 ) {
-    text.numbered("row ", location.row, ": ");
     let Some(stimulus) = stimuli.get(location.row) else {
         return;
     };
+    push_one(text, types, stimulus, location);
+}
+
+/// What is wrong with a stimulus that is given, under the number that it would have.
+pub fn unfit_message(
+    alloc: Global,
+    types: &BlockTypes,
+    stimulus: &Stimulus,
+    location: StimulusLocation,
+) -> Result<String, AllocError> {
+    let mut text = Text::new(alloc);
+    push_one(&mut text, types, stimulus, location);
+    text.into_string()
+}
+
+/// Adds what is wrong with a stimulus. The location has its number.
+fn push_one(text: &mut Text, types: &BlockTypes, stimulus: &Stimulus, location: StimulusLocation) {
+    text.numbered("row ", location.row, ": ");
     match location.fault {
         StimulusFault::Event => {
             let instances = types.library.application.network.instances.as_slice();
