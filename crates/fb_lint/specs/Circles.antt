@@ -1,5 +1,5 @@
 -- States that go in a circle by transitions that always clear: a reaction that enters one never ends (IEC 61499-1, 5.2.2).
-use Rattle.std.specs.Prelude.{ℕ, List, [], take, Bool, not, ◌&&◌, is_some}
+use Rattle.std.specs.Prelude.{ℕ, List, take, Bool, not, ◌&&◌, is_some}
 use Rattle.std.specs.List.{list_any}
 use Rattle.fb_types.specs.Names.{Name, same_name}
 use Rattle.fb_types.specs.declared.library.State.{State}

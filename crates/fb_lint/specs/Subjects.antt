@@ -3,8 +3,6 @@ use Rattle.std.specs.Prelude.{ℕ, List, Bool, false, ◌||◌, Option, Some, No
 use Rattle.fb_types.specs.Names.{Name, same_name}
 use Rattle.fb_types.specs.Flat.{type_name}
 use Rattle.fb_types.specs.declared.deploy.Stimulus.{Stimulus}
-use Rattle.fb_types.specs.declared.library.BlockType.{BlockType}
-use Rattle.fb_types.specs.declared.library.Connection.{Connection}
 use Rattle.fb_types.specs.declared.library.Instance.{Instance}
 use Rattle.fb_types.specs.declared.library.Library.{Library}
 use Rattle.fb_read_positions.specs.FindingPositions.{network_at}

@@ -4,7 +4,7 @@ ghost use Rattle.std.specs.Prelude.{◌≡◌, ◌++◌, IfOk, OnOk};
 ghost use Rattle.std.specs.List.{list_any};
 ghost use Rattle.fb_lint.specs.Circles as spec;
 ghost use Rattle.fb_lint.specs.Findings.{each_from};
-ghost use Rattle.fb_lint.specs.Reached.{edge_is, edges_are, leads};
+ghost use Rattle.fb_lint.specs.Reached.{edges_are, leads};
 
 use crate::charts::has_no_guard;
 use crate::findings::push_if;

@@ -1,4 +1,4 @@
-use Rattle.std.proofs.Common.{◌∷◌, ◌++◌, ◌∙◌, Bor, List, [], ℕ, map, ap, refl, arith}
+use Rattle.std.proofs.Common.{◌∷◌, ◌++◌, ◌∙◌, Bor, List, [], ℕ, ap, refl, arith}
 use Rattle.std.proofs.lemmas.List.{map-append}
 use Rattle.fb_lint.specs.Findings.{names_are}
 use Rattle.fb_lint.specs.Reached.{edges_are}
