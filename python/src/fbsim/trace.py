@@ -239,7 +239,7 @@ class Trace(Lines):
 
 
 class Verdict(NamedTuple):
-    """What a rule comes to: kept, broken, undecided or never applied. A broken one has a message, and the line at which it breaks.
+    """What a rule comes to: kept, broken, undecided or never applied. A broken one has a message and its line.
 
     `decided` is how often the rule was decided, and `notes` says which patterns no line of the trace meets.
     """
@@ -285,8 +285,8 @@ def read_report(text: str, trace: Trace) -> Report:
     for it in points:
         line_number, tick = (int(it[k]) if it[k] else None for k in (5, 6))
         verdict, rule = "broken" if it[1] else it[3] or "kept", re.sub(r"\\([\\#])", r"\1", it[2])
-        notes = tuple(note[2:] for note in it[8].splitlines())
-        verdicts.append(Verdict(rule, verdict, it[4] or "", line_number, tick, wanted.get(line_number or 0, ""), notes, int(it[7])))
+        notes, line = tuple(note[2:] for note in it[8].splitlines()), wanted.get(line_number or 0, "")
+        verdicts.append(Verdict(rule, verdict, it[4] or "", line_number, tick, line, notes, int(it[7])))
     return Report(tuple(verdicts))
 
 
