@@ -1,5 +1,5 @@
 -- Where the words name no call.
-use Rattle.std.proofs.Common.{◌≡◌, ℕ, Bor, Option, Some, None, Result, Ok, Err, List, false, true, map, option_map, refl, sym, ap, ◌∙◌, subst, inl, inr, codes}
+use Rattle.std.proofs.Common.{◌≡◌, ◌&&◌, ℕ, Bool, Bor, Option, Some, None, Result, Ok, Err, List, false, true, not, map, option_map, refl, sym, ap, ◌∙◌, subst, inl, inr, codes}
 use Rattle.std.specs.Global.{Vec}
 use Rattle.std.specs.Str.{bytes_eq}
 use Rattle.std.proofs.lemmas.Slice.Eq.{bytes_eq-Decides}
@@ -11,8 +11,9 @@ use Rattle.clap.specs.declared.error.kind.ErrorKind.TheVariants.{DisplayHelp, Di
 use Rattle.fb_types.specs.declared.run.Form.{Form}
 use Rattle.fb_types.specs.declared.run.Form.TheVariants.{One, Two}
 use Rattle.clap.specs.declared.builder.value_parser.ValueParser.{ValueParser}
-use Rattle.fbsim_line.specs.Line.{AreCall, AreNoCall, AskHelp, IsTaken, NameNoCall, IsForm, AsksCoverage, AsksDiff, AsksDraw, AsksExpect, AsksInspect, AsksWave, IsNumber, IsAction, IsTask, IsCall, IsCallOf, IsFault, IsFlag, IsText, command_name, call_name, declares_nothing, or_none, AreForms, simulator, simulator_with}
+use Rattle.fbsim_line.specs.Line.{AreCall, AreLevels, AreNoCall, IsNoTask, MayBeNumber, has_any, warns, AskHelp, IsTaken, NameNoCall, IsForm, AsksCoverage, AsksDiff, AsksDraw, AsksExpect, AsksInspect, AsksWave, IsNumber, IsAction, IsTask, IsCall, IsCallOf, IsFault, IsFlag, IsText, command_name, call_name, declares_nothing, or_none, AreForms, simulator, simulator_with}
 use Rattle.fbsim_line.proofs.FormLaws.{same_fault, same_subcommand, same_takes}
+use Rattle.fbsim_line.specs.declared.levels.Levels.{Levels}
 use Rattle.fbsim_line.specs.declared.line.LineFault.{LineFault}
 use Rattle.fbsim_line.specs.declared.line.Task.{Task}
 use Rattle.fbsim_line.specs.declared.line.Action.{Action}
@@ -89,11 +90,50 @@ flag_other rows id word given other = (λ t. absurd (let f : false ≡ true = t 
 pub flag_none : (rows : List Row) (id : Text) → first_of id rows ≡ None → IsFlag rows id false
 flag_none rows id none = (λ t. absurd (let f : false ≡ true = t in cc), λ is. absurd (let f : None ≡ Some (codes "true") = sym none ∙ is in cc))
 
-pub no_declaration : (rows : List Row) (name : Text) → first_of (codes "DECL") rows ≡ None → (c : Task) → name ≡ command_name c.action → IsTask rows c → ⊥
-no_declaration rows name none c named is = let given = is.declaration in absurd cc
+-- ---- A number that may be absent
 
-pub no_action : (rows : List Row) (name : Text) → ((o : Action) → name ≡ command_name o → IsAction rows o → ⊥) → (c : Task) → name ≡ command_name c.action → IsTask rows c → ⊥
-no_action rows name none c named is = none c.action named is.action
+pub may_be_number : (rows : List Row) (id : Text) (o : Option ℕ) → IfSome o (IsNumber rows id) → IfNone o ((n : ℕ) → IsNumber rows id n → ⊥) → MayBeNumber rows id o
+may_be_number rows id (Some n) number none = number
+may_be_number rows id None number none = none
+
+-- ---- A run or a check
+
+pub no_declaration : (rows : List Row) (name : Text) → first_of (codes "DECL") rows ≡ None → IsNoTask rows name
+no_declaration rows name none c l named is levels = let given = is.declaration in absurd cc
+
+pub no_action : (rows : List Row) (name : Text) → ((o : Action) → name ≡ command_name o → IsAction rows o → ⊥) → IsNoTask rows name
+no_action rows name none c l named is levels = none c.action named is.action
+
+-- two flags of one name
+same_flags : (rows : List Row) (id : Text) (a b : Bool) → IsFlag rows id a → IsFlag rows id b → a ≡ b
+same_flags rows id true true one other = refl
+same_flags rows id false false one other = refl
+same_flags rows id true false one other = let bad : false ≡ true = other.1 (one.0 refl) in cc
+same_flags rows id false true one other = let bad : false ≡ true = one.1 (other.0 refl) in cc
+
+-- two actions of one name and the same rows ask for warnings, or neither does
+same_warnings : (rows : List Row) (a b : Action) → command_name a ≡ command_name b → IsAction rows a → IsAction rows b → warns a ≡ warns b
+same_warnings rows (Check l) (Check m) same one other = same_flags rows (codes "lint") l m one other
+same_warnings rows (Check l) (Run horizon steps workers serial form progress) same one other = cc
+same_warnings rows (Run horizon steps workers serial form progress) (Check l) same one other = cc
+same_warnings rows (Run h s w r f p) (Run horizon steps workers serial form progress) same one other = refl
+
+pub no_levels :
+    (rows : List Row) (name : Text) (a : Action) → name ≡ command_name a → IsAction rows a → ((l : Levels) → AreLevels rows (warns a) l → ⊥) → IsNoTask rows name
+no_levels rows name a named is none c l other given levels =
+    none l (subst (λ (b : Bool). AreLevels rows b l) (same_warnings rows c.action a (sym other ∙ named) given.action is) levels)
+
+-- what is said of warnings that are not asked for
+pub levels_alone :
+    (rows : List Row) (warned : Bool) (allow deny : List Text) → or_none (all_of (codes "allow") rows) ≡ allow → or_none (all_of (codes "deny") rows) ≡ deny
+    → (has_any allow deny && not warned) ≡ true → (l : Levels) → AreLevels rows warned l → ⊥
+levels_alone rows warned allow deny are-allowed are-denied on l is =
+    let allowed : allow ≡ map (λ (t : Bor Text). t.now) l.allow.items = sym are-allowed ∙ is.allow in
+    let denied : deny ≡ map (λ (t : Bor Text). t.now) l.deny.items = sym are-denied ∙ is.deny in
+    let same : (has_any allow deny && not warned) ≡ (has_any (map (λ (t : Bor Text). t.now) l.allow.items) (map (λ (t : Bor Text). t.now) l.deny.items) && not warned) =
+    λ k. has_any (allowed k) (denied k) && not warned in
+    let bad : true ≡ false = sym on ∙ same ∙ is.of_warnings in
+    cc
 
 -- ---- A command by its name
 
@@ -114,7 +154,7 @@ no_task o name word is no_check no_run named = own_name o name named (other_than
 
 pub no_name : (rows : List Row) (name : Text) → name ≡ codes "explain" → first_of (codes "NAME") rows ≡ None → (r : Call) → name ≡ call_name r → IsCall rows r → ⊥
 no_name rows name is none (call.Explain word) named given = let bad : None ≡ Some word.now = sym none ∙ given in cc
-no_name rows name is none (call.Task c types) named given = no_task c.action name (codes "explain") is (λ e. cc) (λ e. cc) named
+no_name rows name is none (call.Task c types levels) named given = no_task c.action name (codes "explain") is (λ e. cc) (λ e. cc) named
 no_name rows name is none (call.Wave w types) named given = differs (codes "explain") (codes "wave") refl (sym is ∙ named)
 no_name rows name is none (call.Expect x) named given = differs (codes "explain") (codes "expect") refl (sym is ∙ named)
 no_name rows name is none (call.Diff d) named given = differs (codes "explain") (codes "diff") refl (sym is ∙ named)
@@ -124,7 +164,7 @@ no_name rows name is none (call.Coverage x types) named given = differs (codes "
 
 pub no_wave : (rows : List Row) (name : Text) → name ≡ codes "wave" → ((w : Wave) → AsksWave rows w → ⊥) → (r : Call) → name ≡ call_name r → IsCall rows r → ⊥
 no_wave rows name is none (call.Explain word) named given = differs (codes "wave") (codes "explain") refl (sym is ∙ named)
-no_wave rows name is none (call.Task c types) named given = no_task c.action name (codes "wave") is (λ e. cc) (λ e. cc) named
+no_wave rows name is none (call.Task c types levels) named given = no_task c.action name (codes "wave") is (λ e. cc) (λ e. cc) named
 no_wave rows name is none (call.Wave w types) named given = none w given.0
 no_wave rows name is none (call.Expect x) named given = differs (codes "wave") (codes "expect") refl (sym is ∙ named)
 no_wave rows name is none (call.Diff d) named given = differs (codes "wave") (codes "diff") refl (sym is ∙ named)
@@ -134,7 +174,7 @@ no_wave rows name is none (call.Coverage x types) named given = differs (codes "
 
 pub no_expect : (rows : List Row) (name : Text) → name ≡ codes "expect" → ((x : Expect) → AsksExpect rows x → ⊥) → (r : Call) → name ≡ call_name r → IsCall rows r → ⊥
 no_expect rows name is none (call.Explain word) named given = differs (codes "expect") (codes "explain") refl (sym is ∙ named)
-no_expect rows name is none (call.Task c types) named given = no_task c.action name (codes "expect") is (λ e. cc) (λ e. cc) named
+no_expect rows name is none (call.Task c types levels) named given = no_task c.action name (codes "expect") is (λ e. cc) (λ e. cc) named
 no_expect rows name is none (call.Wave w types) named given = differs (codes "expect") (codes "wave") refl (sym is ∙ named)
 no_expect rows name is none (call.Expect x) named given = none x given
 no_expect rows name is none (call.Diff d) named given = differs (codes "expect") (codes "diff") refl (sym is ∙ named)
@@ -144,7 +184,7 @@ no_expect rows name is none (call.Coverage x types) named given = differs (codes
 
 pub no_diff : (rows : List Row) (name : Text) → name ≡ codes "diff" → ((d : Diff) → AsksDiff rows d → ⊥) → (r : Call) → name ≡ call_name r → IsCall rows r → ⊥
 no_diff rows name is none (call.Explain word) named given = differs (codes "diff") (codes "explain") refl (sym is ∙ named)
-no_diff rows name is none (call.Task c types) named given = no_task c.action name (codes "diff") is (λ e. cc) (λ e. cc) named
+no_diff rows name is none (call.Task c types levels) named given = no_task c.action name (codes "diff") is (λ e. cc) (λ e. cc) named
 no_diff rows name is none (call.Wave w types) named given = differs (codes "diff") (codes "wave") refl (sym is ∙ named)
 no_diff rows name is none (call.Expect x) named given = differs (codes "diff") (codes "expect") refl (sym is ∙ named)
 no_diff rows name is none (call.Diff d) named given = none d given
@@ -154,7 +194,7 @@ no_diff rows name is none (call.Coverage x types) named given = differs (codes "
 
 pub no_draw : (rows : List Row) (name : Text) → name ≡ codes "draw" → ((d : Draw) → AsksDraw rows d → ⊥) → (r : Call) → name ≡ call_name r → IsCall rows r → ⊥
 no_draw rows name is none (call.Explain word) named given = differs (codes "draw") (codes "explain") refl (sym is ∙ named)
-no_draw rows name is none (call.Task c types) named given = no_task c.action name (codes "draw") is (λ e. cc) (λ e. cc) named
+no_draw rows name is none (call.Task c types levels) named given = no_task c.action name (codes "draw") is (λ e. cc) (λ e. cc) named
 no_draw rows name is none (call.Wave w types) named given = differs (codes "draw") (codes "wave") refl (sym is ∙ named)
 no_draw rows name is none (call.Expect x) named given = differs (codes "draw") (codes "expect") refl (sym is ∙ named)
 no_draw rows name is none (call.Diff d) named given = differs (codes "draw") (codes "diff") refl (sym is ∙ named)
@@ -164,7 +204,7 @@ no_draw rows name is none (call.Coverage x types) named given = differs (codes "
 
 pub no_inspect : (rows : List Row) (name : Text) → name ≡ codes "inspect" → ((x : Inspect) → AsksInspect rows x → ⊥) → (r : Call) → name ≡ call_name r → IsCall rows r → ⊥
 no_inspect rows name is none (call.Explain word) named given = differs (codes "inspect") (codes "explain") refl (sym is ∙ named)
-no_inspect rows name is none (call.Task c types) named given = no_task c.action name (codes "inspect") is (λ e. cc) (λ e. cc) named
+no_inspect rows name is none (call.Task c types levels) named given = no_task c.action name (codes "inspect") is (λ e. cc) (λ e. cc) named
 no_inspect rows name is none (call.Wave w types) named given = differs (codes "inspect") (codes "wave") refl (sym is ∙ named)
 no_inspect rows name is none (call.Expect x) named given = differs (codes "inspect") (codes "expect") refl (sym is ∙ named)
 no_inspect rows name is none (call.Diff d) named given = differs (codes "inspect") (codes "diff") refl (sym is ∙ named)
@@ -174,7 +214,7 @@ no_inspect rows name is none (call.Coverage x types) named given = differs (code
 
 pub no_coverage : (rows : List Row) (name : Text) → name ≡ codes "coverage" → ((x : Coverage) → AsksCoverage rows x → ⊥) → (r : Call) → name ≡ call_name r → IsCall rows r → ⊥
 no_coverage rows name is none (call.Explain word) named given = differs (codes "coverage") (codes "explain") refl (sym is ∙ named)
-no_coverage rows name is none (call.Task c types) named given = no_task c.action name (codes "coverage") is (λ e. cc) (λ e. cc) named
+no_coverage rows name is none (call.Task c types levels) named given = no_task c.action name (codes "coverage") is (λ e. cc) (λ e. cc) named
 no_coverage rows name is none (call.Wave w types) named given = differs (codes "coverage") (codes "wave") refl (sym is ∙ named)
 no_coverage rows name is none (call.Expect x) named given = differs (codes "coverage") (codes "expect") refl (sym is ∙ named)
 no_coverage rows name is none (call.Diff d) named given = differs (codes "coverage") (codes "diff") refl (sym is ∙ named)
@@ -184,9 +224,9 @@ no_coverage rows name is none (call.Coverage x types) named given = none x given
 
 pub no_other_call :
     (rows : List Row) (name : Text) → (name ≡ codes "explain" → ⊥) → (name ≡ codes "wave" → ⊥) → (name ≡ codes "expect" → ⊥) → (name ≡ codes "diff" → ⊥) → (name ≡ codes "draw" → ⊥)
-    → (name ≡ codes "inspect" → ⊥) → (name ≡ codes "coverage" → ⊥) → ((c : Task) → name ≡ command_name c.action → IsTask rows c → ⊥) → (r : Call) → name ≡ call_name r → IsCall rows r → ⊥
+    → (name ≡ codes "inspect" → ⊥) → (name ≡ codes "coverage" → ⊥) → IsNoTask rows name → (r : Call) → name ≡ call_name r → IsCall rows r → ⊥
 no_other_call rows name no_explain no_wave no_expect no_diff no_draw no_inspect no_coverage none (call.Explain word) named given = no_explain named
-no_other_call rows name no_explain no_wave no_expect no_diff no_draw no_inspect no_coverage none (call.Task c types) named given = none c named given.0
+no_other_call rows name no_explain no_wave no_expect no_diff no_draw no_inspect no_coverage none (call.Task c types levels) named given = none c levels named given.0 given.2
 no_other_call rows name no_explain no_wave no_expect no_diff no_draw no_inspect no_coverage none (call.Wave w types) named given = no_wave named
 no_other_call rows name no_explain no_wave no_expect no_diff no_draw no_inspect no_coverage none (call.Expect x) named given = no_expect named
 no_other_call rows name no_explain no_wave no_expect no_diff no_draw no_inspect no_coverage none (call.Diff d) named given = no_diff named

@@ -1,5 +1,5 @@
 -- The command line (this project's own): the program's commands, and what a parse of the words asks for.
-use Rattle.std.specs.Prelude.{◌≡◌, ◌⊎◌, ◌<◌, ◌^◌, ◌↔◌, ℕ, Bool, true, false, IsTrue, List, [], ◌∷◌, Option, Some, None, map, option_map, codes}
+use Rattle.std.specs.Prelude.{◌≡◌, ◌⊎◌, ◌<◌, ◌^◌, ◌↔◌, ◌&&◌, ℕ, Bool, true, false, not, IsTrue, List, [], ◌∷◌, Option, Some, None, map, option_map, codes}
 use Rattle.std.specs.Borrow.{Bor}
 use Rattle.std.specs.Str.Parse.{IsNumeral, digits_value, without_leading_plus}
 use Rattle.clap.specs.Words.{App, Rule, Row, Text, new_app, new_rule, with_rule, with_subcommand, subcommand_of, all_of, first_of, one_of, takes, fault_of, IsAmong}
@@ -17,6 +17,7 @@ use Rattle.fbsim_line.specs.declared.bench_line.Expect.{Expect}
 use Rattle.fbsim_line.specs.declared.coverage_line.Coverage.{Coverage}
 use Rattle.fbsim_line.specs.declared.draw_line.Draw.{Draw}
 use Rattle.fbsim_line.specs.declared.inspect_line.Inspect.{Inspect}
+use Rattle.fbsim_line.specs.declared.levels.Levels.{Levels}
 use Rattle.fbsim_line.specs.declared.line.Action.{Action}
 use Rattle.fbsim_line.specs.declared.line.Action.TheVariants.{Check, Run}
 use Rattle.fbsim_line.specs.declared.line.Task.{Task}
@@ -89,6 +90,7 @@ rule_for (argument.Several id help) = several id.now
 rule_for (argument.Named id help) = file id.now
 rule_for (argument.Repeated id help) = repeated id.now
 rule_for (argument.Flag id help) = flag id.now
+rule_for (argument.Limited id most help) = limited id.now (parser.Unsigned 0 most)
 rule_for (argument.Needed id most help) = record (limited id.now (up_to most)) { required = true }
 rule_for (argument.Number id most text help) = preset id.now (up_to most) text.now
 rule_for (argument.Worded id words text help) = preset id.now words text.now
@@ -106,16 +108,21 @@ begun name id = with_rule (new_app name) (required id)
 abbrev pub deployed : Text → App
 deployed name = with_rule (with_rule (begun name (codes "DECL")) (repeated (codes "types"))) (file (codes "deploy"))
 
+-- a command that reports the place of a refusal, or not
+abbrev pub with_why : App → App
+with_why a = with_rule (with_rule a (flag (codes "why"))) (flag (codes "no-why"))
+
 -- a command with the names of its files, and whether a refusal is reported with its place
 abbrev pub files : Text → App
-files name =
-    with_rule (with_rule (deployed name)
-    (file (codes "stim")))
-    (flag (codes "why"))
+files name = with_why (with_rule (deployed name) (file (codes "stim")))
 
--- the command that checks, which may report warnings
+-- the command that checks, which may report warnings, leave some out and count others as faults
 abbrev pub check : App
-check = with_rule (files (codes "check")) (flag (codes "lint"))
+check =
+    with_rule (with_rule (with_rule (files (codes "check"))
+    (flag (codes "lint")))
+    (repeated (codes "allow")))
+    (repeated (codes "deny"))
 
 -- how far a run goes, and by how many workers
 abbrev pub with_numbers : App → App
@@ -134,18 +141,17 @@ with_run_options values a = with_rule (with_rule (with_rule (with_numbers a)
 -- a command with the names of a declaration, of its deployment and of its trace, whether that may be cut off, whether the inside of
 -- basic blocks is shown, with the limit of the run, and whether a refusal is reported with its place
 abbrev pub wave : App
-wave =
-    with_rule (with_rule (with_rule (with_rule (with_rule (deployed (codes "wave"))
+wave = with_why (
+    with_rule (with_rule (with_rule (with_rule (deployed (codes "wave"))
     (required (codes "TRACE")))
     (flag (codes "cut")))
     (flag (codes "states")))
     (record (limited (codes "steps") (up_to 10000000)) { defaults = codes "10000" ∷ [] }))
-    (flag (codes "why"))
 
 -- a command with the names of rules and of traces, of a declaration with its files of block types and its deployment, and how
 -- the rules are held
 abbrev pub expect : App
-expect =
+expect = with_why (
     with_rule (with_rule (with_rule (with_rule (with_rule (with_rule (with_rule (begun (codes "expect") (codes "RULES"))
     (several (codes "TRACE")))
     (file (codes "decl")))
@@ -153,36 +159,39 @@ expect =
     (file (codes "deploy")))
     (flag (codes "strict")))
     (flag (codes "cut")))
-    (flag (codes "why"))
+    (flag (codes "junit")))
 
--- a command with the names of two traces
+-- a command with the names of two traces, whether their ticks are left out, and whether a file fault is reported with its file
 abbrev pub diff : App
-diff = with_rule (begun (codes "diff") (codes "A")) (required (codes "B"))
+diff = with_why (with_rule (with_rule (begun (codes "diff") (codes "A")) (required (codes "B"))) (flag (codes "no-ticks")))
 
 -- a command with the names of a declaration and of its deployment, and of a type
 abbrev pub draw : App
 draw = with_rule (deployed (codes "draw")) (file (codes "type"))
 
--- a command with the names of a declaration, of its deployment and of its trace, of the instances that are shown, the limit of
--- the run, whether the trace may be cut off, and whether a refusal is reported with its place
+-- a command with the names of a declaration, of its deployment and of its trace, of the instances that are shown, the ticks
+-- whose events are, whether only those are that cleared no transition, the limit of the run, whether the trace may be cut off,
+-- and whether a refusal is reported with its place
 abbrev pub inspect : App
-inspect =
-    with_rule (with_rule (with_rule (with_rule (with_rule (deployed (codes "inspect"))
+inspect = with_why (
+    with_rule (with_rule (with_rule (with_rule (with_rule (with_rule (with_rule (deployed (codes "inspect"))
     (required (codes "TRACE")))
     (repeated (codes "only")))
+    (limited (codes "from") (parser.Unsigned 0 1000000000000)))
+    (limited (codes "to") (parser.Unsigned 0 1000000000000)))
+    (flag (codes "lost")))
     (record (limited (codes "steps") (up_to 10000000)) { defaults = codes "10000" ∷ [] }))
     (flag (codes "cut")))
-    (flag (codes "why"))
 
--- a command with the names of a declaration, of its deployment and of traces, the limit of the runs, whether traces may be cut
--- off, and whether a refusal is reported with its place
+-- a command with the names of a declaration, of its deployment and of traces, the limit of the runs, how much must be covered,
+-- whether traces may be cut off, and whether a refusal is reported with its place
 abbrev pub coverage : App
-coverage =
+coverage = with_why (
     with_rule (with_rule (with_rule (with_rule (deployed (codes "coverage"))
     (several (codes "TRACE")))
     (record (limited (codes "steps") (up_to 10000000)) { defaults = codes "10000" ∷ [] }))
+    (limited (codes "least") (parser.Unsigned 0 100)))
     (flag (codes "cut")))
-    (flag (codes "why"))
 
 -- a command with the name of a refusal
 abbrev pub explain : App
@@ -228,7 +237,7 @@ command_name (Run horizon steps workers serial form progress) = codes "run"
 
 abbrev pub call_name : Call → Text
 call_name (call.Explain name) = codes "explain"
-call_name (call.Task c types) = command_name c.action
+call_name (call.Task c types levels) = command_name c.action
 call_name (call.Wave w types) = codes "wave"
 call_name (call.Expect x) = codes "expect"
 call_name (call.Diff d) = codes "diff"
@@ -244,6 +253,11 @@ pub record IsNumber (rows : List Row) (id : Text) (n : ℕ) : Type 0 where
   pub value : digits_value 10 (without_leading_plus text) ≡ n
   pub small : n < 2 ^ 64
 
+-- the number of an option that may be absent
+abbrev pub MayBeNumber : List Row → (id : Text) → Option ℕ → Type 0
+MayBeNumber rows id (Some n) = IsNumber rows id n
+MayBeNumber rows id None = (n : ℕ) → IsNumber rows id n → ⊥
+
 -- the option for the form has the word of this form
 abbrev pub IsForm : List Row → Form → Type 0
 IsForm rows form = first_of (codes "trace") rows ≡ Some (word_of form)
@@ -251,6 +265,14 @@ IsForm rows form = first_of (codes "trace") rows ≡ Some (word_of form)
 -- the option is there exactly where this is true
 abbrev pub IsFlag : List Row → Text → Bool → Type 0
 IsFlag rows id here = IsTrue here ↔ (first_of id rows ≡ Some (codes "true"))
+
+-- the places of refusals are asked for: `--why` is there, and `--no-why` is not
+pub record IsAsked (rows : List Row) (asked : Bool) : Type 0 where
+  pub given : Bool
+  pub withdrawn : Bool
+  pub is_given : IsFlag rows (codes "why") given
+  pub is_withdrawn : IsFlag rows (codes "no-why") withdrawn
+  pub is : asked ≡ (given && not withdrawn)
 
 pub record IsRun (rows : List Row) (horizon steps workers : ℕ) (serial : Bool) (form : Form) (progress : Bool) : Type 0 where
   pub horizon_is : IsNumber rows (codes "horizon") horizon
@@ -273,13 +295,34 @@ or_none (Some texts) = texts
 abbrev pub AreTypes : List Row → List (Bor Text) → Type 0
 AreTypes rows types = or_none (all_of (codes "types") rows) ≡ map (λ t. t.now) types
 
+-- whether warnings are asked for
+abbrev pub warns : Action → Bool
+warns (Check lint) = lint
+warns (Run horizon steps workers serial form progress) = false
+
+-- one of two lists has a name
+abbrev pub has_any : (allow deny : List Text) → Bool
+has_any [] [] = false
+has_any [] (d ∷ more) = true
+has_any (a ∷ more) deny = true
+
+-- This is said of warnings. Where none are asked for, nothing can be said of them.
+pub record AreLevels (rows : List Row) (warned : Bool) (l : Levels) : Type 0 where
+  pub allow : or_none (all_of (codes "allow") rows) ≡ map (λ t. t.now) l.allow.items
+  pub deny : or_none (all_of (codes "deny") rows) ≡ map (λ t. t.now) l.deny.items
+  pub of_warnings : (has_any (map (λ t. t.now) l.allow.items) (map (λ t. t.now) l.deny.items) && not warned) ≡ false
+
 -- the call has what the rows of its command say
 pub record IsTask (rows : List Row) (c : Task) : Type 0 where
   pub declaration : first_of (codes "DECL") rows ≡ Some c.declaration.now
   pub deploy : first_of (codes "deploy") rows ≡ option_map (λ n. n.now) c.deploy
   pub stimuli : first_of (codes "stim") rows ≡ option_map (λ n. n.now) c.stimuli
-  pub why : IsFlag rows (codes "why") c.why
+  pub why : IsAsked rows c.why
   pub action : IsAction rows c.action
+
+-- the rows of a command of this name are no run and no check
+abbrev pub IsNoTask : List Row → (name : Text) → Type 0
+IsNoTask rows name = (c : Task) (l : Levels) → name ≡ command_name c.action → IsTask rows c → AreLevels rows (warns c.action) l → ⊥
 
 -- the waveforms of this trace are asked for
 pub record AsksWave (rows : List Row) (w : Wave) : Type 0 where
@@ -289,7 +332,7 @@ pub record AsksWave (rows : List Row) (w : Wave) : Type 0 where
   pub cut : IsFlag rows (codes "cut") w.is_cut
   pub states : IsFlag rows (codes "states") w.has_states
   pub steps : IsNumber rows (codes "steps") w.steps
-  pub why : IsFlag rows (codes "why") w.why
+  pub why : IsAsked rows w.why
 
 -- a deployment or block types are named, and no declaration
 abbrev pub declares_nothing : (declaration deploy : Option Text) → (types : List Text) → Bool
@@ -308,12 +351,15 @@ pub record AsksExpect (rows : List Row) (x : Expect) : Type 0 where
   pub of_a_declaration : declares_nothing (option_map (λ n. n.now) x.declaration) (option_map (λ n. n.now) x.deploy) (map (λ t. t.now) x.types.items) ≡ false
   pub strict : IsFlag rows (codes "strict") x.is_strict
   pub cut : IsFlag rows (codes "cut") x.is_cut
-  pub why : IsFlag rows (codes "why") x.why
+  pub junit : IsFlag rows (codes "junit") x.is_junit
+  pub why : IsAsked rows x.why
 
 -- these traces must be compared
 pub record AsksDiff (rows : List Row) (d : Diff) : Type 0 where
   pub first : first_of (codes "A") rows ≡ Some d.first.now
   pub second : first_of (codes "B") rows ≡ Some d.second.now
+  pub no_ticks : IsFlag rows (codes "no-ticks") d.is_without_ticks
+  pub why : IsAsked rows d.why
 
 -- the graph of this is asked for
 pub record AsksDraw (rows : List Row) (d : Draw) : Type 0 where
@@ -327,8 +373,9 @@ pub record AsksCoverage (rows : List Row) (x : Coverage) : Type 0 where
   pub deploy : first_of (codes "deploy") rows ≡ option_map (λ n. n.now) x.deploy
   pub traces : all_of (codes "TRACE") rows ≡ Some (map (λ t. t.now) x.traces.items)
   pub steps : IsNumber rows (codes "steps") x.steps
+  pub least : MayBeNumber rows (codes "least") x.least
   pub cut : IsFlag rows (codes "cut") x.is_cut
-  pub why : IsFlag rows (codes "why") x.why
+  pub why : IsAsked rows x.why
 
 -- this trace must be inspected
 pub record AsksInspect (rows : List Row) (x : Inspect) : Type 0 where
@@ -336,13 +383,16 @@ pub record AsksInspect (rows : List Row) (x : Inspect) : Type 0 where
   pub deploy : first_of (codes "deploy") rows ≡ option_map (λ n. n.now) x.deploy
   pub trace : first_of (codes "TRACE") rows ≡ Some x.trace.now
   pub only : or_none (all_of (codes "only") rows) ≡ map (λ t. t.now) x.only.items
+  pub from : MayBeNumber rows (codes "from") x.from
+  pub to : MayBeNumber rows (codes "to") x.to
+  pub lost : IsFlag rows (codes "lost") x.lost
   pub steps : IsNumber rows (codes "steps") x.steps
   pub cut : IsFlag rows (codes "cut") x.is_cut
-  pub why : IsFlag rows (codes "why") x.why
+  pub why : IsAsked rows x.why
 
 abbrev pub IsCall : List Row → Call → Type 0
 IsCall rows (call.Explain name) = first_of (codes "NAME") rows ≡ Some name.now
-IsCall rows (call.Task c types) = IsTask rows c × AreTypes rows types.items
+IsCall rows (call.Task c types levels) = IsTask rows c × AreTypes rows types.items × AreLevels rows (warns c.action) levels
 IsCall rows (call.Wave w types) = AsksWave rows w × AreTypes rows types.items
 IsCall rows (call.Expect x) = AsksExpect rows x
 IsCall rows (call.Diff d) = AsksDiff rows d

@@ -27,10 +27,12 @@ pub(crate) enum Argument<'a> {
     Several(&'a str, &'a str),
     /// An option that takes a value, such as the name of a file.
     Named(&'a str, &'a str),
-    /// An option that takes the name of a file, and may be given several times.
+    /// An option that takes a value, and may be given several times.
     Repeated(&'a str, &'a str),
     /// An option without a value.
     Flag(&'a str, &'a str),
+    /// An option that takes a whole number from 0 to this.
+    Limited(&'a str, u64, &'a str),
     /// An option that has to be there: a whole number from 1 to this.
     Needed(&'a str, u64, &'a str),
     /// A whole number from 1 to this, and the text of that which is taken without the option.
@@ -105,6 +107,9 @@ fn arg_of<'a>(alloc: Global, argument: Argument<'a>) -> Arg<'a>
         Argument::Named(id, help) => option(alloc, id, help),
         Argument::Repeated(id, help) => option(alloc, id, help).action(ArgAction::Append),
         Argument::Flag(id, help) => option(alloc, id, help).action(ArgAction::SetTrue),
+        Argument::Limited(id, most, help) => {
+            limited(alloc, id, ValueParser::Unsigned(0, most), help)
+        }
         Argument::Needed(id, most, help) => limited(alloc, id, up_to(most), help).required(true),
         Argument::Number(id, most, text, help) => preset(alloc, id, up_to(most), text, help),
         Argument::Worded(id, words, text, help) => preset(alloc, id, words, text, help),

@@ -8,7 +8,7 @@ ghost use Rattle.fbsim_line.specs.declared.bench_line.Diff.{Diff};
 ghost use Rattle.fbsim_line.specs.declared.bench_line.Expect.{Expect};
 
 use crate::arguments::{Argument, Outline, TYPES_HELP};
-use crate::line::{Call, has_flag, texts_of};
+use crate::line::{Call, NO_WHY_HELP, asks_why, has_flag, texts_of};
 use clap::ArgMatches;
 use std::alloc::{AllocError, Global};
 
@@ -29,6 +29,8 @@ pub struct Expect<'a> {
     pub is_strict: bool,
     /// Whether traces may be cut off.
     pub is_cut: bool,
+    /// Whether the report is JUnit XML.
+    pub is_junit: bool,
     /// Whether a refusal is reported with its place, if that is known.
     pub why: bool,
 }
@@ -40,10 +42,14 @@ pub struct Diff<'a> {
     pub first: &'a str,
     /// The name of the second file.
     pub second: &'a str,
+    /// Whether the ticks of lines are left out.
+    pub is_without_ticks: bool,
+    /// Whether a file fault is reported with its file.
+    pub why: bool,
 }
 
 const EXPECT_ABOUT: &str =
-    "Checks rules against traces, and reports in the Test Anything Protocol.";
+    "Checks rules against traces, and reports in the Test Anything Protocol or as JUnit XML.";
 
 const EXPECT_EXAMPLE: &str =
     "Example: fbsim expect cell.rules cell.trace --decl cell.iec --deploy cell.toml";
@@ -64,9 +70,16 @@ const DECL_HELP: &str =
 const DEPLOY_HELP: &str =
     "The file with the deployment of the declaration, in TOML, at most 1 MiB; without it one resource MAIN has every instance.";
 
-const STRICT_HELP: &str = "Counts a rule that a trace leaves undecided as broken.";
+const STRICT_HELP: &str =
+    "Counts a rule that a trace leaves undecided, or to which it never applied, as broken.";
 
 const CUT_HELP: &str = "Accepts traces that end without a last line or within a line.";
+
+const JUNIT_HELP: &str = "Writes JUnit XML in place of the Test Anything Protocol.";
+
+const NO_TICKS_HELP: &str = "Leaves the tick out of every line, also of the last.";
+
+const DIFF_WHY_HELP: &str = "Prints the file of a file fault on a further line.";
 
 const WHY_HELP: &str =
     "Prints the locations of a refusal or a file fault on further lines, if they are known.";
@@ -88,7 +101,9 @@ pub(crate) const EXPECT_COMMAND: Outline<'static, 'static> = Outline {
         Argument::Named("deploy", DEPLOY_HELP),
         Argument::Flag("strict", STRICT_HELP),
         Argument::Flag("cut", CUT_HELP),
+        Argument::Flag("junit", JUNIT_HELP),
         Argument::Flag("why", WHY_HELP),
+        Argument::Flag("no-why", NO_WHY_HELP),
     ],
 };
 
@@ -100,6 +115,9 @@ pub(crate) const DIFF_COMMAND: Outline<'static, 'static> = Outline {
     arguments: &[
         Argument::Required("A", FIRST_HELP),
         Argument::Required("B", SECOND_HELP),
+        Argument::Flag("no-ticks", NO_TICKS_HELP),
+        Argument::Flag("why", DIFF_WHY_HELP),
+        Argument::Flag("no-why", NO_WHY_HELP),
     ],
 };
 
@@ -145,7 +163,8 @@ pub(crate) fn expect_of<'a>(
         deploy,
         is_strict: has_flag(found, "strict"),
         is_cut: has_flag(found, "cut"),
-        why: has_flag(found, "why"),
+        is_junit: has_flag(found, "junit"),
+        why: asks_why(found),
     })))
 }
 
@@ -157,5 +176,10 @@ pub(crate) fn diff_of<'a>(found: &ArgMatches<'a>) -> Option<Call<'a>>
 {
     let first = found.get_str("A")?;
     let second = found.get_str("B")?;
-    Some(Call::Diff(Diff { first, second }))
+    Some(Call::Diff(Diff {
+        first,
+        second,
+        is_without_ticks: has_flag(found, "no-ticks"),
+        why: asks_why(found),
+    }))
 }

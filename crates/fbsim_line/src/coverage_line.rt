@@ -7,7 +7,7 @@ ghost use Rattle.fbsim_line.specs.declared.coverage_line.Coverage.{Coverage};
 
 use crate::arguments::{Argument, Outline};
 use crate::bench_line::TRACES_HELP;
-use crate::line::{Call, WHY_HELP, has_flag, number, texts_of};
+use crate::line::{Call, NO_WHY_HELP, WHY_HELP, asks_why, has_flag, number, texts_of};
 use clap::ArgMatches;
 use fb_types::MOST_STEPS;
 use std::alloc::{AllocError, Global};
@@ -23,6 +23,8 @@ pub struct Coverage<'a> {
     pub traces: Vec<&'a str>,
     /// The most steps of a resource in one tick, in runs that stop for them.
     pub steps: u64,
+    /// How much of all that is counted must be covered, in percent, 0 to 100, if that is asked for.
+    pub least: Option<u64>,
     /// Whether traces may be cut off.
     pub is_cut: bool,
     /// Whether a refusal is reported with its place.
@@ -40,6 +42,12 @@ const STEPS_HELP: &str =
 const CUT_HELP: &str =
     "Accepts traces that are cut off, without a last line or within a line; the report says how many are.";
 
+const LEAST_HELP: &str =
+    "Ends with status 1 if the traces together cover less than this part of all that is counted, in percent, 0 to 100.";
+
+/// The greatest part, in percent.
+const ALL: u64 = 100;
+
 /// The command that reports what traces cover. `deployed` puts the files of a system before its arguments.
 pub(crate) const COVERAGE_COMMAND: Outline<'static, 'static> = Outline {
     name: "coverage",
@@ -48,8 +56,10 @@ pub(crate) const COVERAGE_COMMAND: Outline<'static, 'static> = Outline {
     arguments: &[
         Argument::Several("TRACE", TRACES_HELP),
         Argument::Number("steps", MOST_STEPS, "10000", STEPS_HELP),
+        Argument::Limited("least", ALL, LEAST_HELP),
         Argument::Flag("cut", CUT_HELP),
         Argument::Flag("why", WHY_HELP),
+        Argument::Flag("no-why", NO_WHY_HELP),
     ],
 };
 
@@ -70,6 +80,7 @@ pub(crate) fn coverage_of<'a>(
         return Ok(None);
     };
     let deploy = found.get_str("deploy");
+    let least = number(found, "least");
     let traces = Vec::from_slice(alloc, names)?;
     let types = texts_of(alloc, found, "types")?;
     let coverage = Coverage {
@@ -77,8 +88,9 @@ pub(crate) fn coverage_of<'a>(
         deploy,
         traces,
         steps,
+        least,
         is_cut: has_flag(found, "cut"),
-        why: has_flag(found, "why"),
+        why: asks_why(found),
     };
     Ok(Some(Call::Coverage(coverage, types)))
 }

@@ -6,9 +6,9 @@ ghost use Rattle.fbsim_line.specs.Line.{AsksInspect, IsCall, call_name};
 ghost use Rattle.fbsim_line.specs.declared.inspect_line.Inspect.{Inspect};
 
 use crate::arguments::{Argument, Outline};
-use crate::line::{Call, WHY_HELP, has_flag, number, texts_of};
+use crate::line::{Call, NO_WHY_HELP, WHY_HELP, asks_why, has_flag, number, texts_of};
 use clap::ArgMatches;
-use fb_types::MOST_STEPS;
+use fb_types::{LATEST_TICK, MOST_STEPS};
 use std::alloc::{AllocError, Global};
 
 /// A trace that is inspected, with its declaration and deployment.
@@ -22,6 +22,12 @@ pub struct Inspect<'a> {
     pub trace: &'a str,
     /// The paths of the instances that are shown, in any letter case. Without any, all are shown.
     pub only: Vec<&'a str>,
+    /// The first tick whose events are shown, if not all are.
+    pub from: Option<u64>,
+    /// The first tick whose events are no longer shown, if there is one.
+    pub to: Option<u64>,
+    /// Whether only events are shown that cleared no transition.
+    pub lost: bool,
     /// The most steps of a resource in one tick, in a run that stops for them.
     pub steps: u64,
     /// Whether the trace may be cut off.
@@ -41,6 +47,12 @@ const TRACE_HELP: &str =
 const ONLY_HELP: &str =
     "The path of an instance: only its lines are shown, and those of its components; may be repeated.";
 
+const FROM_HELP: &str = "Shows events from this tick on, 0 to 1000000000000.";
+
+const TO_HELP: &str = "Shows events before this tick, 0 to 1000000000000.";
+
+const LOST_HELP: &str = "Shows only events that cleared no transition.";
+
 const STEPS_HELP: &str =
     "The limit of steps of the run that wrote the trace, 1 to 10000000, if it stopped for them.";
 
@@ -55,9 +67,13 @@ pub(crate) const INSPECT_COMMAND: Outline<'static, 'static> = Outline {
     arguments: &[
         Argument::Required("TRACE", TRACE_HELP),
         Argument::Repeated("only", ONLY_HELP),
+        Argument::Limited("from", LATEST_TICK, FROM_HELP),
+        Argument::Limited("to", LATEST_TICK, TO_HELP),
+        Argument::Flag("lost", LOST_HELP),
         Argument::Number("steps", MOST_STEPS, "10000", STEPS_HELP),
         Argument::Flag("cut", CUT_HELP),
         Argument::Flag("why", WHY_HELP),
+        Argument::Flag("no-why", NO_WHY_HELP),
     ],
 };
 
@@ -78,6 +94,8 @@ pub(crate) fn inspect_of<'a>(
         return Ok(None);
     };
     let deploy = found.get_str("deploy");
+    let from = number(found, "from");
+    let to = number(found, "to");
     let only = texts_of(alloc, found, "only")?;
     let types = texts_of(alloc, found, "types")?;
     let inspect = Inspect {
@@ -85,9 +103,12 @@ pub(crate) fn inspect_of<'a>(
         deploy,
         trace,
         only,
+        from,
+        to,
+        lost: has_flag(found, "lost"),
         steps,
         is_cut: has_flag(found, "cut"),
-        why: has_flag(found, "why"),
+        why: asks_why(found),
     };
     Ok(Some(Call::Inspect(inspect, types)))
 }

@@ -2,7 +2,7 @@
 
 ghost use Rattle.std.specs.Prelude.{◌≡◌, ◌≢◌, ℕ, IfOk, IfErr, IfSome, IfNone, None, OnOk, map, codes, false};
 ghost use Rattle.fbsim_line.specs.Line as spec;
-ghost use Rattle.fbsim_line.specs.Line.{AreCall, AreNoCall, AskHelp, AsksWave, AreForms, IsTask, IsFault, IsFlag, IsForm, IsHelp, IsText, IsNumber, IsAction, IsCall, IsCallOf, IsTaken, command_name, call_name, or_none};
+ghost use Rattle.fbsim_line.specs.Line.{AreCall, AreNoCall, AskHelp, AsksWave, AreForms, IsAsked, IsNoTask, IsFault, IsFlag, IsForm, IsHelp, IsText, IsNumber, IsAction, IsCall, IsCallOf, IsTaken, command_name, call_name, or_none};
 ghost use Rattle.fbsim_line.specs.declared.line.LineFault.TheVariants.{Memory};
 ghost use Rattle.fbsim_line.specs.declared.line.Task.{Task};
 ghost use Rattle.fbsim_line.specs.declared.line.Action.{Action};
@@ -17,6 +17,7 @@ use crate::bench_line::{DIFF_COMMAND, Diff, EXPECT_COMMAND, Expect, diff_of, exp
 use crate::coverage_line::{COVERAGE_COMMAND, Coverage, coverage_of};
 use crate::draw_line::{DRAW_COMMAND, Draw, draw_of};
 use crate::inspect_line::{INSPECT_COMMAND, Inspect, inspect_of};
+use crate::levels::{ALLOW_HELP, DENY_HELP, Levels, levels_of};
 use clap::builder::ValueParser;
 use clap::error::ErrorKind;
 use clap::{ArgMatches, Command, Error};
@@ -29,8 +30,8 @@ pub enum Call<'a> {
     /// Explains the refusal or the reason with this name, such as `E21` or `divide`, in any letter case.
     Explain(&'a str),
     /// Checks or runs an application. The names are those of the files of block types that are read before the
-    /// declaration, in their order, here and below.
-    Task(Task<'a>, Vec<&'a str>),
+    /// declaration, in their order, here and below. The levels are those of the warnings.
+    Task(Task<'a>, Vec<&'a str>, Levels<'a>),
     /// Shows a trace as waveforms.
     Wave(Wave<'a>, Vec<&'a str>),
     /// Checks rules against traces.
@@ -160,7 +161,7 @@ const EXPLAIN_ABOUT: &str =
 const EXPLAIN_EXAMPLE: &str = "Example: fbsim explain E21";
 
 const NAME_HELP: &str =
-    "The name of the refusal in its line, E01 to E45; \"file fault\", as one word; of a warning, L01 to L13; or the reason of a stop: steps, divide or range. Letter case makes no difference.";
+    "The name of the refusal in its line, E01 to E45; \"file fault\", as one word; of a warning, L01 to L23; or the reason of a stop: steps, divide or range. Letter case makes no difference.";
 
 const TRACE_FILE_HELP: &str =
     "The file with the trace, of any length and in either form, of a run of these files.";
@@ -190,6 +191,8 @@ const TRACE_HELP: &str =
 pub(crate) const WHY_HELP: &str =
     "Prints the locations of a refusal, a file fault or a stop on further lines, if they are known.";
 
+pub(crate) const NO_WHY_HELP: &str = "Leaves these lines out; a terminal gets them without --why.";
+
 const LINT_HELP: &str =
     "Reports warnings about files that are accepted on standard error, a line each; explain L01 explains the first.";
 
@@ -211,7 +214,10 @@ const CHECK_COMMAND: Outline<'static, 'static> = Outline {
     arguments: &[
         Argument::Named("stim", STIMULI_HELP),
         Argument::Flag("why", WHY_HELP),
+        Argument::Flag("no-why", NO_WHY_HELP),
         Argument::Flag("lint", LINT_HELP),
+        Argument::Repeated("allow", ALLOW_HELP),
+        Argument::Repeated("deny", DENY_HELP),
     ],
 };
 
@@ -223,6 +229,7 @@ fn run<'a>(alloc: Global, forms: ValueParser<'a>) -> Result<Command<'a>, AllocEr
     let arguments = [
         Argument::Named("stim", STIMULI_HELP),
         Argument::Flag("why", WHY_HELP),
+        Argument::Flag("no-why", NO_WHY_HELP),
         Argument::Needed("horizon", LATEST_TICK, HORIZON_HELP),
         Argument::Number("steps", MOST_STEPS, "10000", STEPS_HELP),
         Argument::Number("workers", MOST_WORKERS, "1", WORKERS_HELP),
@@ -250,6 +257,7 @@ const WAVE_COMMAND: Outline<'static, 'static> = Outline {
         Argument::Flag("states", STATES_HELP),
         Argument::Number("steps", MOST_STEPS, "10000", WAVE_STEPS_HELP),
         Argument::Flag("why", WHY_HELP),
+        Argument::Flag("no-why", NO_WHY_HELP),
     ],
 };
 
@@ -345,6 +353,15 @@ pub(crate) fn has_flag(found: &ArgMatches<'_>, id: &str) -> bool
     matches!(word, "true")
 }
 
+/// Whether the locations of a refusal are asked for: `--why` is there, and `--no-why` is not.
+pub(crate) fn asks_why(found: &ArgMatches<'_>) -> bool
+    ensures { IsAsked (rows_of (found_of found.now)) result }
+{
+    let is_given = has_flag(found, "why");
+    let is_withdrawn = has_flag(found, "no-why");
+    is_given && !is_withdrawn
+}
+
 /// The form of the trace that is asked for.
 fn form_of(found: &ArgMatches<'_>) -> Option<Form>
     ensures form { IfSome result (IsForm (rows_of (found_of found.now))) }
@@ -393,6 +410,16 @@ pub(crate) fn texts_of<'a>(
     }
 }
 
+/// Whether warnings are asked for.
+fn warns(action: Action) -> bool
+    ensures { result ≡ spec.warns action }
+{
+    match action {
+        Action::Check { lint } => lint,
+        Action::Run { .. } => false,
+    }
+}
+
 /// The call for a run or a check, from the parser's matches, if the command has such a name.
 fn task_of<'a>(
     alloc: Global,
@@ -401,7 +428,7 @@ fn task_of<'a>(
 ) -> Result<Option<Call<'a>>, AllocError>
     ensures name { IfOk result (λ o. IfSome o (λ r. name.now ≡ call_name r)) }
     ensures rows { IfOk result (λ o. IfSome o (IsCall (rows_of (found_of found.now)))) }
-    ensures none { IfOk result (λ o. IfNone o ((c : Task) → name.now ≡ command_name c.action → IsTask (rows_of (found_of found.now)) c → ⊥)) }
+    ensures none { IfOk result (λ o. IfNone o (IsNoTask (rows_of (found_of found.now)) name.now)) }
 {
     let Some(declaration) = found.get_str("DECL") else {
         return Ok(None);
@@ -411,7 +438,10 @@ fn task_of<'a>(
     };
     let deploy = found.get_str("deploy");
     let stimuli = found.get_str("stim");
-    let why = has_flag(found, "why");
+    let why = asks_why(found);
+    let Some(levels) = levels_of(alloc, found, warns(action))? else {
+        return Ok(None);
+    };
     let types = texts_of(alloc, found, "types")?;
     let task = Task {
         action,
@@ -420,7 +450,7 @@ fn task_of<'a>(
         stimuli,
         why,
     };
-    Ok(Some(Call::Task(task, types)))
+    Ok(Some(Call::Task(task, types, levels)))
 }
 
 /// The call for waveforms, from the parser's matches.
@@ -445,7 +475,7 @@ fn wave_of<'a>(alloc: Global, found: &ArgMatches<'a>) -> Result<Option<Call<'a>>
         is_cut: has_flag(found, "cut"),
         has_states: has_flag(found, "states"),
         steps,
-        why: has_flag(found, "why"),
+        why: asks_why(found),
     };
     Ok(Some(Call::Wave(wave, types)))
 }

@@ -43,13 +43,19 @@ returns-in-Flag-clause-rule c =
 pub returns-in-Flag-clause-local : goal.returns-in-Flag-clause-local
 returns-in-Flag-clause-local c = ap (λ (a : Arg). a.global) c.action-in-Flag.ensures ∙ c.option-in-Flag.ensures.local
 
+pub returns-in-Limited-clause-rule : goal.returns-in-Limited-clause-rule
+returns-in-Limited-clause-rule c = c.limited.ensures.rule ∙ ap rule_for (sym c.in-Limited.is)
+
+pub returns-in-Limited-clause-local : goal.returns-in-Limited-clause-local
+returns-in-Limited-clause-local c = c.limited.ensures.local
+
 pub returns-in-Needed-clause-rule : goal.returns-in-Needed-clause-rule
 returns-in-Needed-clause-rule c =
-    demanded c.limited.result c.required-in-Needed.result c.required-in-Needed.ensures ∙ ap (λ (r : Rule). record r { required = true }) c.limited.ensures.rule
+    demanded c.limited-in-Needed.result c.required-in-Needed.result c.required-in-Needed.ensures ∙ ap (λ (r : Rule). record r { required = true }) c.limited-in-Needed.ensures.rule
     ∙ ap (λ (p : ValueParser). record (limited c.in-Needed.id.now p) { required = true }) c.up_to.ensures ∙ ap rule_for (sym c.in-Needed.is)
 
 pub returns-in-Needed-clause-local : goal.returns-in-Needed-clause-local
-returns-in-Needed-clause-local c = ap (λ (a : Arg). a.global) c.required-in-Needed.ensures ∙ c.limited.ensures.local
+returns-in-Needed-clause-local c = ap (λ (a : Arg). a.global) c.required-in-Needed.ensures ∙ c.limited-in-Needed.ensures.local
 
 pub returns-in-Number-clause-rule : goal.returns-in-Number-clause-rule
 returns-in-Number-clause-rule c =

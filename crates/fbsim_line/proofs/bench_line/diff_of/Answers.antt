@@ -9,7 +9,12 @@ returns-clause-rows c =
     let m = found_of c.args.found.now in
     let first : first_value m (codes "A") ≡ Some c.in_ok-first.first.now = search rules in
     let second : first_value m (codes "B") ≡ Some c.in_ok-second.second.now = search rules in
-    record { first = sym (first_value-rows m (codes "A")) ∙ first; second = sym (first_value-rows m (codes "B")) ∙ second }
+    record {
+      first = sym (first_value-rows m (codes "A")) ∙ first;
+      second = sym (first_value-rows m (codes "B")) ∙ second;
+      no_ticks = c.has_flag.ensures;
+      why = c.asks_why.ensures;
+    }
 
 pub returns-in_err-first-clause-none : goal.returns-in_err-first-clause-none
 returns-in_err-first-clause-none c =

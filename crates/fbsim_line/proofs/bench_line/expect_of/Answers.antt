@@ -43,5 +43,6 @@ returns-clause-rows c =
           ∙ sym c.declares_nothing.ensures ∙ c.if-declares_nothing.false;
       strict = c.has_flag.ensures;
       cut = c.has_flag-2.ensures;
-      why = c.has_flag-3.ensures;
+      junit = c.has_flag-3.ensures;
+      why = c.asks_why.ensures;
     }

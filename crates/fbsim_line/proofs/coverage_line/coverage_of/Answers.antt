@@ -3,7 +3,7 @@ use Rattle.clap.specs.Words.{Text, found_of, rows_of}
 use Rattle.clap.proofs.WalkLemmas.{first_value-rows, raw_values-rows}
 use Rattle.fbsim_line.specs.Line.{IsNumber}
 use Rattle.std.specs.Prelude.{IfNone}
-use Rattle.fbsim_line.proofs.LineLaws.{no_covered, no_covered_limit, no_covered_traces}
+use Rattle.fbsim_line.proofs.LineLaws.{may_be_number, no_covered, no_covered_limit, no_covered_traces}
 use Rattle.fbsim_line.proofs.coverage_line.coverage_of.Goals as goal
 use Rattle.fbsim_line.proofs.coverage_line.coverage_of.Goals.{in_default-via-in-Some+in-Some+in_default, in_default-via-in-Some+in_default, in_default-via-in_default}
 
@@ -21,8 +21,9 @@ returns-clause-rows c =
             sym (raw_values-rows m (codes "TRACE")) ∙ sym given.ensures'
             ∙ ap (λ (vs : List (Bor Text)). Some (map (λ (v : Bor Text). v.now) vs)) (sym c.in_ok-traces.ensures.items);
         steps = given.ensures''.number;
+        least = may_be_number _ _ _ c.number-least.ensures.number c.number-least.ensures.none;
         cut = c.has_flag.ensures;
-        why = c.has_flag-2.ensures;
+        why = c.asks_why.ensures;
       },
       c.in_ok-types.ensures,
     )

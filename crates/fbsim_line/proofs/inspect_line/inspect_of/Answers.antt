@@ -3,7 +3,7 @@ use Rattle.clap.specs.Words.{found_of, rows_of}
 use Rattle.clap.proofs.WalkLemmas.{first_value-rows}
 use Rattle.fbsim_line.specs.Line.{IsNumber}
 use Rattle.std.specs.Prelude.{IfNone}
-use Rattle.fbsim_line.proofs.LineLaws.{no_inspected, no_inspected_trace, no_limit}
+use Rattle.fbsim_line.proofs.LineLaws.{may_be_number, no_inspected, no_inspected_trace, no_limit}
 use Rattle.fbsim_line.proofs.inspect_line.inspect_of.Goals as goal
 use Rattle.fbsim_line.proofs.inspect_line.inspect_of.Goals.{in_default-via-in-Some+in-Some+in_default, in_default-via-in-Some+in_default, in_default-via-in_default}
 
@@ -17,8 +17,11 @@ returns-clause-rows c =
         trace = sym (first_value-rows m (codes "TRACE")) ∙ sym given.ensures';
         only = c.in_ok-only.ensures;
         steps = given.ensures''.number;
-        cut = c.has_flag.ensures;
-        why = c.has_flag-2.ensures;
+        from = may_be_number _ _ _ c.number-from.ensures.number c.number-from.ensures.none;
+        to = may_be_number _ _ _ c.number-to.ensures.number c.number-to.ensures.none;
+        lost = c.has_flag.ensures;
+        cut = c.has_flag-2.ensures;
+        why = c.asks_why.ensures;
       },
       c.in_ok-types.ensures,
     )

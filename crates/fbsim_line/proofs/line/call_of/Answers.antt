@@ -1,14 +1,13 @@
 use Rattle.std.proofs.Common.{◌≡◌, ◌∙◌, None, sym, subst, codes}
 use Rattle.std.specs.Prelude.{IfSome}
 use Rattle.clap.specs.Words.{Text, first_of, found_of, rows_of}
-use Rattle.fbsim_line.specs.Line.{AsksCoverage, AsksDiff, AsksDraw, AsksExpect, AsksInspect, AsksWave, IsCall, IsTask, call_name, command_name}
+use Rattle.fbsim_line.specs.Line.{AsksCoverage, AsksDiff, AsksDraw, AsksExpect, AsksInspect, AsksWave, IsCall, IsNoTask, call_name}
 use Rattle.fbsim_line.specs.declared.bench_line.Diff.{Diff}
 use Rattle.fbsim_line.specs.declared.bench_line.Expect.{Expect}
 use Rattle.fbsim_line.specs.declared.coverage_line.Coverage.{Coverage}
 use Rattle.fbsim_line.specs.declared.draw_line.Draw.{Draw}
 use Rattle.fbsim_line.specs.declared.inspect_line.Inspect.{Inspect}
 use Rattle.fbsim_line.specs.declared.line.Call.{Call}
-use Rattle.fbsim_line.specs.declared.line.Task.{Task}
 use Rattle.fbsim_line.specs.declared.line.Wave.{Wave}
 use Rattle.fbsim_line.proofs.LineLaws.{no_coverage, no_diff, no_draw, no_expect, no_inspect, no_name, no_other_call, no_wave, ok_some, ok_none, when_none}
 use Rattle.fbsim_line.proofs.line.call_of.Goals as goal
@@ -126,7 +125,7 @@ returns-in_default-clause-rows c = c.task_of.ensures.rows
 pub returns-in_default-clause-none : goal.returns-in_default-clause-none
 returns-in_default-clause-none c =
     let rows = rows_of (found_of c.args.found.now) in
-    ok_none c.task_of.result ((t : Task) → c.args.name.now ≡ command_name t.action → IsTask rows t → ⊥) ((r : Call) → c.args.name.now ≡ call_name r → IsCall rows r → ⊥)
+    ok_none c.task_of.result (IsNoTask rows c.args.name.now) ((r : Call) → c.args.name.now ≡ call_name r → IsCall rows r → ⊥)
     (no_other_call rows c.args.name.now c.in_default.not-explain c.in_default.not-wave c.in_default.not-expect c.in_default.not-diff
     c.in_default.not-draw c.in_default.not-inspect c.in_default.not-coverage)
     c.task_of.ensures.none

@@ -18,7 +18,7 @@ returns-clause-rows c =
         cut = c.has_flag.ensures;
         states = c.has_flag-2.ensures;
         steps = given.ensures''.number;
-        why = c.has_flag-3.ensures;
+        why = c.asks_why.ensures;
       },
       c.in_ok-types.ensures,
     )
