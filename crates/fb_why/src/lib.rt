@@ -45,7 +45,7 @@ pub use input_place::{InputFile, InputPlace, place_in_deployment, places_in_inpu
 pub use listing::{Findings, MOST_FINDINGS, discard_findings};
 pub use location::{Finding, FindingLocation};
 pub use place::PlacedFinding;
-pub use rules_messages::{rules_message, unknown_key_message};
+pub use rules_messages::{pattern_message, rule_span, rules_message, unknown_key_message};
 pub use stimuli_messages::{row_message, stimuli_message};
 pub use stimulus_messages::unfit_message;
 pub use table::{Explanation, OF_CHECKS, OF_DECLARATIONS, OF_INPUTS};
