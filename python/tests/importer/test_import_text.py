@@ -210,6 +210,14 @@ def test_a_fault_of_syntax_that_only_the_simulator_sees_is_mapped_back(tmp_path)
     assert done.lines == [f"Adder.fbt:{place_of(text, 'ELSE SUM')}: E03: " + done.lines[0].split("E03: ")[1]]
 
 
+def test_a_semicolon_that_is_missing_is_shown_at_the_end(tmp_path):
+    text = basic("SUM := A;\n  SUM := A + 1")
+    done = import_all(tmp_path, {"Adder.fbt": text})
+    line, column = place_of(text, "A + 1").split(":")
+    assert done.status == 2 and len(done.lines) == 1
+    assert done.lines[0].startswith(f"Adder.fbt:{line}:{int(column) + len('A + 1')}: E03: "), done.lines
+
+
 @pytest.mark.parametrize(
     "kind, value, out",
     [

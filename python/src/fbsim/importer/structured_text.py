@@ -79,14 +79,14 @@ class Reader(Transformer_NonRecursive):
         """Refuse a token."""
         self.faults.refuse(self.place(token), f"{shown(token)} {reason}")
 
-    def read(self, begin: int, end: int, start: str) -> Value | None:
-        """Read these tokens by a rule, or refuse the first that does not fit."""
+    def read(self, begin: int, end: int, start: str, hint: str = "") -> Value | None:
+        """Read these tokens by a rule, or refuse the first that does not fit, with a hint."""
         parser: Any = GRAMMAR.parse_interactive(start=start)
         index = begin
         try:
             for index, token in enumerate(self.tokens[begin:end], begin):
                 word, after = token.upper(), self.tokens[index + 1]
-                is_keyword = word in KEYWORDS and word in parser.choices() and after != ":="
+                is_keyword = word in KEYWORDS and after != ":=" and (word in parser.choices() or not self.find(token))
                 parser.feed_token(Token(word, token, token.start_pos) if is_keyword else token)
             index = end
             found: Value = self.transform(parser.feed_eof())
@@ -96,7 +96,7 @@ class Reader(Transformer_NonRecursive):
         except UnexpectedToken:
             token, choices = self.tokens[index], parser.choices()
             expected = next((text for it, text in TABLES["expected"].items() if it in choices), "the end")
-            self.faults.refuse(self.place(token), f"found {shown(token)}, expected {expected}")
+            self.faults.refuse(self.place(token), f"found {shown(token)}, expected {expected}{hint}")
             return None
 
     def text(self) -> str:
@@ -230,7 +230,8 @@ def condition(code: Code, find: Find, find_event: Callable[[str], str | None], f
     is_guard = tokens[0] == "["
     if event and not is_guard:
         del tokens[0]
-    reader.truth(reader.read(0, len(tokens) - 1, "guard" if is_guard else "conjunction" if event else "expression"))
+    rule, hint = "guard" if is_guard else "conjunction" if event else "expression", ": write the condition as EVENT[GUARD]"
+    reader.truth(reader.read(0, len(tokens) - 1, rule, hint))
     guard = reader.text().lstrip()
     return f"{mark}{event or ''}{guard if is_guard else f'[{guard}{mark}]'}"
 

@@ -60,8 +60,8 @@ class Chart:
         self.transitions = [self.transition(it) for it in ecc.all("ECTransition")]
         self.algorithms = []
         for name, code in codes.items():
-            mark = code.code.place(0).mark
-            self.algorithms.append(f"{mark}ALGORITHM {self.bodies[name]} IN ST:{code.body()}{mark}\nEND_ALGORITHM\n")
+            mark, end = code.code.place(0).mark, code.place(code.tokens[-1]).mark
+            self.algorithms.append(f"{mark}ALGORITHM {self.bodies[name]} IN ST:{code.body()}{end}\nEND_ALGORITHM\n")
             library.notes += [f"{code.place(it)}: {it} goes away: a value that does not fit stops the run"
                               for it in code.conversions]
         library.notes += [f"type {block.out}: {it}" for one in (names, self.bodies, self.state_names) for it in one.renamed]
