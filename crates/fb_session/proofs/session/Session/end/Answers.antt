@@ -1,0 +1,10 @@
+use Rattle.std.specs.Io.KnownBytes.{Appends}
+use Rattle.std.proofs.Common.{[], List, append-nil, subst, sym, ℕ}
+use Rattle.std.proofs.KnownBytes.{Appends-nil}
+use Rattle.fb_types.specs.Headline.{IsTrace}
+use Rattle.fb_session.proofs.EndingIs.{whole_stopped}
+use Rattle.fb_session.proofs.session.Session.end.Goals as goal
+
+pub returns-in-Stopped : goal.returns-in-Stopped
+returns-in-Stopped g c = rw (← c.self.view_is)
+    (λ p was. ([], Appends-nil _, rw (append-nil _) (whole_stopped _ p was c.args.to c.in-Stopped.mark c.in-Stopped.is c.if-to-self.false)))

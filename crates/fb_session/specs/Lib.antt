@@ -1,0 +1,6 @@
+pub mod Pasts
+pub mod Breaking
+pub mod Giving
+pub mod Running
+pub mod Going
+pub mod Shown

@@ -1,0 +1,187 @@
+//! Breaks: patterns of lines after which a session pauses.
+
+ghost use Rattle.std.specs.Prelude.{◌≡◌, ◌⊎◌, ◌↔◌, [], All, Contains, IfOk, IfSome, IsTrue, Some};
+ghost use Rattle.fb_system.specs.OfSystem.{BelongsTo};
+ghost use Rattle.fb_types.specs.declared.run.Line as run;
+ghost use Rattle.fb_session.specs.Breaking.{OnlyBreaks};
+
+use crate::session::Session;
+use crate::stage::Stage;
+use fb_expect::{Entry, Pattern, meets, pattern_of, read_entry};
+use fb_system::System;
+use fb_trace::write_lines;
+use fb_types::{Form, Line};
+use std::alloc::{AllocError, Global};
+use std::slice::from_ref;
+use std::str::from_utf8;
+
+/// The most breaks that are set at a time.
+pub const MOST_BREAKS: usize = 100;
+
+/// A break: its number, and the lines that it is for.
+#[derive(Drop)]
+pub struct Break {
+    pub number: u64,
+    pub pattern: Pattern,
+}
+
+/// The breaks that are set, in the order of their numbers.
+#[derive(Drop)]
+pub struct Breaks {
+    set: Vec<Break>,
+    /// How many were set so far: numbers are not given again.
+    count: u64,
+    /// Room for the text of a line.
+    text: Vec<u8>,
+}
+
+/// Why a break is not set. The session is then as it was.
+#[derive(Clone, Copy)]
+pub enum BreakFault {
+    /// The session has stopped or failed.
+    NotGoing,
+    /// The text is no pattern (E43).
+    Pattern,
+    /// As many are set as there may be.
+    Many,
+    Memory,
+}
+
+impl From<AllocError> for BreakFault {
+    ghost use Rattle.fb_session.specs.declared.breaks.BreakFault.TheVariants.{Memory};
+
+    ghost from_gives = { λ _ e. e ≡ Memory };
+
+    fn from(_error: AllocError) -> BreakFault {
+        BreakFault::Memory
+    }
+}
+
+impl Session<'_> {
+    /// Sets a break for the lines of a pattern, and returns its number, from 1.
+    ///
+    /// # Errors
+    /// Why it is not set.
+    pub fn set_break(&mut self, text: &[u8]) -> Result<u64, BreakFault>
+        ensures { OnlyBreaks self.old self.new }
+    {
+        let Stage::Running = self.stage else {
+            return Err(BreakFault::NotGoing);
+        };
+        if self.breaks.set.len() >= MOST_BREAKS {
+            return Err(BreakFault::Many);
+        }
+        let Some(pattern) = self.pattern_in(text)? else {
+            return Err(BreakFault::Pattern);
+        };
+        // 2^64 breaks are more than anyone sets one by one
+        let Some(number) = self.breaks.count.checked_add(1) else {
+            return Err(BreakFault::Many);
+        };
+        match self.breaks.set.push(Break { number, pattern }) {
+            Ok(()) => {
+                self.breaks.count = number;
+                Ok(number)
+            }
+            Err(_) => Err(BreakFault::Memory),
+        }
+    }
+
+    /// The pattern that these bytes are, if they are one.
+    fn pattern_in(&self, text: &[u8]) -> Result<Option<Pattern>, AllocError> {
+        match from_utf8(text) {
+            Ok(text) => pattern_of(self.alloc, text),
+            Err(_) => Ok(None),
+        }
+    }
+
+    /// Removes the break with this number, and says whether it was set.
+    pub fn clear_break(&mut self, number: u64) -> bool
+        ensures { OnlyBreaks self.old self.new }
+    {
+        let Some(index) = self.breaks.set.iter().position(|b| b.number == number) else {
+            return false;
+        };
+        self.breaks.set.remove(index);
+        true
+    }
+}
+
+impl Breaks {
+    /// No breaks.
+    pub(crate) fn new(alloc: Global) -> Breaks
+        ensures { (result.set.items ≡ []) × (result.count ≡ 0) }
+    {
+        Breaks {
+            set: Vec::new(alloc),
+            count: 0,
+            text: Vec::new(alloc),
+        }
+    }
+
+    /// Whether none is set.
+    pub(crate) fn is_empty(&self) -> bool
+        ensures { IsTrue result ↔ (self.now.set.items ≡ []) }
+    {
+        self.set.is_empty()
+    }
+
+    /// The break with the least number that one of these lines is for, and the tick of the lines. They are those of one
+    /// event, unless no break is set.
+    pub(crate) fn first_for(
+        &mut self,
+        system: &System,
+        lines: &[Line],
+    ) -> Result<Option<(u64, u64)>, AllocError>
+        requires { All (BelongsTo system.now) lines.now }
+        ensures set { (self.new.set.items ≡ self.old.set.items) × (self.new.count ≡ self.old.count) }
+        ensures hit { IfOk result (λ o. IfSome o (λ h. (l : run.Line) × Contains lines.now l × (l.key.tick ≡ h.1))) }
+    {
+        if self.set.is_empty() {
+            return Ok(None);
+        }
+        let mut least: Option<(u64, u64)> = None;
+        for line in lines {
+            self.text.clear();
+            render(&mut self.text, system, line)?;
+            // the text of a line is one
+            let number = match read_entry(Form::One, self.text.as_slice()) {
+                Some(entry) => number_for(self.set.as_slice(), &entry),
+                None => None,
+            };
+            least = earlier(least, number, line.key.tick);
+        }
+        Ok(least)
+    }
+}
+
+/// The number of the first of these breaks that a line is for.
+fn number_for(set: &[Break], entry: &Entry<'_>) -> Option<u64> {
+    for one in set {
+        if meets(&one.pattern, entry) {
+            return Some(one.number);
+        }
+    }
+    None
+}
+
+/// The lesser number of the two.
+fn earlier(least: Option<(u64, u64)>, number: Option<u64>, tick: u64) -> Option<(u64, u64)>
+    ensures { IfSome result (λ h. (h.1 ≡ tick) ⊎ (least ≡ Some h)) }
+{
+    match (least, number) {
+        (Some((before, _)), Some(number)) if number < before => Some((number, tick)),
+        (None, Some(number)) => Some((number, tick)),
+        (least, _) => least,
+    }
+}
+
+/// Appends the text of a line in form one.
+fn render(text: &mut Vec<u8>, system: &System, line: &Line) -> Result<(), AllocError>
+    requires { BelongsTo system.now line.now }
+{
+    match write_lines(text, system, Form::One, from_ref(line)) {
+        Ok(()) => Ok(()),
+        Err(_) => Err(AllocError),
+    }
+}
