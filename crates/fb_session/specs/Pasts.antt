@@ -39,7 +39,7 @@ pub record Talk : Type 0 where
   pub breaks : List Break
   -- how many breaks were set so far
   pub set : ℕ
-  -- the bytes of all calls
+  -- the bytes of lines of events of all calls
   pub written : ℕ
   pub machine : Machine
 

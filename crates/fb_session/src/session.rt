@@ -29,7 +29,7 @@ pub struct Session<'s> {
     pub(crate) reached: u64,
     pub(crate) stage: Stage,
     pub(crate) breaks: Breaks,
-    /// How many bytes all calls have written, up to the greatest `u128`.
+    /// How many bytes of lines of events all calls have written, up to the greatest `u128`.
     pub(crate) written: u128,
 }
 
@@ -102,7 +102,8 @@ impl<'s> Session<'s> {
         self.rows
     }
 
-    /// How many bytes all calls have written, up to the greatest `u128`. A fault has the count of its call alone.
+    /// How many bytes of lines of events all calls have written, up to the greatest `u128`: the line of a stop is not
+    /// counted. A fault has the count of its call alone.
     pub fn written(&self) -> u128
         ensures { result ≡ self.now.written }
     {
