@@ -57,7 +57,7 @@ impl From<AllocError> for BreakFault {
     }
 }
 
-impl Session<'_> {
+impl Session<'_, '_> {
     /// Sets a break for the lines of a pattern, and returns its number, from 1.
     ///
     /// # Errors

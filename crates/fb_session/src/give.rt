@@ -37,7 +37,7 @@ fn read(alloc: Global, tick: &[u8], event: &[u8], values: &[u8]) -> Result<Stimu
     }
 }
 
-impl Session<'_> {
+impl Session<'_, '_> {
     /// Gives one more row, by its three fields as a list of stimuli has them. It gets the next number. The row is read
     /// (E13, E14, E15), then it must fit (E29), and then it must not be late; how many rows there are does not matter.
     ///

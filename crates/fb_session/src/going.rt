@@ -78,7 +78,7 @@ fn write_end<W: Write>(
     }
 }
 
-impl Session<'_> {
+impl Session<'_, '_> {
     /// Takes all events below this tick, which is 1 to 10^12, and writes their lines. It pauses after the first event that
     /// has a line of a break.
     ///

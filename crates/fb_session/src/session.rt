@@ -16,10 +16,10 @@ use std::marker::Model;
 /// A run that one talks to. Contracts see its inputs and options, how far it has come, and its breaks; where it stands is
 /// said by rows and takings that led to it (`StandsBy`).
 #[derive(Drop)]
-pub struct Session<'s> {
+pub struct Session<'j, 's> {
     pub(crate) alloc: Global,
     pub(crate) system: &'s System,
-    pub(crate) judge: &'s RowJudge<'s>,
+    pub(crate) judge: &'j RowJudge<'s>,
     pub(crate) machine: Machine,
     pub(crate) steps: u64,
     pub(crate) form: Form,
@@ -33,7 +33,7 @@ pub struct Session<'s> {
     pub(crate) written: u128,
 }
 
-impl<'s> Model for Session<'s> {
+impl<'j, 's> Model for Session<'j, 's> {
     ghost use Rattle.fb_session.specs.Pasts.{Talk, talk_code};
 
     ghost Value = { Talk };
@@ -43,7 +43,7 @@ impl<'s> Model for Session<'s> {
     ghost view = { λ s. record { inputs = s.system.now; judged = s.judge.now.library.now; steps = s.steps; form = s.form; rows = s.rows; reached = s.reached; stage = s.stage; breaks = s.breaks.set.items; set = s.breaks.count; written = s.written; machine = s.machine } };
 }
 
-impl<'s> Session<'s> {
+impl<'j, 's> Session<'j, 's> {
     /// The session of a system before its first event, with the rows of the system, at tick 0. A resource makes at most
     /// this many steps in a tick.
     ///
@@ -52,10 +52,10 @@ impl<'s> Session<'s> {
     pub fn open(
         alloc: Global,
         system: &'s System,
-        judge: &'s RowJudge<'s>,
+        judge: &'j RowJudge<'s>,
         steps: u64,
         form: Form,
-    ) -> Result<Session<'s>, AllocError>
+    ) -> Result<Session<'j, 's>, AllocError>
         requires some { 1 ≤ steps }
         requires few { steps ≤ 10 ^ 7 }
         requires judge { judge.now.library.now ≡ system.now.library }

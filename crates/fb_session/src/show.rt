@@ -128,7 +128,7 @@ fn put_memory(
     }
 }
 
-impl Session<'_> {
+impl Session<'_, '_> {
     /// What the block at a path has, as text: its path, then its state, memory or timer, and its variables with their
     /// values. The path is in upper case. `None` if no instance has it, or after a failure.
     ///
