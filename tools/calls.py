@@ -266,14 +266,11 @@ HELP_OF_INSPECT = (
 )
 # Of the blocks of CYCLE, S starts once, and C is started and never stopped. A trace to 0 has no tick of the cycle.
 COVERED_TO_8 = b"""\
-instance S
-  event WARM was never emitted
-  event STOP was never emitted
-instance C
-  event STOP was never taken
-states 0 of 0, transitions 0 of 0, algorithms 0 of 0, events 0 of 0, ports 3 of 6
+ports without a connection
+  event C.STOP was never taken
+states 0 of 0, transitions 0 of 0, algorithms 0 of 0, events 0 of 0, ports 2 of 2
 """
-COVERED_TO_0 = COVERED_TO_8.replace(b"never taken\n", b"never taken\n  event EO was never emitted\n").replace(b"3 of 6", b"2 of 6")
+COVERED_TO_0 = COVERED_TO_8.replace(b"never taken\n", b"never taken\n  event C.EO was never emitted\n")
 HELP_OF_COVERAGE = (
     "DECL", "declaration of the types", "TRACE", "files with the traces", "--types", "--deploy", "in TOML", "--steps", "limit of steps of the runs", "--cut", "--why", "Example: fbsim coverage ",
 )

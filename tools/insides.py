@@ -141,6 +141,12 @@ def with_conditions(text):
 # ---- What is covered
 
 
+def is_connected(block, port):
+    """Whether an event connection begins or ends at a port of an instance, in the network around it or in the one inside it."""
+    ends = [it for pair in block.above.network.events for it in pair if it == (block.name, port)]
+    return bool(ends or block.network and any((None, port) in pair for pair in block.network.events))
+
+
 def report_of(system):
     """What `coverage` reports of a run. A condition is written as tools/declaration.py reads it."""
     lines, counts = [], dict.fromkeys(["states", "transitions", "algorithms", "events", "ports"], (0, 0))
@@ -166,12 +172,17 @@ def report_of(system):
         missing += [f"  algorithm {it} never ran" for it, mark in algorithms if not mark]
         missing += [f"  event {it} was {'only lost' if seen('taken', it) else 'never taken'}" for it, mark in events if not mark]
         lines += [f"type {name}", *missing] if missing else []
+    alone = []
     for block in (it for it in system.blocks if not it.type.chart):
         sides = [(sign, it, did) for sign, its, did in ((">", block.type.ins, "taken"), ("<", block.type.outs, "emitted")) for it in its]
-        marks = [(sign, block.path, it) in system.covered for sign, it, _ in sides]
-        count("ports", marks)
-        missing = [f"  event {it} was never {did}" for (_, it, did), mark in zip(sides, marks) if not mark]
+        sides = [it for it in sides if getattr(block.type, "event_block", None) != "E_RESTART" or it[1] == "COLD"]
+        marks = {it: (it[0], block.path, it[1]) in system.covered for it in sides}
+        counted = {it: mark for it, mark in marks.items() if is_connected(block, it[1])}
+        count("ports", counted.values())
+        missing = [f"  event {it} was never {did}" for (_, it, did), mark in counted.items() if not mark]
         lines += [f"instance {block.path}", *missing] if missing else []
+        alone += [f"  event {block.path}.{it[1]} was never {it[2]}" for it, mark in marks.items() if not mark and it not in counted]
+    lines += ["ports without a connection", *alone] if alone else []
     return "".join(f"{it}\n" for it in [*lines, ", ".join(f"{name} {a} of {b}" for name, (a, b) in counts.items())])
 
 

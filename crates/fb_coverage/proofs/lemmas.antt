@@ -1,2 +1,4 @@
 pub mod Listed
 pub mod Added
+pub mod Basics
+pub mod Connections

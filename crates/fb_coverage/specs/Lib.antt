@@ -1,5 +1,7 @@
 pub mod Tables
 pub mod Additions
+pub mod Connected
+pub mod Listed
 pub mod Sets
 pub mod Openings
 pub mod Shares

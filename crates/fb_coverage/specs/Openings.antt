@@ -48,6 +48,11 @@ has_type n k = is_named n (basic_of k)
 abbrev pub is_used : System → Name → Bool
 is_used sys n = list_any (λ p. has_type n (sys.kind p)) sys.paths
 
+-- what is said of an instance that is no basic block
+abbrev pub unless_basic : {A : Type 0} → Option BasicType → List A → List A
+unless_basic None xs = xs
+unless_basic (Some t) xs = []
+
 -- ---- Rows
 
 -- The flags of the parts of a type. Its first state, which is the initial one, is entered as soon as an instance has it.

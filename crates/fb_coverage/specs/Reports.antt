@@ -1,5 +1,5 @@
 -- The report of what traces do not cover (this project's own).
-use Rattle.std.specs.Prelude.{ℕ, ◌+◌, List, [], ◌∷◌, ◌++◌, Bool, if◌then◌else◌, Option, Some, None, codes}
+use Rattle.std.specs.Prelude.{ℕ, List, [], ◌∷◌, ◌++◌, Bool, false, not, if◌then◌else◌, codes}
 use Rattle.fb_types.specs.Names.{Name, Path}
 use Rattle.fb_types.specs.Numbers.{ports_at}
 use Rattle.fb_types.specs.Systems.{System}
@@ -9,20 +9,20 @@ use Rattle.fb_types.specs.declared.library.BasicType.{BasicType}
 use Rattle.fb_types.specs.declared.library.BlockType.{BlockType}
 use Rattle.fb_types.specs.declared.library.BlockType.TheVariants as block
 use Rattle.fb_types.specs.declared.library.EventPort.{EventPort}
+use Rattle.fb_types.specs.declared.library.Library.{Library}
 use Rattle.fb_types.specs.declared.library.Ports.{Ports}
 use Rattle.fb_types.specs.declared.library.State.{State}
 use Rattle.fb_types.specs.declared.library.Transition.{Transition}
 use Rattle.fb_text.specs.Conditions.{condition_text}
 use Rattle.fb_text.specs.Pieces.{joined}
-use Rattle.fb_coverage.specs.Openings.{basic_of}
-use Rattle.fb_coverage.specs.Shares.{none_counted, share_text, with_rows}
+use Rattle.fb_coverage.specs.Connected.{is_in}
+use Rattle.fb_coverage.specs.Listed.{listed}
+use Rattle.fb_coverage.specs.Openings.{basic_of, unless_basic}
+use Rattle.fb_coverage.specs.Shares.{share_text, shares_of}
 use Rattle.fb_coverage.specs.Tables.{is_set, row_of}
+use Rattle.fb_coverage.specs.declared.group.Group.TheVariants.{Connected, Unconnected}
 use Rattle.fb_coverage.specs.declared.marks.Marks.{Marks}
-
--- the texts of things, each with its index
-abbrev pub listed : {A : Type 0} → (ℕ → A → List ℕ) → (index : ℕ) → List A → List ℕ
-listed text k [] = []
-listed text k (x ∷ xs) = text k x ++ listed text (k + 1) xs
+use Rattle.fb_coverage.specs.declared.share.Shares.{Shares}
 
 -- a line of a thing that is not covered
 abbrev pub line_unless : (is_covered : Bool) → (word : List ℕ) → Name → (rest : List ℕ) → List ℕ
@@ -74,28 +74,41 @@ block_text m i (block.Composite t) = []
 
 -- ---- Ports of other instances
 
-abbrev pub port_line : (flags : List Bool) → (words : List ℕ) → ℕ → EventPort → List ℕ
-port_line flags words k e = line_unless (is_set flags k) (codes "  event ") e.name words
+-- the port is in this group, and had no event
+abbrev pub is_lacking : (is_in : ℕ → EventPort → Bool) → (flags : List Bool) → (index : ℕ) → EventPort → Bool
+is_lacking is_in flags k e = if is_set flags k then false else is_in k e
 
-abbrev pub ports_text : Marks → (instance : ℕ) → Ports → List ℕ
-ports_text m k p =
-    listed (port_line (row_of m.ports.inputs k) (codes " was never taken\n")) 0 p.event_inputs
-    ++ listed (port_line (row_of m.ports.outputs k) (codes " was never emitted\n")) 0 p.event_outputs
+-- the line of a port of this group, if it had no event
+abbrev pub port_line : (is_in : ℕ → EventPort → Bool) → (word : List ℕ) → (flags : List Bool) → (words : List ℕ) → ℕ → EventPort → List ℕ
+port_line is_in word flags words k e = line_unless (not (is_lacking is_in flags k e)) word e.name words
 
-abbrev pub others_text : Option BasicType → Marks → (instance : ℕ) → Path → Ports → List ℕ
-others_text None m k p its = titled (codes "instance ") (path_text p) (ports_text m k its)
-others_text (Some t) m k p its = []
+abbrev pub ports_text : (is_in : ℕ → EventPort → Bool) → (word : List ℕ) → Marks → (instance : ℕ) → Ports → List ℕ
+ports_text is_in word m k its =
+    listed (port_line is_in word (row_of m.ports.inputs k) (codes " was never taken\n")) 0 its.event_inputs
+    ++ listed (port_line is_in word (row_of m.ports.outputs k) (codes " was never emitted\n")) 0 its.event_outputs
 
-abbrev pub instance_text : System → Marks → (instance : ℕ) → Path → List ℕ
-instance_text sys m k p = others_text (basic_of (sys.kind p)) m k p (ports_at sys p)
+-- the connected ports without an event
+abbrev pub instance_text : Library → System → Marks → (instance : ℕ) → Path → List ℕ
+instance_text lib sys m k p =
+    unless_basic (basic_of (sys.kind p)) (titled (codes "instance ") (path_text p) (ports_text (is_in Connected lib sys p) (codes "  event ") m k (ports_at sys p)))
+
+-- the ports without a connection and without an event, each written with its path
+abbrev pub word_of : Path → List ℕ
+word_of p = joined (codes "  event " ∷ path_text p ∷ codes "." ∷ [])
+
+abbrev pub unconnected_ports : Library → System → Marks → (instance : ℕ) → Path → List ℕ
+unconnected_ports lib sys m k p = unless_basic (basic_of (sys.kind p)) (ports_text (is_in Unconnected lib sys p) (word_of p) m k (ports_at sys p))
+
+abbrev pub unconnected_text : Library → System → Marks → List ℕ
+unconnected_text lib sys m = titled (codes "ports without a connection") [] (listed (unconnected_ports lib sys m) 0 sys.paths)
 
 -- ---- The report
 
-abbrev pub counts_text : Marks → List ℕ
-counts_text m =
-    share_text (codes "states ") (with_rows none_counted m.charts.states.rows) ++ share_text (codes ", transitions ") (with_rows none_counted m.charts.transitions.rows)
-    ++ share_text (codes ", algorithms ") (with_rows none_counted m.charts.algorithms.rows) ++ share_text (codes ", events ") (with_rows none_counted m.charts.clearing.rows)
-    ++ share_text (codes ", ports ") (with_rows (with_rows none_counted m.ports.inputs.rows) m.ports.outputs.rows) ++ codes "\n"
+abbrev pub counts_text : Shares → List ℕ
+counts_text s =
+    share_text (codes "states ") s.states ++ share_text (codes ", transitions ") s.transitions ++ share_text (codes ", algorithms ") s.algorithms
+    ++ share_text (codes ", events ") s.events ++ share_text (codes ", ports ") s.ports ++ codes "\n"
 
-abbrev pub report_text : List BlockType → System → Marks → List ℕ
-report_text blocks sys m = listed (block_text m) 0 blocks ++ listed (instance_text sys m) 0 sys.paths ++ counts_text m
+abbrev pub report_text : Library → System → Marks → List ℕ
+report_text lib sys m =
+    listed (block_text m) 0 lib.blocks ++ listed (instance_text lib sys m) 0 sys.paths ++ unconnected_text lib sys m ++ counts_text (shares_of lib sys m)

@@ -2,7 +2,7 @@
 
 ghost use Rattle.std.specs.Prelude.{◌≡◌, ◌++◌, IfOk, OnOk};
 ghost use Rattle.fb_coverage.specs.Reports as spec;
-ghost use Rattle.fb_coverage.specs.Reports.{listed};
+ghost use Rattle.fb_coverage.specs.Listed.{listed};
 ghost use Rattle.fb_coverage.specs.Tables.{row_of};
 
 use crate::marks::Marks;

@@ -1,10 +1,19 @@
 //! How many of how many are covered.
 
-ghost use Rattle.std.specs.Prelude.{◌≡◌, ◌+◌, ◌++◌, OnOk, length};
+ghost use Rattle.std.specs.Prelude.{◌≡◌, ◌<◌, ◌+◌, ◌*◌, ◌^◌, ◌++◌, IfOk, OnOk};
+ghost use Rattle.fb_types.specs.OfSystem.{IsInstance, path_at};
+ghost use Rattle.fb_coverage.specs.Listed.{listed};
 ghost use Rattle.fb_coverage.specs.Shares as spec;
+ghost use Rattle.fb_coverage.specs.OfSystem.{counted_row, is_below, is_in, port_share, shares_of};
+ghost use Rattle.fb_coverage.specs.declared.group.Group.TheVariants.{Connected};
 
-use crate::table::Table;
-use fb_text::{put_all, put_number};
+use crate::group::{Group, is_in};
+use crate::marks::Marks;
+use crate::part::basic_of;
+use crate::table::{Table, is_set};
+use fb_system::System;
+use fb_text::put_number;
+use fb_types::EventPort;
 use std::alloc::{AllocError, Global};
 
 /// How many of how many are covered, each up to the greatest `u64`.
@@ -39,6 +48,165 @@ impl Share {
             self.count(row.as_slice());
         }
     }
+}
+
+/// How many of how many are covered, of each kind of things.
+#[derive(Clone, Copy)]
+pub(crate) struct Shares {
+    pub(crate) states: Share,
+    pub(crate) transitions: Share,
+    pub(crate) algorithms: Share,
+    pub(crate) events: Share,
+    /// Connected event ports of event blocks and composites.
+    pub(crate) ports: Share,
+}
+
+/// How much of a table is covered.
+fn share_of(table: &Table) -> Share
+    ensures { result ≡ spec.with_rows spec.none_counted table.now.rows }
+{
+    let mut share = Share::new();
+    share.count_all(table);
+    share
+}
+
+/// Adds the flags of the connected ports of a side.
+fn add_side(
+    counted: &mut Vec<bool>,
+    system: &System,
+    instance: u32,
+    events: &[EventPort],
+    flags: &[bool],
+) -> Result<(), AllocError>
+    requires { IsInstance system.now instance }
+    ensures { OnOk result (counted.new.items ≡ counted.old.items ++ listed (spec.flag_if (is_in Connected system.now (path_at system.now instance)) flags.now) 0 events.now) }
+{
+    for (index, event) in events.iter().enumerate() {
+        if is_in(Group::Connected, system, instance, index, event) {
+            counted.push(is_set(flags, index))?;
+        }
+    }
+    Ok(())
+}
+
+/// The flags of the connected ports of an instance: none where it is a basic block.
+fn counted_row(
+    alloc: Global,
+    system: &System,
+    marks: &Marks,
+    instance: u32,
+) -> Result<Vec<bool>, AllocError>
+    requires { IsInstance system.now instance }
+    ensures { IfOk result (λ row. row.items ≡ counted_row system.now marks.now instance (path_at system.now instance)) }
+{
+    let mut counted = Vec::new(alloc);
+    if basic_of(system, instance).is_some() {
+        return Ok(counted);
+    }
+    let ports = system.ports(instance);
+    let taken = marks.ports.inputs.row(instance as usize);
+    let inputs = ports.event_inputs.as_slice();
+    add_side(&mut counted, system, instance, inputs, taken)?;
+    let emitted = marks.ports.outputs.row(instance as usize);
+    let outputs = ports.event_outputs.as_slice();
+    add_side(&mut counted, system, instance, outputs, emitted)?;
+    Ok(counted)
+}
+
+/// How much of the connected ports is covered.
+fn port_share(alloc: Global, system: &System, marks: &Marks) -> Result<Share, AllocError>
+    ensures { IfOk result (λ share. share ≡ port_share system.now marks.now) }
+{
+    let mut share = Share::new();
+    system.facts(); // for the prover: what holds of every accepted system
+    for instance in 0..system.count() {
+        let row = counted_row(alloc, system, marks, instance as u32)?;
+        share.count(row.as_slice());
+    }
+    Ok(share)
+}
+
+/// How much is covered.
+pub(crate) fn shares_of(alloc: Global, system: &System, marks: &Marks) -> Result<Shares, AllocError>
+    ensures { IfOk result (λ shares. shares ≡ shares_of system.now marks.now) }
+{
+    let charts = &marks.charts;
+    let ports = port_share(alloc, system, marks)?;
+    Ok(Shares {
+        states: share_of(&charts.states),
+        transitions: share_of(&charts.transitions),
+        algorithms: share_of(&charts.algorithms),
+        events: share_of(&charts.clearing),
+        ports,
+    })
+}
+
+/// The sum of what is covered, or of what counts, of each kind of things.
+fn sum_of(states: u64, transitions: u64, algorithms: u64, events: u64, ports: u64) -> u128
+    ensures sum { result ≡ states + transitions + algorithms + events + ports }
+    ensures small { result < 5 * 2 ^ 64 }
+{
+    u128::from(states)
+        + u128::from(transitions)
+        + u128::from(algorithms)
+        + u128::from(events)
+        + u128::from(ports)
+}
+
+/// How much of all is covered.
+fn covered_in(shares: &Shares) -> u128
+    ensures sum { result ≡ spec.covered_in shares.now }
+    ensures small { result < 5 * 2 ^ 64 }
+{
+    sum_of(
+        shares.states.covered,
+        shares.transitions.covered,
+        shares.algorithms.covered,
+        shares.events.covered,
+        shares.ports.covered,
+    )
+}
+
+/// How much counts in all.
+fn counted_in(shares: &Shares) -> u128
+    ensures { result ≡ spec.counted_in shares.now }
+{
+    sum_of(
+        shares.states.all,
+        shares.transitions.all,
+        shares.algorithms.all,
+        shares.events.all,
+        shares.ports.all,
+    )
+}
+
+/// Whether less than a part of all that counts is covered.
+fn is_less(shares: &Shares, least: u64) -> bool
+    ensures { result ≡ spec.is_less least shares.now }
+{
+    let covered = covered_in(shares);
+    match u128::from(least).checked_mul(counted_in(shares)) {
+        Some(wanted) => 100 * covered < wanted,
+        // What is wanted is more than can be covered.
+        None => true,
+    }
+}
+
+/// Whether less than this part of all that counts is covered, in percent. What is covered and what counts are the sums
+/// of the numbers in the last line of the report. Where nothing counts, all of it is covered.
+///
+/// # Errors
+/// When memory runs out.
+pub fn is_below(
+    alloc: Global,
+    system: &System,
+    marks: &Marks,
+    least: u64,
+) -> Result<bool, AllocError>
+    ensures { IfOk result (λ below. below ≡ is_below system.now least marks.now) }
+{
+    let shares = shares_of(alloc, system, marks)?;
+    Ok(is_less(&shares, least))
 }
 
 /// Adds a word, and then how many of how many are covered.

@@ -20,7 +20,7 @@ fn rest_from(text: &[u8], count: usize) -> &[u8]
 }
 
 /// The last part of the path of an instance: its name in its network.
-pub(crate) fn own_name(system: &System, instance: u32) -> &[u8]
+pub fn own_name(system: &System, instance: u32) -> &[u8]
     requires { IsInstance system.now instance }
     ensures { result.now ≡ spec.own_name (path_at system.now instance) }
 {

@@ -51,6 +51,7 @@ pub mod words;
 pub use copy::{can_end, form_of, is_over, next_line};
 pub use current_line::CurrentLine;
 pub use error::WaveError;
+pub use head::own_name;
 pub use last::read_last;
 pub use line::read_line;
 pub use page::{Page, PageFault};

@@ -190,10 +190,10 @@ module _ {S : Type 0} (opens : Opening S) (i : Inputs) (x : Coverage) (first : G
 -- ---- The report
 
 pub report_is :
-    (i : Inputs) (x : Coverage) (g : Gleaned) (front text : Text) (n : ℕ) → front ≡ report_text i.library.blocks (system_of i) g.marks → text ≡ front ++ cut_line g.cut n
+    (i : Inputs) (x : Coverage) (g : Gleaned) (front text : Text) (n : ℕ) → front ≡ report_text i.library (system_of i) g.marks → text ≡ front ++ cut_line g.cut n
     → n ≡ length x.traces.items → text ≡ coverage_text i x g
 report_is i x g front text n reported put many =
-    put ∙ ap (λ (t : Text). t ++ cut_line g.cut n) reported ∙ ap (λ (k : ℕ). report_text i.library.blocks (system_of i) g.marks ++ cut_line g.cut k) many
+    put ∙ ap (λ (t : Text). t ++ cut_line g.cut n) reported ∙ ap (λ (k : ℕ). report_text i.library (system_of i) g.marks ++ cut_line g.cut k) many
 
 -- ---- Ends
 

@@ -81,7 +81,7 @@ cut_line k n = if nat_eq k 0 then [] else codes "traces cut " ++ (decimal k ++ (
 
 -- the report of what is gleaned from traces
 abbrev pub coverage_text : Inputs → Coverage → Gleaned → Text
-coverage_text i x g = report_text i.library.blocks (system_of i) g.marks ++ cut_line g.cut (length x.traces.items)
+coverage_text i x g = report_text i.library (system_of i) g.marks ++ cut_line g.cut (length x.traces.items)
 
 -- The inputs are accepted, all traces are gone through, and this is the report of what they cover.
 pub record IsReport {S : Type 0} (opens : Opening S) (given : Given) (x : Coverage) (from to : S) (text : Text) : Type 0 where

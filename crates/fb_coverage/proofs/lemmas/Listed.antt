@@ -4,25 +4,30 @@ use Rattle.std.specs.Prelude.{OnOk, Result, Ok, Err, if◌then◌else◌, is_ok,
 use Rattle.std.proofs.lemmas.List.{at_drop_all, at_drop_more, map-append, take_more}
 use Rattle.std.proofs.lemmas.Option.{get_or_from_slice_get, unwrap_or-slice_get}
 use Rattle.fb_types.proofs.ByIndex.{element_at}
-use Rattle.fb_coverage.specs.Reports.{listed}
+use Rattle.fb_coverage.specs.Listed.{listed}
 
 -- ---- Texts
 
--- one element of a list adds its text
+-- what an element gives, and then what those after it give
+pub listed_here :
+    {A B : Type 0} (f : ℕ → A → List B) (xs : List A) (i : ℕ) (x : A) → i < length xs → x ≡ get_or xs i x
+    → listed f i (drop i xs) ≡ f i x ++ listed f (i + 1) (drop (i + 1) xs)
+listed_here {A} {B} f xs i x within is =
+    at_drop_more (λ (ys : List A). listed f i ys) xs i x within ∙ ap (λ (y : A). listed f i (y ∷ drop (i + 1) xs)) (sym is)
+
+-- one element of a list adds what it gives
 pub listed_next :
-    {A : Type 0} (f : ℕ → A → List ℕ) (xs : List A) (i : ℕ) (x : A) (old new all : List ℕ) → i < length xs → x ≡ get_or xs i x → new ≡ old ++ f i x
+    {A B : Type 0} (f : ℕ → A → List B) (xs : List A) (i : ℕ) (x : A) (old new all : List B) → i < length xs → x ≡ get_or xs i x → new ≡ old ++ f i x
     → old ++ listed f i (drop i xs) ≡ all → new ++ listed f (i + 1) (drop (i + 1) xs) ≡ all
-listed_next {A} f xs i x old new all within is added before =
-    let rest : List ℕ = listed f (i + 1) (drop (i + 1) xs) in
-    let here : listed f i (drop i xs) ≡ f i x ++ rest =
-    at_drop_more (λ (ys : List A). listed f i ys) xs i x within ∙ ap (λ (y : A). listed f i (y ∷ drop (i + 1) xs)) (sym is) in
-    ap (λ (ys : List ℕ). ys ++ rest) added ∙ append_assoc old (f i x) rest ∙ ap (λ (ys : List ℕ). old ++ ys) (sym here) ∙ before
+listed_next {A} {B} f xs i x old new all within is added before =
+    let rest : List B = listed f (i + 1) (drop (i + 1) xs) in
+    ap (λ (ys : List B). ys ++ rest) added ∙ append_assoc old (f i x) rest ∙ ap (λ (ys : List B). old ++ ys) (sym (listed_here f xs i x within is)) ∙ before
 
 -- no element is left
 pub listed_done :
-    {A : Type 0} (f : ℕ → A → List ℕ) (xs : List A) (i : ℕ) (new all : List ℕ) → length xs ≤ i → new ++ listed f i (drop i xs) ≡ all → new ≡ all
-listed_done {A} f xs i new all past before =
-    sym (append-nil new) ∙ ap (λ (ys : List ℕ). new ++ ys) (sym (at_drop_all (λ (ys : List A). listed f i ys) xs i past)) ∙ before
+    {A B : Type 0} (f : ℕ → A → List B) (xs : List A) (i : ℕ) (new all : List B) → length xs ≤ i → new ++ listed f i (drop i xs) ≡ all → new ≡ all
+listed_done {A} {B} f xs i new all past before =
+    sym (append-nil new) ∙ ap (λ (ys : List B). new ++ ys) (sym (at_drop_all (λ (ys : List A). listed f i ys) xs i past)) ∙ before
 
 -- ---- Elements by their numbers
 
@@ -48,7 +53,13 @@ set_none [] i v none = refl
 set_none (x ∷ xs) zero v none = absurd (cc)
 set_none {A} (x ∷ xs) (suc i) v none = ap (λ (ys : List A). x ∷ ys) (set_none xs i v none)
 
--- ---- What the last of six calls adds
+-- ---- What the last of some calls adds
+
+pub put_two :
+    {A E : Type 0} (r : Result A E) (old a b d one new : List ℕ) → one ≡ old ++ a → OnOk r (new ≡ one ++ d) → d ≡ b → OnOk r (new ≡ old ++ (a ++ b))
+put_two (Ok x) old a b d one new first put same =
+    put ∙ ap (λ (l : List ℕ). one ++ l) same ∙ ap (λ (l : List ℕ). l ++ b) first ∙ append_assoc old a b
+put_two (Err x) old a b d one new first put same = tt
 
 pub put_six :
     {A E : Type 0} (r : Result A E) (old a b c d e z one two three four five new : List ℕ) → one ≡ old ++ a → two ≡ one ++ b → three ≡ two ++ c → four ≡ three ++ d

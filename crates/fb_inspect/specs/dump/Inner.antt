@@ -10,7 +10,7 @@ use Rattle.fb_types.specs.declared.library.BasicType.{BasicType}
 use Rattle.fb_types.specs.declared.library.Variable.{Variable}
 use Rattle.fb_types.specs.declared.value.Value.{Value}
 use Rattle.fb_types.specs.declared.value.Value.TheVariants as value
-use Rattle.fb_coverage.specs.Reports.{listed}
+use Rattle.fb_coverage.specs.Listed.{listed}
 use Rattle.fb_wave.specs.Changes.{in_bits, line, number_changed}
 use Rattle.fb_wave.specs.Scopes.{declares, variable_kind}
 use Rattle.fb_inspect.specs.walk.Chains.{Piece, Clears_by, Is_lost, Ran, Stops_by, Has, Emits}

@@ -7,7 +7,7 @@ ghost use Rattle.fb_types.specs.Values.{same_value};
 ghost use Rattle.fb_types.specs.declared.library.BasicType.{BasicType};
 ghost use Rattle.fb_types.specs.OfSystem.{IsInstance, kind_at, path_at};
 ghost use Rattle.fb_st.specs.Frames.{values_of};
-ghost use Rattle.fb_coverage.specs.Reports.{listed};
+ghost use Rattle.fb_coverage.specs.Listed.{listed};
 ghost use Rattle.fb_inspect.specs.walk.Looks.{Look, Seen};
 ghost use Rattle.fb_inspect.specs.walk.Notes.{own_variables};
 ghost use Rattle.fb_inspect.specs.walk.Walking.{IsChartKept};

@@ -1,7 +1,7 @@
 //! The lines that a dump has of the inside of basic blocks.
 
 ghost use Rattle.std.specs.Prelude.{◌≡◌, ◌++◌, OnOk, codes};
-ghost use Rattle.fb_coverage.specs.Reports.{listed};
+ghost use Rattle.fb_coverage.specs.Listed.{listed};
 ghost use Rattle.fb_wave.specs.Scopes.{declares, variable_kind};
 ghost use Rattle.fb_inspect.specs.dump.Inner as spec;
 

@@ -1,6 +1,6 @@
 use Rattle.std.proofs.Common.{◌≡◌, ◌++◌, drop}
 use Rattle.fb_coverage.specs.Reports as spec
-use Rattle.fb_coverage.specs.Reports.{listed}
+use Rattle.fb_coverage.specs.Listed.{listed}
 use Rattle.fb_coverage.proofs.block_report.put_events.Given as goal
 
 -- with what the rest adds, all is there

@@ -1,10 +1,12 @@
 use Rattle.std.proofs.Common.{◌≡◌, ◌++◌, drop}
 use Rattle.fb_types.specs.Headline.{system_of}
-use Rattle.fb_coverage.specs.Reports.{instance_text, listed}
+use Rattle.fb_coverage.specs.Listed.{listed}
+use Rattle.fb_coverage.specs.Reports.{instance_text}
 use Rattle.fb_coverage.proofs.port_report.put_instances.Given as goal
 
 -- with what the rest adds, all is there
-abbrev pub invariant-loop-instance : goal.invariant-loop-instance
-invariant-loop-instance l =
+abbrev pub invariant-loop-index : goal.invariant-loop-index
+invariant-loop-index l =
     let sys = system_of l.system in
-    l.text.items ++ listed (instance_text sys l.marks) l.instance (drop l.instance sys.paths) ≡ l.fn.text.items ++ listed (instance_text sys l.marks) 0 sys.paths
+    let text = instance_text l.system.library sys l.marks in
+    l.text.items ++ listed text l.index (drop l.index sys.paths) ≡ l.fn.text.items ++ listed text 0 sys.paths

@@ -1,0 +1,7 @@
+use Rattle.std.proofs.Common.{◌≡◌, false, option_map, take}
+use Rattle.std.specs.List.{list_any}
+use Rattle.fb_coverage.specs.Connected.{is_at}
+use Rattle.fb_coverage.proofs.group.is_one_at.Given as goal
+
+abbrev pub invariant-loop-connection : goal.invariant-loop-connection
+invariant-loop-connection l = list_any (is_at (option_map (λ n. n.now) l.component) l.port) (take l.connection-index l.connections) ≡ false

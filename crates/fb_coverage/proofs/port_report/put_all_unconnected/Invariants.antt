@@ -1,0 +1,12 @@
+use Rattle.std.proofs.Common.{◌≡◌, ◌++◌, drop}
+use Rattle.fb_types.specs.Headline.{system_of}
+use Rattle.fb_coverage.specs.Listed.{listed}
+use Rattle.fb_coverage.specs.Reports.{unconnected_ports}
+use Rattle.fb_coverage.proofs.port_report.put_all_unconnected.Given as goal
+
+-- with what the rest adds, all is there
+abbrev pub invariant-loop-index : goal.invariant-loop-index
+invariant-loop-index l =
+    let sys = system_of l.system in
+    let text = unconnected_ports l.system.library sys l.marks in
+    l.text.items ++ listed text l.index (drop l.index sys.paths) ≡ l.fn.text.items ++ listed text 0 sys.paths
