@@ -6,7 +6,8 @@ block does as docs/FORMATS.md says: transitions, algorithms with what they chang
 program is given the trace alone. Both texts are to be the same, and without the lines that begin with two spaces they are the trace.
 Of traces in which one emission was changed or left out, the program is to refuse the first line that shows it. Of traces that stop
 where a resource has used up its steps, with a limit that was passed before, it is to refuse the event that passed it. Of traces that are cut
-off, with `--cut`, the text is to be the same up to the last event, and then the lines that are there."""
+off, with `--cut`, the text is to be the same up to the last event, and then the lines that are there. What is written before a refusal,
+by `wave` too, is to be a beginning of what is written of any trace that begins with the lines before the refused one."""
 
 import glob
 import os
@@ -337,11 +338,54 @@ def faults_of(room, number, case):
     return wrong
 
 
+# ---- What is written before a refusal
+
+# (each tick gives three lines, so line 6,002 is the second one of its tick)
+DOOR = """
+FUNCTION_BLOCK DOOR EVENT_INPUT GO WITH X; END_EVENT EVENT_OUTPUT DONE WITH Y; END_EVENT
+VAR_INPUT X : INT; END_VAR VAR_OUTPUT Y : INT; END_VAR VAR N : INT; END_VAR
+EC_STATES IDLE; RUN : ADD -> DONE, -> DONE; END_STATES
+EC_TRANSITIONS IDLE TO RUN := GO; RUN TO IDLE := 1; END_TRANSITIONS
+ALGORITHM ADD IN ST: Y := X + 1; N := N + 1; END_ALGORITHM END_FUNCTION_BLOCK
+APPLICATION A FBS D : DOOR; END_FBS END_APPLICATION
+"""
+TICKS, LAST, WRONG = 3_000, 3_001, 6_002
+PAGE = 65_536
+
+
+def door_text(tick, notes):
+    """What `inspect` writes of one tick, or its lines alone."""
+    done = f"{tick} MAIN < D.DONE Y=5\n"
+    changed = "Y=5 N=1" if tick == 1 else f"N={tick}"
+    parts = [f"{tick} MAIN > D.GO X=4\n", f"  IDLE -> RUN by GO\n  ADD: {changed}\n" * notes, done * 2, "  RUN -> IDLE by 1\n" * notes]
+    return "".join(parts)
+
+
+def front_faults(room):
+    """Of a trace of 9,001 lines, line 6,002 is wrong. What is written before the refusal is to be a beginning of what is written of two traces that
+    begin with the lines before it and go on each in its own way. It is longer than a page, so that a part was sent before."""
+    lines = "".join(door_text(it, notes=False) for it in range(1, TICKS + 1)).splitlines(keepends=True)
+    spoiled = [*lines[: WRONG - 1], lines[WRONG - 1].replace("2001 ", "2000 "), *lines[WRONG:], f"end {LAST}\n"]
+    rest = [*lines[WRONG - 1 : WRONG + 1], f"{LAST} MAIN > D.GO X=7\n", *[f"{LAST} MAIN < D.DONE Y=8\n"] * 2, f"end {LAST + 1}\n"]
+    others = "".join([*lines, f"end {LAST}\n"]), "".join([*lines[: WRONG - 1], *rest])
+    shown = "".join(door_text(it, notes=True) for it in range(1, TICKS + 1)) + f"end {LAST}\n"
+    for words in (["inspect"], ["wave"], ["wave", "--states"]):
+        call = lambda text: room.call([*words, "door.iec", "-"], text.encode())
+        ran, wholes = call("".join(spoiled)), [call(it) for it in others]
+        if (ran.returncode, ran.stderr) != (2, f"refused trace line {WRONG}\n".encode()) or any(it.returncode for it in wholes):
+            yield f"{words}: status {ran.returncode} {ran.stderr.decode().strip()}, and {[it.returncode for it in wholes]}"
+        elif len(ran.stdout) <= PAGE or not all(it.stdout.startswith(ran.stdout) for it in wholes):
+            yield f"{words}: the {len(ran.stdout)} bytes before the refusal are no beginning of what is written of other traces"
+        elif words == ["inspect"] and wholes[0].stdout != shown.encode():
+            yield "inspect: the text of the whole trace is another one"
+
+
 def make_all(program):
     """Returns whether each text is as it is to be."""
     cases = [*examples(), *systems()]
-    with Room(program) as room:
+    with Room(program, {"door.iec": DOOR.encode()}) as room:
         wrong = [it for found in side_by_side(lambda it: faults_of(room, *it), [*enumerate(cases)]) for it in found]
+        wrong += front_faults(room)
     print("\n".join(wrong[:SHOWN]), end="\n" * bool(wrong))
     print(f"insides: {len(wrong)} faults in {len(cases)} systems", flush=True)
     return not wrong
