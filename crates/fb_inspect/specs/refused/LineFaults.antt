@@ -73,10 +73,10 @@ pub record IsNamed (text name value rest : List ℕ) : Type 0 where
   pub parts : text ≡ 32 ∷ ((name ++ 61 ∷ value) ++ rest)
   pub ended : is_ended rest ≡ true
 
--- At this place among these indexes is that of this variable.
-pub record IsVariableAt (vs : List Variable) (ks : List ℕ) (place k : ℕ) : Type 0 where
-  pub listed : place < length ks
-  pub is : k ≡ slice_index ks place
+-- This variable has this number among these indexes.
+pub record IsVariableAt (vs : List Variable) (ks : List ℕ) (number k : ℕ) : Type 0 where
+  pub listed : number < length ks
+  pub is : k ≡ slice_index ks number
   pub within : k < length vs
 
 -- None of the variables at these indexes has this name.
@@ -87,9 +87,9 @@ abbrev pub IsValueFault : List Variable → List ℕ → (text : List ℕ) → V
 IsValueFault vs ks text (value.Variable n) =
     (count : ℕ) × (here : List ℕ) × (rest : List ℕ) × (v : List ℕ) × HasFirst vs ks text count here × IsNamed here n.now v rest × IsNoVariable vs ks n.now
 IsValueFault vs ks text (value.Missing k) =
-    (place : ℕ) × (here : List ℕ) × IsVariableAt vs ks place k × HasFirst vs ks text place here × IsUnbound (name_at vs k) (type_at vs k) here
+    (number : ℕ) × (here : List ℕ) × IsVariableAt vs ks number k × HasFirst vs ks text number here × IsUnbound (name_at vs k) (type_at vs k) here
 IsValueFault vs ks text (value.Value k v) =
-    (place : ℕ) × (here : List ℕ) × (rest : List ℕ) × IsVariableAt vs ks place k × HasFirst vs ks text place here × IsNamed here (name_at vs k) v.now rest
+    (number : ℕ) × (here : List ℕ) × (rest : List ℕ) × IsVariableAt vs ks number k × HasFirst vs ks text number here × IsNamed here (name_at vs k) v.now rest
     × IsNoValue (type_at vs k) v.now
 IsValueFault vs ks text (value.More rest) = HasFirst vs ks text (length ks) rest.now × (rest.now ≢ 10 ∷ [])
 

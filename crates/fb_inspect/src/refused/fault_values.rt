@@ -27,19 +27,19 @@ fn is_known(variables: &[Variable], indexes: &[u32], name: &[u8]) -> bool
     false
 }
 
-/// What is wrong with a text that does not begin with the value of the variable at this position in a list of indexes.
+/// What is wrong with a text that does not begin with the value of the variable with this number in a list of indexes.
 fn unbound_fault<'a>(
     variables: &[Variable],
     indexes: &[u32],
-    place: usize,
+    number: usize,
     text: &'a [u8],
 ) -> ValueFault<'a>
     requires within { All (λ k. k < length variables.now) indexes.now }
-    requires place { place < length indexes.now }
-    requires unbound { let k = slice_index indexes.now place in IsUnbound (name_at variables.now k) (type_at variables.now k) text.now }
-    ensures { (all : List ℕ) → HasFirst variables.now indexes.now all place text.now → IsValueFault variables.now indexes.now all result }
+    requires number { number < length indexes.now }
+    requires unbound { let k = slice_index indexes.now number in IsUnbound (name_at variables.now k) (type_at variables.now k) text.now }
+    ensures { (all : List ℕ) → HasFirst variables.now indexes.now all number text.now → IsValueFault variables.now indexes.now all result }
 {
-    let index = indexes[place];
+    let index = indexes[number];
     let Some(named) = named_value(text) else {
         return ValueFault::Missing(index);
     };
@@ -66,9 +66,9 @@ fn value_fault<'a>(
     ensures { MatchOption result ((values : List Value) × AreRead variables.now indexes.now text.now values) (IsValueFault variables.now indexes.now text.now) }
 {
     let mut rest = text;
-    for (place, index) in indexes.iter().enumerate() {
+    for (number, index) in indexes.iter().enumerate() {
         let Some(bound) = binding(&variables[*index as usize], rest) else {
-            return Some(unbound_fault(variables, indexes, place, rest));
+            return Some(unbound_fault(variables, indexes, number, rest));
         };
         rest = bound.1;
     }
