@@ -17,9 +17,9 @@ no_marks =
       ports = record { inputs = no_rows; outputs = no_rows };
     }
 
--- a block of the type took an event
+-- a block of the type took an event, and has not lost it
 abbrev pub with_taken : (number event : ℕ) → ChartMarks → ChartMarks
-with_taken i e m = record m { taken = with_flag m.taken i e }
+with_taken i e m = record m { taken = with_flag m.taken i e; lost = false }
 
 -- a transition of the type cleared, and led to a state, when the event had been taken
 abbrev pub with_cleared : (number transition target event : ℕ) → ChartMarks → ChartMarks

@@ -23,7 +23,7 @@ pub struct ChartMarks {
     pub taken: Table,
     /// Event inputs at which an event cleared a transition.
     pub clearing: Table,
-    /// Set where an event cleared no transition.
+    /// Set if the event that a basic block took last cleared no transition.
     pub lost: bool,
 }
 
@@ -95,6 +95,7 @@ impl ChartMarks {
         ensures { self.new ≡ spec.with_taken block_type event self.old }
     {
         self.taken.set(block_type, event as usize);
+        self.lost = false;
     }
 
     /// A transition of a declared type cleared, and led to a state, when an event had been taken.
@@ -106,7 +107,7 @@ impl ChartMarks {
         self.clearing.set(block_type, event as usize);
     }
 
-    /// An event cleared no transition.
+    /// The event that was taken last cleared no transition.
     pub fn mark_lost(&mut self)
         ensures { self.new ≡ spec.with_lost self.old }
     {

@@ -1,14 +1,12 @@
 -- A trace that is gone through: takings one after another, each from what the blocks remember.
-use Rattle.std.specs.Prelude.{◌≡◌, ◌<◌, ◌≤◌, ◌⊎◌, ℕ, ◌+◌, ◌-◌, nat_eq, List, [], ◌∷◌, ◌++◌, map, length, All, Bool, true, false, ◌&&◌, if◌then◌else◌, Option, Some, None, codes}
-use Rattle.std.specs.List.{list_any}
+use Rattle.std.specs.Prelude.{◌≡◌, ◌<◌, ◌≤◌, ◌⊎◌, ℕ, ◌+◌, ◌-◌, List, [], ◌∷◌, ◌++◌, map, length, All, false, if◌then◌else◌, Option, Some, None, codes}
 use Rattle.std.specs.Io.KnownBytes.{Appends}
-use Rattle.fb_types.specs.Names.{Name, Path}
 use Rattle.fb_types.specs.Numbers.{line_of, path_at}
 use Rattle.fb_types.specs.Simulation.{Ending, AtHorizon, AtStop}
 use Rattle.fb_types.specs.States.{Line}
 use Rattle.fb_types.specs.Systems.{System}
 use Rattle.fb_types.specs.Takes.{with_at}
-use Rattle.fb_types.specs.Text.{last_line, lines_text, path_text}
+use Rattle.fb_types.specs.Text.{last_line, lines_text}
 use Rattle.fb_types.specs.declared.run.Form.{Form}
 use Rattle.fb_types.specs.declared.run.Line as run
 use Rattle.fb_types.specs.declared.value.Reason.{Reason}
@@ -19,6 +17,7 @@ use Rattle.fb_wave.specs.Waves.{IsTraceOf}
 use Rattle.fb_wave.specs.declared.truncation.Cut.{Cut}
 use Rattle.fb_wave.specs.declared.truncation.Cut.TheVariants as cut
 pub use Rattle.fb_inspect.specs.walk.Looks.{most}
+use Rattle.fb_inspect.specs.Selections.{Selection, is_shown, is_shown_at}
 use Rattle.fb_inspect.specs.walk.Looks.{IsTaking, Look, Taking, left_at, opening_look, taking_lines, taking_text}
 
 -- nothing is taken after a stop
@@ -40,25 +39,9 @@ all_lines (x ∷ xs) = taking_lines x ++ all_lines xs
 
 -- ---- What is shown
 
--- whether nothing is left of a text, or a full stop and more
-abbrev pub is_cut_there : List ℕ → Bool
-is_cut_there [] = true
-is_cut_there (c ∷ cs) = nat_eq c 46
-
--- whether a text is another one, or that, a full stop and more
-abbrev pub is_within : (whole text : List ℕ) → Bool
-is_within [] text = is_cut_there text
-is_within (b ∷ bs) [] = false
-is_within (b ∷ bs) (c ∷ cs) = nat_eq c b && is_within bs cs
-
--- The instance has one of these paths, or it is a component of one that has; where there is none, each is shown.
-abbrev pub is_kept : (only : List Name) → Path → Bool
-is_kept [] p = true
-is_kept (w ∷ ws) p = list_any (λ v. is_within v (path_text p)) (w ∷ ws)
-
-abbrev pub all_text : Form → System → (only : List Name) → List Taking → List ℕ
-all_text form sys only [] = []
-all_text form sys only (x ∷ xs) = (if is_kept only x.first.at then taking_text form sys x else []) ++ all_text form sys only xs
+abbrev pub all_text : Form → System → (what : Selection) → List Taking → List ℕ
+all_text form sys what [] = []
+all_text form sys what (x ∷ xs) = (if is_shown what x then taking_text form sys x else []) ++ all_text form sys what xs
 
 -- ---- How a trace ends
 
@@ -126,7 +109,7 @@ EndsSo sys steps xs (AtStop t r Divide) = EndsByStop sys xs (AtStop t r Divide)
 EndsSo sys steps xs (AtStop t r Range) = EndsByStop sys xs (AtStop t r Range)
 
 -- A text with what is reported between its lines, of these instances alone where there are some.
-pub record IsInspected (sys : System) (only : List Name) (steps : ℕ) (text bytes : List ℕ) : Type 0 where
+pub record IsInspected (sys : System) (what : Selection) (steps : ℕ) (text bytes : List ℕ) : Type 0 where
   pub form : Form
   pub lines : List run.Line
   pub end : Ending
@@ -134,7 +117,7 @@ pub record IsInspected (sys : System) (only : List Name) (steps : ℕ) (text byt
   pub takings : List Taking
   pub lines_are : map (line_of sys) lines ≡ all_lines takings
   pub ends : EndsSo sys steps takings end
-  pub written : bytes ≡ all_text form sys only takings ++ last_line sys end
+  pub written : bytes ≡ all_text form sys what takings ++ last_line sys end
 
 -- ---- Traces that are cut off
 
@@ -150,16 +133,17 @@ abbrev pub AreOfOne : System → List run.Line → Type 0
 AreOfOne sys [] = Unit {0}
 AreOfOne sys (l ∷ ls) = All (IsOwnLine sys l) ls
 
-abbrev pub one_text : Form → System → (only : List Name) → List run.Line → List ℕ
-one_text form sys only [] = []
-one_text form sys only (l ∷ ls) = if is_kept only (path_at sys l.instance) then lines_text form sys (map (line_of sys) (l ∷ ls)) else []
+-- Nothing is known of what the event gave, so it is not shown among those that cleared no transition.
+abbrev pub one_text : Form → System → (what : Selection) → List run.Line → List ℕ
+one_text form sys what [] = []
+one_text form sys what (l ∷ ls) = if is_shown_at what (path_at sys l.instance) l.key.tick [] then lines_text form sys (map (line_of sys) (l ∷ ls)) else []
 
 abbrev pub cut_note : List ℕ
 cut_note = codes "  cut\n"
 
 -- A text that is cut off, with what is reported between its lines. Nothing is reported of the event after which only lines of its own
 -- block come in its tick, since some of them may be missing.
-pub record IsCutInspected (sys : System) (only : List Name) (text bytes : List ℕ) : Type 0 where
+pub record IsCutInspected (sys : System) (what : Selection) (text bytes : List ℕ) : Type 0 where
   pub form : Form
   pub lines : List run.Line
   pub untaken : List run.Line
@@ -169,26 +153,26 @@ pub record IsCutInspected (sys : System) (only : List Name) (text bytes : List �
   pub lines_are : map (line_of sys) lines ≡ all_lines takings
   pub chain : AreTakings sys most (opening_look sys) takings
   pub goes_on : NoneStops takings
-  pub written : bytes ≡ all_text form sys only takings ++ (one_text form sys only untaken ++ cut_note)
+  pub written : bytes ≡ all_text form sys what takings ++ (one_text form sys what untaken ++ cut_note)
 
 -- ---- Outcomes
 
 -- The text is gone through, and the writer got it with what is reported between its lines.
-pub record IsShown (sys : System) (only : List Name) (steps : ℕ) (text : List ℕ) (old new : Option (List ℕ)) : Type 0 where
+pub record IsShown (sys : System) (what : Selection) (steps : ℕ) (text : List ℕ) (old new : Option (List ℕ)) : Type 0 where
   pub bytes : List ℕ
-  pub inspected : IsInspected sys only steps text bytes
+  pub inspected : IsInspected sys what steps text bytes
   pub got : Appends old new bytes
 
 -- The text is cut off and gone through, and the writer got it with what is reported between its lines.
-pub record IsCutShown (sys : System) (only : List Name) (text : List ℕ) (old new : Option (List ℕ)) : Type 0 where
+pub record IsCutShown (sys : System) (what : Selection) (text : List ℕ) (old new : Option (List ℕ)) : Type 0 where
   pub bytes : List ℕ
-  pub inspected : IsCutInspected sys only text bytes
+  pub inspected : IsCutInspected sys what text bytes
   pub got : Appends old new bytes
 
 -- where a trace may be cut off or not
-abbrev pub IsShownBy : Cut → System → (only : List Name) → (steps : ℕ) → (text : List ℕ) → (old new : Option (List ℕ)) → Type 0
-IsShownBy cut.Refused sys only steps text old new = IsShown sys only steps text old new
-IsShownBy cut.Allowed sys only steps text old new = IsShown sys only steps text old new ⊎ IsCutShown sys only text old new
+abbrev pub IsShownBy : Cut → System → (what : Selection) → (steps : ℕ) → (text : List ℕ) → (old new : Option (List ℕ)) → Type 0
+IsShownBy cut.Refused sys what steps text old new = IsShown sys what steps text old new
+IsShownBy cut.Allowed sys what steps text old new = IsShown sys what steps text old new ⊎ IsCutShown sys what text old new
 
 -- takings that may be those of a trace, as far as they go
 abbrev pub AreTaken : System → (steps : ℕ) → List Taking → Type 0
@@ -196,18 +180,18 @@ AreTaken sys steps xs =
     AreTakings sys most (opening_look sys) xs ⊎ ((tick : ℕ) × (resource : ℕ) × AreLimited sys steps tick resource xs)
 
 -- what is written after the takings: the last line, or that the trace is cut off
-abbrev pub IsEndText : Form → System → (only : List Name) → List ℕ → Type 0
-IsEndText form sys only text =
-    ((end : Ending) × (text ≡ last_line sys end)) ⊎ ((ls : List run.Line) × AreOfOne sys ls × (text ≡ one_text form sys only ls ++ cut_note))
+abbrev pub IsEndText : Form → System → (what : Selection) → List ℕ → Type 0
+IsEndText form sys what text =
+    ((end : Ending) × (text ≡ last_line sys end)) ⊎ ((ls : List run.Line) × AreOfOne sys ls × (text ≡ one_text form sys what ls ++ cut_note))
 
 -- A writer got the first bytes of what is shown of takings that were gone through, and of what is written after them if that was read.
-pub record ShowsFront (sys : System) (only : List Name) (steps : ℕ) (old new : Option (List ℕ)) : Type 0 where
+pub record ShowsFront (sys : System) (what : Selection) (steps : ℕ) (old new : Option (List ℕ)) : Type 0 where
   pub form : Form
   pub takings : List Taking
   pub taken : AreTaken sys steps takings
   pub last : List ℕ
-  pub ends : (last ≡ []) ⊎ IsEndText form sys only last
+  pub ends : (last ≡ []) ⊎ IsEndText form sys what last
   pub got : List ℕ
   pub rest : List ℕ
-  pub parts : all_text form sys only takings ++ last ≡ got ++ rest
+  pub parts : all_text form sys what takings ++ last ≡ got ++ rest
   pub appended : Appends old new got

@@ -2,6 +2,7 @@ pub mod walk
 pub mod dump
 pub mod refused
 pub mod StateWaves
+pub mod Selections
 pub mod Inspections
 pub mod Markings
 pub mod Happenings

@@ -10,6 +10,7 @@ use Rattle.fb_coverage.specs.declared.marks.Marks.{Marks}
 use Rattle.fb_wave.specs.declared.current_line.CurrentLine.{CurrentLine}
 use Rattle.fb_wave.specs.declared.ports.Port.{Port}
 use Rattle.fb_wave.specs.declared.truncation.Cut.{Cut}
+use Rattle.fb_inspect.specs.Selections.{Selection}
 use Rattle.fb_inspect.specs.dump.Dumping as dumping
 use Rattle.fb_inspect.specs.dump.Heads as heads
 use Rattle.fb_inspect.specs.Inspections as inspections
@@ -49,8 +50,8 @@ OpenAll i = walking.OpenAll (system_of i)
 abbrev pub AreKept : Inputs → List Remembered → looks.Look → Type 0
 AreKept i = walking.AreKept (system_of i)
 
-abbrev pub ShowsOf : Inputs → (only : List Name) → (shown : List Bool) → Type 0
-ShowsOf i = walking.ShowsOf (system_of i)
+abbrev pub AreShown : Inputs → (only : List Name) → (flags : List Bool) → Type 0
+AreShown i = walking.AreShown (system_of i)
 
 abbrev pub IsNextKept : Inputs → Walk → Before → Option EventAt → Type 0
 IsNextKept i = waving.IsNextKept (system_of i)
@@ -94,13 +95,13 @@ Applies i = line_faults.Applies (system_of i)
 
 -- ---- Inspections
 
-abbrev pub BeginsWalk : Inputs → (only : List Name) → Marks → Reading → Walk → Type 0
+abbrev pub BeginsWalk : Inputs → (what : Selection) → Marks → Reading → Walk → Type 0
 BeginsWalk i = walking.Begins (system_of i)
 
-abbrev pub IsShownBy : Cut → Inputs → (only : List Name) → (steps : ℕ) → (text : List ℕ) → (old new : Option (List ℕ)) → Type 0
+abbrev pub IsShownBy : Cut → Inputs → (what : Selection) → (steps : ℕ) → (text : List ℕ) → (old new : Option (List ℕ)) → Type 0
 IsShownBy cut i = inspections.IsShownBy cut (system_of i)
 
-abbrev pub ShowsFront : Inputs → (only : List Name) → (steps : ℕ) → (old new : Option (List ℕ)) → Type 0
+abbrev pub ShowsFront : Inputs → (what : Selection) → (steps : ℕ) → (old new : Option (List ℕ)) → Type 0
 ShowsFront i = inspections.ShowsFront (system_of i)
 
 -- ---- Dumps with the insides of blocks

@@ -8,6 +8,7 @@ ghost use Rattle.fb_inspect.specs.Refusals.{OfRefusal};
 ghost use Rattle.fb_inspect.specs.OfSystem.{IsWrongAt};
 
 use crate::error::InspectError;
+use crate::filter::EventFilter;
 use crate::insides::{Inspection, inspect_and_mark};
 use crate::refused::finding::RefusedLine;
 use crate::walk::{Extent, Terms};
@@ -76,6 +77,7 @@ pub fn cover<R: BufRead>(
     let only = none_shown(alloc)?;
     let inspection = Inspection {
         only: only.as_slice(),
+        events: EventFilter::all(),
         terms,
     };
     inspect_and_mark(

@@ -3,24 +3,26 @@
 ghost use Rattle.std.specs.Prelude.{◌≡◌, ◌≤◌, ◌++◌, ◌∷◌, if◌then◌else◌, ℕ, List, Option, Some, IfErr, IfOk, IfSome, IsTrue, OnErr, OnOk, false, true};
 ghost use Rattle.std.specs.Io.KnownBytes.{Consumes};
 ghost use Rattle.std.specs.List.{list_any};
-ghost use Rattle.fb_types.specs.Names.{Name, Path};
+ghost use Rattle.fb_types.specs.Names.{Path};
 ghost use Rattle.fb_types.specs.Text.{path_text};
 ghost use Rattle.fb_wave.specs.Copying.{IsFirstLine};
 ghost use Rattle.fb_wave.specs.CutOff.{is_unended};
 ghost use Rattle.fb_wave.specs.Named.{is_digit};
 ghost use Rattle.fb_wave.specs.Words.{is_word};
 ghost use Rattle.fb_inspect.specs.Covering.{Covers};
-ghost use Rattle.fb_inspect.specs.Inspections as spec;
+ghost use Rattle.fb_inspect.specs.Selections as spec;
+ghost use Rattle.fb_inspect.specs.Selections.{Selection, selection_of};
 ghost use Rattle.fb_wave.specs.OfSystem.{HasNames};
 ghost use Rattle.fb_inspect.specs.walk.Looks.{most};
 ghost use Rattle.fb_inspect.specs.Refusals.{IsNoRefusal, OfRefusal};
 ghost use Rattle.fb_inspect.specs.walk.Walking.{AreUnused};
-ghost use Rattle.fb_inspect.specs.OfSystem.{BeginsWalk, IsNext, IsShownBy, IsWrongAt, ShowsFront, ShowsOf};
+ghost use Rattle.fb_inspect.specs.OfSystem.{BeginsWalk, IsNext, IsShownBy, IsWrongAt, ShowsFront, AreShown};
 ghost use Rattle.fb_inspect.specs.walk.OfWalk as of_walk;
 ghost use Rattle.fb_inspect.specs.walk.OfWalk.{BeginsText, IsCoveredBy, Starts};
 
 use crate::covering::Covered;
 use crate::error::InspectError;
+use crate::filter::{EventFilter, Shown};
 use crate::refused::fault_names::instance_of;
 use crate::refused::finding::{Finding, RefusedLine};
 use crate::walk::ahead::Ahead;
@@ -44,6 +46,8 @@ use std::mem;
 pub struct Inspection<'a> {
     /// The paths of the instances that are shown, each with its components; all are where there is none.
     pub only: &'a [Name],
+    /// Which of their events are shown.
+    pub events: EventFilter,
     /// What the trace may be.
     pub terms: Terms,
 }
@@ -92,7 +96,7 @@ fn is_shown(path: &[u8], only: &[Name]) -> bool
 
 /// For each instance whether it is shown.
 fn shown_of(alloc: Global, system: &System, only: &[Name]) -> Result<Vec<bool>, AllocError>
-    ensures { IfOk result (λ shown. ShowsOf system.now only.now shown.items) }
+    ensures { IfOk result (λ shown. AreShown system.now only.now shown.items) }
 {
     let mut shown = Vec::new(alloc);
     system.facts(); // for the prover: what holds of every accepted system
@@ -149,14 +153,15 @@ pub fn begun(
     alloc: Global,
     system: &System,
     only: &[Name],
+    events: EventFilter,
     marks: Marks,
     reading: Reading,
 ) -> Result<Walk, AllocError>
-    ensures { IfOk result (λ walk. BeginsWalk system.now only.now marks reading walk) }
+    ensures { IfOk result (λ walk. BeginsWalk system.now (record { only = only.now; events = events }) marks reading walk) }
 {
     let blocks = opened_all(alloc, system)?;
     let steps = steps_of(alloc, system.resources())?;
-    let shown = shown_of(alloc, system, only)?;
+    let instances = shown_of(alloc, system, only)?;
     let trail = Trail {
         reading,
         page: Page::new(alloc),
@@ -172,7 +177,7 @@ pub fn begun(
         blocks,
         steps,
         trail,
-        shown,
+        shown: Shown { instances, events },
     })
 }
 
@@ -206,19 +211,19 @@ fn go_through<R: BufRead, W: Write>(
     input: &mut R,
     out: &mut W,
 ) -> Result<Extent, InspectError>
-    requires starts { (only : List Name) × Starts fixed.now only walk.old }
+    requires starts { (what : Selection) × Starts fixed.now what walk.old }
     requires limit { fixed.now.limit ≡ most }
-    ensures whole { (only : List Name) (known : Option (List ℕ))
-        → Starts fixed.now only walk.old → Consumes known (R.remaining input.old) walk.old.trail.reading.line.items → IsFirstLine walk.old.trail.reading.line.items known
-        → OnOk result (IfSome known (λ text. of_walk.IsShownBy terms.cut fixed.now only terms.steps text (W.contents out.old) (W.contents out.new))) }
-    ensures covered { (only : List Name) (known : Option (List ℕ))
-        → Starts fixed.now only walk.old → Consumes known (R.remaining input.old) walk.old.trail.reading.line.items → IsFirstLine walk.old.trail.reading.line.items known
-        → IfOk result (λ extent. IfSome known (λ text. IsCoveredBy terms.cut fixed.now only terms.steps text walk.old.trail.marks walk.new.trail.marks extent)) }
-    ensures fault { (only : List Name) (known : Option (List ℕ))
-        → Starts fixed.now only walk.old → Consumes known (R.remaining input.old) walk.old.trail.reading.line.items → IsFirstLine walk.old.trail.reading.line.items known
-        → OnErr result (of_walk.ShowsFront fixed.now only terms.steps (W.contents out.old) (W.contents out.new)) }
-    ensures refused { (only : List Name) (rest text : List ℕ)
-        → terms.steps ≤ most → of_walk.HasNames fixed.now → Starts fixed.now only walk.old → R.remaining input.old ≡ Some rest → BeginsText fixed.now walk.old.trail.reading.line.items false rest text
+    ensures whole { (what : Selection) (known : Option (List ℕ))
+        → Starts fixed.now what walk.old → Consumes known (R.remaining input.old) walk.old.trail.reading.line.items → IsFirstLine walk.old.trail.reading.line.items known
+        → OnOk result (IfSome known (λ text. of_walk.IsShownBy terms.cut fixed.now what terms.steps text (W.contents out.old) (W.contents out.new))) }
+    ensures covered { (what : Selection) (known : Option (List ℕ))
+        → Starts fixed.now what walk.old → Consumes known (R.remaining input.old) walk.old.trail.reading.line.items → IsFirstLine walk.old.trail.reading.line.items known
+        → IfOk result (λ extent. IfSome known (λ text. IsCoveredBy terms.cut fixed.now what terms.steps text walk.old.trail.marks walk.new.trail.marks extent)) }
+    ensures fault { (what : Selection) (known : Option (List ℕ))
+        → Starts fixed.now what walk.old → Consumes known (R.remaining input.old) walk.old.trail.reading.line.items → IsFirstLine walk.old.trail.reading.line.items known
+        → OnErr result (of_walk.ShowsFront fixed.now what terms.steps (W.contents out.old) (W.contents out.new)) }
+    ensures refused { (what : Selection) (rest text : List ℕ)
+        → terms.steps ≤ most → of_walk.HasNames fixed.now → Starts fixed.now what walk.old → R.remaining input.old ≡ Some rest → BeginsText fixed.now walk.old.trail.reading.line.items false rest text
         → IfErr result (OfRefusal (λ n. of_walk.IsWrongAt fixed.now terms.steps n text)) }
 {
     if is_severed(terms.cut, walk.trail.reading.line.as_slice()) {
@@ -241,15 +246,22 @@ fn inspect_with<R: BufRead, W: Write>(
     input: &mut R,
     out: &mut W,
 ) -> Result<Covered, InspectError>
-    ensures whole { OnOk result (IfSome (R.remaining input.old) (λ text. IsShownBy inspection.entry.terms.cut table.now.system.now inspection.entry.only.now inspection.entry.terms.steps text (W.contents out.old) (W.contents out.new))) }
+    ensures whole { OnOk result (IfSome (R.remaining input.old) (λ text. IsShownBy inspection.entry.terms.cut table.now.system.now (selection_of inspection.entry) inspection.entry.terms.steps text (W.contents out.old) (W.contents out.new))) }
     ensures covered { IfOk result (λ covered. IfSome (R.remaining input.old) (λ text. Covers inspection.entry.terms.cut table.now.system.now inspection.entry.terms.steps text marks covered.marks covered.extent)) }
-    ensures fault { OnErr result (ShowsFront table.now.system.now inspection.entry.only.now inspection.entry.terms.steps (W.contents out.old) (W.contents out.new)) }
+    ensures fault { OnErr result (ShowsFront table.now.system.now (selection_of inspection.entry) inspection.entry.terms.steps (W.contents out.old) (W.contents out.new)) }
     ensures refused { HasNames table.now.system.now → inspection.entry.terms.steps ≤ most
         → IfErr result (OfRefusal (λ n. IfSome (R.remaining input.old) (IsWrongAt table.now.system.now inspection.entry.terms.steps n))) }
 {
     table.system.facts(); // for the prover: what holds of every accepted system
     let (form, reading) = first_reading(alloc, table, input)?;
-    let mut walk = begun(alloc, table.system, inspection.only, marks, reading)?;
+    let mut walk = begun(
+        alloc,
+        table.system,
+        inspection.only,
+        inspection.events,
+        marks,
+        reading,
+    )?;
     let fixed = Fixed {
         alloc,
         table,
@@ -275,9 +287,9 @@ pub(crate) fn inspect_and_mark<R: BufRead, W: Write>(
     input: &mut R,
     out: &mut W,
 ) -> Result<Covered, InspectError>
-    ensures whole { OnOk result (IfSome (R.remaining input.old) (λ text. IsShownBy inspection.entry.terms.cut system.now inspection.entry.only.now inspection.entry.terms.steps text (W.contents out.old) (W.contents out.new))) }
+    ensures whole { OnOk result (IfSome (R.remaining input.old) (λ text. IsShownBy inspection.entry.terms.cut system.now (selection_of inspection.entry) inspection.entry.terms.steps text (W.contents out.old) (W.contents out.new))) }
     ensures covered { IfOk result (λ covered. IfSome (R.remaining input.old) (λ text. Covers inspection.entry.terms.cut system.now inspection.entry.terms.steps text marks covered.marks covered.extent)) }
-    ensures fault { OnErr result (ShowsFront system.now inspection.entry.only.now inspection.entry.terms.steps (W.contents out.old) (W.contents out.new)) }
+    ensures fault { OnErr result (ShowsFront system.now (selection_of inspection.entry) inspection.entry.terms.steps (W.contents out.old) (W.contents out.new)) }
     ensures refused { HasNames system.now → inspection.entry.terms.steps ≤ most
         → IfErr result (OfRefusal (λ n. IfSome (R.remaining input.old) (IsWrongAt system.now inspection.entry.terms.steps n))) }
 {
@@ -311,8 +323,8 @@ pub fn inspect<R: BufRead, W: Write>(
     input: &mut R,
     out: &mut W,
 ) -> Result<(), InspectError>
-    ensures whole { OnOk result (IfSome (R.remaining input.old) (λ text. IsShownBy inspection.entry.terms.cut system.now inspection.entry.only.now inspection.entry.terms.steps text (W.contents out.old) (W.contents out.new))) }
-    ensures fault { OnErr result (ShowsFront system.now inspection.entry.only.now inspection.entry.terms.steps (W.contents out.old) (W.contents out.new)) }
+    ensures whole { OnOk result (IfSome (R.remaining input.old) (λ text. IsShownBy inspection.entry.terms.cut system.now (selection_of inspection.entry) inspection.entry.terms.steps text (W.contents out.old) (W.contents out.new))) }
+    ensures fault { OnErr result (ShowsFront system.now (selection_of inspection.entry) inspection.entry.terms.steps (W.contents out.old) (W.contents out.new)) }
     ensures refused { HasNames system.now → inspection.entry.terms.steps ≤ most
         → IfErr result (OfRefusal (λ n. IfSome (R.remaining input.old) (IsWrongAt system.now inspection.entry.terms.steps n))) }
 {

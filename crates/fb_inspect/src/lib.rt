@@ -19,7 +19,7 @@
 //!
 //! Read in this order:
 //!
-//! - `insides`, the first entry, with `error`.
+//! - `insides`, the first entry, with `filter` and `error`.
 //! - `walk`, which goes through a trace, event by event.
 //! - `covering`, the second entry; `laws`, what is true of every run, and what the marks of several traces say.
 //! - `dump`, the dumps with the inside of blocks.
@@ -29,6 +29,7 @@
 pub mod covering;
 pub mod dump;
 pub mod error;
+pub mod filter;
 pub mod insides;
 pub mod laws;
 pub mod refused;
@@ -37,6 +38,7 @@ pub mod walk;
 pub use covering::{Covered, cover};
 pub use dump::states::write_states;
 pub use error::InspectError;
+pub use filter::EventFilter;
 pub use insides::{Inspection, inspect};
 pub use refused::finding::{Finding, RefusedLine};
 pub use refused::line_fault::{LineFault, PortFault, ValueFault};

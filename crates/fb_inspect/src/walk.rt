@@ -4,11 +4,10 @@
 //! `blocks`, what blocks remember; `steps`, the steps of a tick. Then the reactions: `charts` and `event_blocks`, with
 //! `notes`, what is written of them. Last, what is here.
 
-ghost use Rattle.std.specs.Prelude.{◌≡◌, ◌<◌, ◌≤◌, ◌⊎◌, ◌↔◌, ℕ, ◌+◌, List, [], IfErr, IfOk, IfSome, IsTrue, OnErr, OnOk, All, Option, Some, None, length, slice_get, true, false};
+ghost use Rattle.std.specs.Prelude.{◌≡◌, ◌<◌, ◌≤◌, ◌⊎◌, ◌↔◌, ℕ, ◌+◌, List, [], IfErr, IfOk, IfSome, IsTrue, OnErr, OnOk, All, Option, Some, None, if◌then◌else◌, length, slice_get, take, true, false};
 ghost use Rattle.std.specs.Bool.{OnFalse, OnTrue};
 ghost use Rattle.std.specs.Io.KnownBytes.{Consumes};
 ghost use Rattle.fb_types.specs.Blocks.{Basic};
-ghost use Rattle.fb_types.specs.Names.{Name};
 ghost use Rattle.fb_types.specs.Systems.{System};
 ghost use Rattle.fb_types.specs.declared.run.Line as run;
 ghost use Rattle.fb_coverage.specs.declared.marks.Marks.{Marks};
@@ -19,6 +18,7 @@ ghost use Rattle.fb_inspect.specs.walk.Counted.{left_of};
 ghost use Rattle.fb_inspect.specs.Inspections.{KeepSteps};
 ghost use Rattle.fb_inspect.specs.walk.Lines.{IsAlone, IsPlain};
 ghost use Rattle.fb_inspect.specs.walk.Looks.{Look, Taking, left_at, most};
+ghost use Rattle.fb_inspect.specs.Selections.{Selection, is_wanted};
 ghost use Rattle.fb_inspect.specs.walk.Walking as spec;
 ghost use Rattle.fb_inspect.specs.Refusals.{IsNoRefusal, OfRefusal};
 ghost use Rattle.fb_inspect.specs.declared.error.InspectError.TheVariants.{Refused};
@@ -37,6 +37,7 @@ pub mod steps;
 pub mod trail;
 
 use crate::error::InspectError;
+use crate::filter::Shown;
 use crate::refused::finding::Finding;
 use crate::walk::ahead::Ahead;
 use crate::walk::blocks::{Chart, Remembered, basic_type, chart_at, type_number};
@@ -60,8 +61,8 @@ pub struct Walk {
     /// For each resource the steps that it has left.
     pub steps: Vec<TickSteps>,
     pub trail: Trail,
-    /// For each instance whether it is shown.
-    pub shown: Vec<bool>,
+    /// Which events are shown.
+    pub shown: Shown,
 }
 
 impl Drop for Walk {
@@ -156,16 +157,6 @@ fn use_step(steps: &mut Vec<TickSteps>, limit: u64, key: &Key) -> bool
     steps[key.resource as usize].step(limit, key.tick)
 }
 
-/// Whether an instance is shown.
-fn flag_at(flags: &[bool], instance: u32) -> bool
-    ensures { result ≡ spec.flag_at flags.now instance }
-{
-    match flags.get(instance as usize) {
-        Some(flag) => *flag,
-        None => false,
-    }
-}
-
 /// How a walk goes on.
 #[derive(Clone, Copy)]
 pub enum Step {
@@ -253,7 +244,8 @@ impl Walk {
         ensures next { OnOk result (IsNext fixed.now line.now.key.tick self.new.trail.reading) }
     {
         fixed.table.system.facts(); // for the prover: what holds of every accepted system
-        self.trail.is_shown = flag_at(self.shown.as_slice(), line.instance);
+        self.trail.is_shown = self.shown.may_show(line);
+        let before = self.trail.page.text.len();
         if line.key.tick > LATEST_TICK {
             return Err(self.trail.refusal(Finding::Late));
         }
@@ -265,7 +257,30 @@ impl Walk {
         let trail = &mut self.trail;
         let stop = react_kept(fixed, trail, block, &mut steps.meter, line, input);
         steps.settle();
+        self.leave_out(line.instance, before);
         stop
+    }
+
+    /// Whether the event that an instance took last was lost.
+    fn has_lost(&self, instance: u32) -> bool
+        ensures { result ≡ spec.has_lost self.now instance }
+    {
+        if !self.trail.marks.charts.lost {
+            return false;
+        }
+        chart_at(self.blocks.as_slice(), instance).is_some()
+    }
+
+    /// Leaves out what was added of the event of an instance to a text of this length, unless the event is wanted.
+    fn leave_out(&mut self, instance: u32, before: usize)
+        ensures others { self.new ≡ record self.old { trail = record self.old.trail { page = self.new.trail.page } } }
+        ensures text { self.new.trail.page.text.items
+            ≡ (if is_wanted self.old.shown.events (spec.has_lost self.old instance) then self.old.trail.page.text.items else take before self.old.trail.page.text.items) }
+    {
+        if !self.shown.events.are_lost || self.has_lost(instance) {
+            return;
+        }
+        self.trail.page.text.truncate(before);
     }
 
     /// Whether a trace may end so where no reaction was stopped: at a horizon, or where a resource has used up these
@@ -502,9 +517,9 @@ impl Walk {
         requires is { IsTextOf fixed.now line.now self.old.trail.reading.line.items }
         requires look { HasLook fixed.now self.old }
         requires limit { fixed.now.limit ≡ most }
-        ensures goes { (first : Marks) (only : List Name) (known old new : Option (List ℕ))
-            → (covered : HasCovered fixed.now first only terms.steps self.old known (unread ahead.old (R.remaining input.old)) old new) → last_tick 0 covered.gone.gone.lines ≤ line.now.key.tick
-            → IfOk result (HasAdvanced fixed.now first only terms.steps self.new known (unread ahead.new (R.remaining input.new)) old new) }
+        ensures goes { (first : Marks) (what : Selection) (known old new : Option (List ℕ))
+            → (covered : HasCovered fixed.now first what terms.steps self.old known (unread ahead.old (R.remaining input.old)) old new) → last_tick 0 covered.gone.gone.lines ≤ line.now.key.tick
+            → IfOk result (HasAdvanced fixed.now first what terms.steps self.new known (unread ahead.new (R.remaining input.new)) old new) }
         ensures takes { (look : Look)
             → LooksAs fixed.now self.old look
             → IfOk result (LineGoes fixed.now terms.steps look line.now self.old self.new ahead.new (unread ahead.old (R.remaining input.old)) (unread ahead.new (R.remaining input.new))) }
@@ -517,7 +532,7 @@ impl Walk {
         let is_cut = ahead.look(fixed, terms.cut, line, input)?;
         if is_cut {
             // The event is not taken, since the trace is cut off in its lines.
-            let is_shown = flag_at(self.shown.as_slice(), line.instance);
+            let is_shown = self.shown.shows_untaken(line);
             let whole = self.trail.reading.line.as_slice();
             let text = &mut self.trail.page.text;
             put_line(text, whole, is_shown).and(put_line(text, ahead.text.as_slice(), is_shown))?;
@@ -543,9 +558,9 @@ impl Walk {
         requires look { HasLook fixed.now self.old }
         requires next { (tick : ℕ) × IsNextLine fixed.now tick self.old.trail.reading }
         requires limit { fixed.now.limit ≡ most }
-        ensures goes { (first : Marks) (only : List Name) (known old new : Option (List ℕ))
-            → HasCovered fixed.now first only terms.steps self.old known (unread ahead.old (R.remaining input.old)) old new
-            → IfOk result (HasAdvanced fixed.now first only terms.steps self.new known (unread ahead.new (R.remaining input.new)) old new) }
+        ensures goes { (first : Marks) (what : Selection) (known old new : Option (List ℕ))
+            → HasCovered fixed.now first what terms.steps self.old known (unread ahead.old (R.remaining input.old)) old new
+            → IfOk result (HasAdvanced fixed.now first what terms.steps self.new known (unread ahead.new (R.remaining input.new)) old new) }
         ensures takes { (look : Look)
             → LooksAs fixed.now self.old look
             → IfOk result (StepGoes fixed.now terms.steps look self.old self.new ahead.new (unread ahead.old (R.remaining input.old)) (unread ahead.new (R.remaining input.new))) }
@@ -610,19 +625,19 @@ impl Walk {
         input: &mut R,
         out: &mut W,
     ) -> Result<Extent, InspectError>
-        requires starts { (only : List Name) × Starts fixed.now only self.old }
+        requires starts { (what : Selection) × Starts fixed.now what self.old }
         requires limit { fixed.now.limit ≡ most }
         requires empty { ahead.old.text.items ≡ [] }
-        ensures whole { (only : List Name) (known : Option (List ℕ))
-            → Starts fixed.now only self.old → Consumes known (R.remaining input.old) self.old.trail.reading.line.items
-            → OnOk result (IfSome known (λ text. IsShownBy terms.cut fixed.now only terms.steps text (W.contents out.old) (W.contents out.new))) }
-        ensures covered { (only : List Name) (known : Option (List ℕ))
-            → Starts fixed.now only self.old → Consumes known (R.remaining input.old) self.old.trail.reading.line.items
-            → IfOk result (λ extent. IfSome known (λ text. IsCoveredBy terms.cut fixed.now only terms.steps text self.old.trail.marks self.new.trail.marks extent)) }
-        ensures fault { (only : List Name)
-            → Starts fixed.now only self.old → OnErr result (ShowsFront fixed.now only terms.steps (W.contents out.old) (W.contents out.new)) }
-        ensures refused { (only : List Name) (rest text : List ℕ)
-            → terms.steps ≤ most → HasNames fixed.now → Starts fixed.now only self.old → R.remaining input.old ≡ Some rest → BeginsText fixed.now self.old.trail.reading.line.items ahead.old.watched.is_excess rest text
+        ensures whole { (what : Selection) (known : Option (List ℕ))
+            → Starts fixed.now what self.old → Consumes known (R.remaining input.old) self.old.trail.reading.line.items
+            → OnOk result (IfSome known (λ text. IsShownBy terms.cut fixed.now what terms.steps text (W.contents out.old) (W.contents out.new))) }
+        ensures covered { (what : Selection) (known : Option (List ℕ))
+            → Starts fixed.now what self.old → Consumes known (R.remaining input.old) self.old.trail.reading.line.items
+            → IfOk result (λ extent. IfSome known (λ text. IsCoveredBy terms.cut fixed.now what terms.steps text self.old.trail.marks self.new.trail.marks extent)) }
+        ensures fault { (what : Selection)
+            → Starts fixed.now what self.old → OnErr result (ShowsFront fixed.now what terms.steps (W.contents out.old) (W.contents out.new)) }
+        ensures refused { (what : Selection) (rest text : List ℕ)
+            → terms.steps ≤ most → HasNames fixed.now → Starts fixed.now what self.old → R.remaining input.old ≡ Some rest → BeginsText fixed.now self.old.trail.reading.line.items ahead.old.watched.is_excess rest text
             → IfErr result (OfRefusal (λ n. IsWrongAt fixed.now terms.steps n text)) }
     {
         for _ in 0..u64::MAX {

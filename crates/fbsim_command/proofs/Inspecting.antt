@@ -18,7 +18,7 @@ use Rattle.fb_sim.specs.declared.outcome.RunError.TheVariants as run
 use Rattle.clap.specs.Words.{Text}
 use Rattle.fbsim_command.specs.Failures.{failure_of, failure_of_inspection, failure_of_source, numbered_input}
 use Rattle.fbsim_command.specs.InsideNotes.{IsOpenNote, NotesInside, SaysLine}
-use Rattle.fbsim_command.specs.Inspecting.{Inspects, ShowsInsides, files_of, paths_of}
+use Rattle.fbsim_command.specs.Inspecting.{Inspects, ShowsInsides, files_of, selection_of}
 use Rattle.fbsim_command.specs.Notes.{IsFileNote, Notes, NotesOf}
 use Rattle.fbsim_command.specs.Outcomes.{End, Held}
 use Rattle.fbsim_command.specs.OwnLines.{EndsIn}
@@ -63,7 +63,7 @@ inspects_none given x trace old run.Failed is = absurd is
 
 -- a beginning is written where the trace is refused, or where reading it, writing or memory fails
 pub inspects_front :
-    (given : Given) (x : Inspect) (trace old new : Held) (i : Inputs) → Declares given i → (e : InspectError) → ShowsFront (system_of i) (paths_of x) x.steps old new
+    (given : Given) (x : Inspect) (trace old new : Held) (i : Inputs) → Declares given i → (e : InspectError) → ShowsFront (system_of i) (selection_of x) x.steps old new
     → Inspects given x trace old new (Err (failure_of_inspection e))
 inspects_front given x trace old new i is (inspection.Refused line) front = inr (i, is, front)
 inspects_front given x trace old new i is inspection.Names front = inr (i, is, front)

@@ -4,6 +4,7 @@ use Rattle.std.specs.Char.{to_ascii_uppercase}
 use Rattle.clap.specs.Words.{Text}
 use Rattle.fb_types.specs.Headline.{Inputs, system_of}
 use Rattle.fb_inspect.specs.Inspections.{IsShownBy, ShowsFront}
+use Rattle.fb_inspect.specs.Selections.{Selection, all_events}
 use Rattle.fb_wave.specs.declared.truncation.Cut.{Cut}
 use Rattle.fb_sim.specs.Given.{Given}
 use Rattle.fb_sim.specs.Serial.{Declares}
@@ -37,15 +38,19 @@ upper text = map to_ascii_uppercase text
 abbrev pub paths_of : Inspect → List Text
 paths_of x = map (λ t. upper t.now) x.only.items
 
+-- what is shown of the trace: all events of these instances
+abbrev pub selection_of : Inspect → Selection
+selection_of x = record { only = paths_of x; events = all_events }
+
 -- ---- What is written
 
 -- The inputs are accepted, and the writer got the first bytes of what is shown of takings of their system.
 abbrev pub InspectsFront : Given → Inspect → (old new : Held) → Type 0
-InspectsFront given x old new = (i : Inputs) × Declares given i × ShowsFront (system_of i) (paths_of x) x.steps old new
+InspectsFront given x old new = (i : Inputs) × Declares given i × ShowsFront (system_of i) (selection_of x) x.steps old new
 
 -- a trace of what the inputs declare is read, of which these bytes are known, and it is written with what happens inside the blocks
 abbrev pub Inspects : Given → Inspect → (trace : Held) → (old new : Held) → End → Type 0
-Inspects given x trace old new (Ok Shown) = (i : Inputs) × Declares given i × IfSome trace (λ text. IsShownBy (cut_of x) (system_of i) (paths_of x) x.steps text old new)
+Inspects given x trace old new (Ok Shown) = (i : Inputs) × Declares given i × IfSome trace (λ text. IsShownBy (cut_of x) (system_of i) (selection_of x) x.steps text old new)
 Inspects given x trace old new (Ok Helped) = ⊥
 Inspects given x trace old new (Ok Explained) = ⊥
 Inspects given x trace old new (Ok Accepted) = ⊥

@@ -3,7 +3,7 @@
 ghost use Rattle.std.specs.Prelude.{◌≡◌, IfOk, IfSome, OnErr, OnOk, map, option_map, string_bytes};
 ghost use Rattle.fb_inspect.specs.OfSystem.{IsShownBy, ShowsFront};
 ghost use Rattle.fbsim_command.specs.InsideNotes.{NotesInside};
-ghost use Rattle.fbsim_command.specs.Inspecting.{Inspects, ShowsInsides, cut_of, paths_of, upper};
+ghost use Rattle.fbsim_command.specs.Inspecting.{Inspects, ShowsInsides, cut_of, selection_of, upper};
 
 use crate::failure::Failure;
 use crate::inside_notes::{note_of_gone, note_of_open};
@@ -13,7 +13,7 @@ use crate::own_lines::end_with;
 use crate::sources::{Source, Streams};
 use crate::statuses::Done;
 use crate::texts::{cut_of, files_of, read_files};
-use fb_inspect::{InspectError, Inspection, RefusedLine, Terms};
+use fb_inspect::{EventFilter, InspectError, Inspection, RefusedLine, Terms};
 use fb_sim::{Inputs, discard, open};
 use fb_system::System;
 use fb_types::Name;
@@ -52,12 +52,13 @@ fn go<R: BufRead, W: Write>(
     trace: &mut R,
     out: &mut W,
 ) -> Result<(), InspectError>
-    ensures whole { OnOk result (IfSome (R.remaining trace.old) (λ text. IsShownBy (cut_of inspect.now) system.now (paths_of inspect.now) inspect.now.steps text (W.contents out.old) (W.contents out.new))) }
-    ensures fault { OnErr result (ShowsFront system.now (paths_of inspect.now) inspect.now.steps (W.contents out.old) (W.contents out.new)) }
+    ensures whole { OnOk result (IfSome (R.remaining trace.old) (λ text. IsShownBy (cut_of inspect.now) system.now (selection_of inspect.now) inspect.now.steps text (W.contents out.old) (W.contents out.new))) }
+    ensures fault { OnErr result (ShowsFront system.now (selection_of inspect.now) inspect.now.steps (W.contents out.old) (W.contents out.new)) }
 {
     let only = paths_of(alloc, inspect.only.as_slice())?;
     let inspection = Inspection {
         only: only.as_slice(),
+        events: EventFilter::all(),
         terms: Terms {
             cut: cut_of(inspect.is_cut),
             steps: inspect.steps,

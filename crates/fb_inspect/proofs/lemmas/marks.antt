@@ -1,2 +1,3 @@
 pub mod Marked
 pub mod Happened
+pub mod Losses

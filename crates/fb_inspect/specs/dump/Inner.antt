@@ -13,7 +13,7 @@ use Rattle.fb_types.specs.declared.value.Value.TheVariants as value
 use Rattle.fb_coverage.specs.Listed.{listed}
 use Rattle.fb_wave.specs.Changes.{in_bits, line, number_changed}
 use Rattle.fb_wave.specs.Scopes.{declares, variable_kind}
-use Rattle.fb_inspect.specs.walk.Chains.{Piece, Clears_by, Is_lost, Ran, Stops_by, Has, Emits}
+use Rattle.fb_inspect.specs.walk.Chains.{is_loss}
 use Rattle.fb_inspect.specs.walk.Looks.{Look, Seen, Taking, opening_look}
 
 -- How the signals of a basic instance are called in the dump, by its number: that of its state, those of its internal variables, by
@@ -93,14 +93,6 @@ abbrev pub inner_begun : System → Path → List ℕ
 inner_begun sys p = of_chart (chart_begun (sys.number p) ((opening_look sys).blocks p)) (sys.kind p)
 
 -- ---- Takings
-
-abbrev pub is_loss : Piece → Bool
-is_loss (Clears_by t) = false
-is_loss (Is_lost s) = true
-is_loss (Ran a before after) = false
-is_loss (Stops_by r) = false
-is_loss (Has m due) = false
-is_loss (Emits e) = false
 
 -- What a taking changes inside its block, from what was there before it to what is there after it.
 abbrev pub taking_changes : System → Look → Taking → List ℕ

@@ -28,12 +28,12 @@ use Rattle.fb_inspect.specs.declared.walk.Step.{Step}
 use Rattle.fb_inspect.specs.declared.walk.Step.TheVariants as step
 use Rattle.fb_inspect.specs.declared.walk.Walk.{Walk}
 use Rattle.fb_inspect.specs.dump.Dumping.{IsPortDump, Shows, ShowsUntaken}
-use Rattle.fb_inspect.specs.dump.Inner.{is_loss}
 use Rattle.fb_inspect.specs.dump.Saved.{IsBefore}
 use Rattle.fb_inspect.specs.dump.StateDumps.{HaveLines, Taken, cut_dump, lines_of, state_dump, takings_of, tick_of}
 use Rattle.fb_inspect.specs.declared.dump.before.Before.{Before}
 use Rattle.fb_inspect.specs.declared.dump.state_wave.EventAt.{EventAt}
 use Rattle.fb_inspect.specs.declared.dump.state_wave.StateWave.{StateWave}
+use Rattle.fb_inspect.specs.walk.Chains.{is_loss}
 
 -- ---- One taking
 

@@ -1,5 +1,5 @@
 -- What is shown of the reaction of a basic block, step by step next to the reaction as the definitions have it (`Charts`: `ChartReacts`).
-use Rattle.std.specs.Prelude.{◌≡◌, ℕ, zero, suc, List, [], ◌∷◌, ◌++◌, Option, Some, None}
+use Rattle.std.specs.Prelude.{◌≡◌, ℕ, zero, suc, List, [], ◌∷◌, ◌++◌, Bool, true, false, Option, Some, None}
 use Rattle.fb_types.specs.Names.{Name}
 use Rattle.fb_types.specs.Bodies.{Point, End, Went, Left, Returned, Stopped, RunsBody}
 use Rattle.fb_types.specs.Blocks.{bound, outputs_with, types_of, Emission}
@@ -26,6 +26,15 @@ pub data Piece : Type 0 where
   -- an event block remembers this now, and its timer goes off then
   Has : blocks.Memory → (due : Option ℕ) → Piece
   Emits : Emission → Piece
+
+-- the event was lost
+abbrev pub is_loss : Piece → Bool
+is_loss (Clears_by t) = false
+is_loss (Is_lost s) = true
+is_loss (Ran a before after) = false
+is_loss (Stops_by r) = false
+is_loss (Has m due) = false
+is_loss (Emits e) = false
 
 -- A chart moves from one position to another, as `Moving`, and these pieces show it.
 abbrev pub Showing : Type 1

@@ -4,7 +4,6 @@ use Rattle.std.specs.Prelude.{ℕ, List, [], ◌∷◌, Bool, Option, Result}
 use Rattle.fb_types.specs.EventBlocks as event_blocks
 use Rattle.fb_types.specs.Blocks.{Emission}
 use Rattle.fb_types.specs.Headline.{system_of}
-use Rattle.fb_types.specs.Names.{Name}
 use Rattle.fb_types.specs.Numbers as numbers
 use Rattle.fb_types.specs.Systems.{System}
 use Rattle.fb_types.specs.Text.{line_text}
@@ -18,6 +17,7 @@ use Rattle.fb_coverage.specs.declared.marks.Marks.{Marks}
 use Rattle.fb_wave.specs.Lines as traces
 use Rattle.fb_wave.specs.Named as named
 use Rattle.fb_wave.specs.declared.truncation.Cut.{Cut}
+use Rattle.fb_inspect.specs.Selections.{Selection}
 use Rattle.fb_inspect.specs.Covering as covering
 use Rattle.fb_inspect.specs.Inspections as inspections
 use Rattle.fb_inspect.specs.walk.Lines as lines
@@ -170,10 +170,10 @@ LineGoes f = stepping.LineGoes (types_of f) (sys_of f) f.form
 abbrev pub StepGoes : Fixed → (steps : ℕ) → Look → (old new : Walk) → Ahead → (remaining rest : Option (List ℕ)) → Step → Type 0
 StepGoes f = stepping.StepGoes (types_of f) (sys_of f) f.form
 
-abbrev pub HasCovered : Fixed → (first : Marks) → (only : List Name) → (steps : ℕ) → Walk → (input remaining old new : Option (List ℕ)) → Type 0
+abbrev pub HasCovered : Fixed → (first : Marks) → (what : Selection) → (steps : ℕ) → Walk → (input remaining old new : Option (List ℕ)) → Type 0
 HasCovered f first = walking.HasCovered (types_of f) first (sys_of f) f.form
 
-abbrev pub HasAdvanced : Fixed → (first : Marks) → (only : List Name) → (steps : ℕ) → Walk → (input remaining old new : Option (List ℕ)) → Step → Type 0
+abbrev pub HasAdvanced : Fixed → (first : Marks) → (what : Selection) → (steps : ℕ) → Walk → (input remaining old new : Option (List ℕ)) → Step → Type 0
 HasAdvanced f first = walking.HasAdvanced (types_of f) first (sys_of f) f.form
 
 -- ---- Where a walk stands
@@ -198,16 +198,16 @@ IsWrongAt f = refusals.IsWrongAt (sys_of f)
 
 -- ---- Whole traces
 
-abbrev pub Starts : Fixed → (only : List Name) → Walk → Type 0
+abbrev pub Starts : Fixed → (what : Selection) → Walk → Type 0
 Starts f = walking.Starts (sys_of f) f.form
 
-abbrev pub IsShownBy : Cut → Fixed → (only : List Name) → (steps : ℕ) → (text : List ℕ) → (old new : Option (List ℕ)) → Type 0
+abbrev pub IsShownBy : Cut → Fixed → (what : Selection) → (steps : ℕ) → (text : List ℕ) → (old new : Option (List ℕ)) → Type 0
 IsShownBy cut f = inspections.IsShownBy cut (sys_of f)
 
-abbrev pub ShowsFront : Fixed → (only : List Name) → (steps : ℕ) → (old new : Option (List ℕ)) → Type 0
+abbrev pub ShowsFront : Fixed → (what : Selection) → (steps : ℕ) → (old new : Option (List ℕ)) → Type 0
 ShowsFront f = inspections.ShowsFront (sys_of f)
 
-abbrev pub IsCoveredBy : Cut → Fixed → (only : List Name) → (steps : ℕ) → (text : List ℕ) → (old new : Marks) → Extent → Type 0
+abbrev pub IsCoveredBy : Cut → Fixed → (what : Selection) → (steps : ℕ) → (text : List ℕ) → (old new : Marks) → Extent → Type 0
 IsCoveredBy cut f = covering.IsCoveredBy cut f.table.now.system.now
 
 -- ---- Dumps of whole traces

@@ -1,5 +1,6 @@
 -- What the program keeps of the blocks of a system, and one taking of a walk through a trace (this project's own).
-use Rattle.std.specs.Prelude.{◌≡◌, ◌<◌, ◌≤◌, ◌^◌, ◌⊎◌, ℕ, ◌+◌, ◌-◌, suc, min, List, [], ◌++◌, map, length, slice_get, slice_set, unwrap_or, All, IfSome, Bool, true, false, Option, Some, None}
+use Rattle.std.specs.Prelude.{◌≡◌, ◌<◌, ◌≤◌, ◌^◌, ◌⊎◌, ℕ, ◌+◌, ◌-◌, suc, min, ◌&&◌, List, [], ◌++◌, map, length, slice_get, slice_set, unwrap_or, All, IfSome, Bool, true, false, Option, Some, None}
+use Rattle.std.specs.List.{list_any}
 use Rattle.std.specs.Io.BufRead.{take_through}
 use Rattle.std.specs.Io.KnownBytes.{Appends, Consumes, IsAtEnd, prepend_known}
 use Rattle.fb_types.specs.Names.{Name, Path, same_path}
@@ -29,12 +30,15 @@ use Rattle.fb_wave.specs.Waves.{AreLinesOf}
 use Rattle.fb_coverage.specs.declared.marks.Marks.{Marks}
 use Rattle.fb_inspect.specs.walk.Charting.{IsChartOf}
 use Rattle.fb_inspect.specs.walk.Counted.{left_of}
-use Rattle.fb_inspect.specs.Inspections.{AreOfOne, AreTaken, AreTakings, EndsSo, IsOwnLine, KeepSteps, NoneStops, all_lines, all_text, cut_note, is_kept, last_look, one_text}
+use Rattle.fb_inspect.specs.Inspections.{AreOfOne, AreTaken, AreTakings, EndsSo, IsOwnLine, KeepSteps, NoneStops, all_lines, all_text, cut_note, last_look, one_text}
+use Rattle.fb_inspect.specs.Selections.{Selection, is_during, is_kept, is_wanted}
+use Rattle.fb_inspect.specs.walk.Chains.{is_loss}
 use Rattle.fb_inspect.specs.walk.Lines.{IsNext, IsNextLine}
 use Rattle.fb_inspect.specs.walk.Looks.{IsTaking, IsTakingAt, Look, Seen, Taking, left_at, most, opening_look, taking_lines, taking_text, with_left}
 use Rattle.fb_inspect.specs.Markings.{TakingMarks, TakingsMark, lines_marked}
 use Rattle.fb_inspect.specs.walk.Moves.{Goes, StaysAlone, shown_text}
 use Rattle.fb_inspect.specs.walk.Timing.{IsBlockKept}
+use Rattle.fb_inspect.specs.declared.filter.Shown.{Shown}
 use Rattle.fb_inspect.specs.declared.walk.ahead.Ahead.{Ahead}
 use Rattle.fb_inspect.specs.declared.walk.blocks.Chart.{Chart}
 use Rattle.fb_inspect.specs.declared.walk.blocks.Remembered.{Remembered}
@@ -88,6 +92,25 @@ pub record IsLookOf (sys : System) (blocks : List Remembered) (steps : List Tick
   pub are : AreKept sys blocks look
   pub counts : length steps ≡ length sys.resource_names
   pub lefts : (r : ℕ) (s : TickSteps) → slice_get steps r ≡ Some s → look.steps r ≡ left_of s
+
+-- ---- What is shown
+
+-- the event of a line is shown, if it does what is wanted
+abbrev pub may_show : Shown → Line → Bool
+may_show s l = flag_at s.instances.items l.instance && is_during s.events l.key.tick
+
+abbrev pub shows : Shown → Line → (is_lost : Bool) → Bool
+shows s l is_lost = may_show s l && is_wanted s.events is_lost
+
+abbrev pub is_chart : Option Remembered → Bool
+is_chart None = false
+is_chart (Some (kept.Basic c)) = true
+is_chart (Some (kept.Event b)) = false
+is_chart (Some kept.Composite) = false
+
+-- the event that an instance took last was lost
+abbrev pub has_lost : Walk → (instance : ℕ) → Bool
+has_lost w k = w.trail.marks.charts.lost && is_chart (slice_get w.blocks.items k)
 
 -- ---- One taking
 
@@ -165,20 +188,25 @@ pub record WalkTakes (blocks : List BlockType) (sys : System) (form : Form) (lim
   pub lines : List Line
   pub lines_are : map (line_of sys) lines ≡ taking_lines taking
   pub goes :
-      let is_shown = flag_at old.shown.items line.instance in
-      Goes sys form line.key.tick lines (shown_text is_shown (taking_text form sys taking)) (record old.trail { is_shown = is_shown }) new.trail remaining rest
+      Goes sys form line.key.tick lines (shown_text (shows old.shown line (list_any is_loss taking.pieces)) (taking_text form sys taking))
+      (record old.trail { is_shown = may_show old.shown line }) new.trail remaining rest
   pub marked : TakingMarks blocks sys taking old.trail.marks.charts new.trail.marks.charts
 
 -- ---- All takings so far
 
--- what is shown of a system: the lines of these instances
-abbrev pub ShowsOf : System → (only : List Name) → (shown : List Bool) → Type 0
-ShowsOf sys only shown = (k : ℕ) → k < length sys.paths → flag_at shown k ≡ is_kept only (path_at sys k)
+-- these instances are shown of a system
+abbrev pub AreShown : System → (only : List Name) → (flags : List Bool) → Type 0
+AreShown sys only flags = (k : ℕ) → k < length sys.paths → flag_at flags k ≡ is_kept only (path_at sys k)
+
+-- what is shown of a system
+pub record ShowsOf (sys : System) (what : Selection) (shown : Shown) : Type 0 where
+  pub instances : AreShown sys what.only shown.instances.items
+  pub events : shown.events ≡ what.events
 
 -- These takings were gone through, and the next line was read. A part of what is shown was sent, and a part waits.
-pub record IsGone (sys : System) (form : Form) (only : List Name) (steps : ℕ) (walk : Walk) (takings : List Taking) (input remaining old new : Option (List ℕ)) : Type 0 where
+pub record IsGone (sys : System) (form : Form) (what : Selection) (steps : ℕ) (walk : Walk) (takings : List Taking) (input remaining old new : Option (List ℕ)) : Type 0 where
   pub taken : AreTaken sys steps takings
-  pub shown : ShowsOf sys only walk.shown.items
+  pub shown : ShowsOf sys what walk.shown
   pub lines : List Line
   pub lines_are : map (line_of sys) lines ≡ all_lines takings
   pub are : AreLinesOf sys lines
@@ -186,15 +214,15 @@ pub record IsGone (sys : System) (form : Form) (only : List Name) (steps : ℕ) 
   pub read : Consumes input remaining (lines_text form sys (map (line_of sys) lines) ++ walk.trail.reading.line.items)
   pub sent : List ℕ
   pub got : Appends old new sent
-  pub text : sent ++ walk.trail.page.text.items ≡ all_text form sys only takings
+  pub text : sent ++ walk.trail.page.text.items ≡ all_text form sys what takings
 
 -- Takings were gone through, and none of them stopped its resource.
-pub record HasGone (sys : System) (form : Form) (only : List Name) (steps : ℕ) (walk : Walk) (input remaining old new : Option (List ℕ)) : Type 0 where
+pub record HasGone (sys : System) (form : Form) (what : Selection) (steps : ℕ) (walk : Walk) (input remaining old new : Option (List ℕ)) : Type 0 where
   pub takings : List Taking
   pub goes_on : NoneStops takings
   pub chain : AreTakings sys most (opening_look sys) takings
   pub look : IsLookOf sys walk.blocks.items walk.steps.items (last_look (opening_look sys) takings)
-  pub gone : IsGone sys form only steps walk takings input remaining old new
+  pub gone : IsGone sys form what steps walk takings input remaining old new
   pub next : IsNextLine sys form (last_tick 0 gone.lines) walk.trail.reading.line.items walk.trail.reading.next
 
 -- What takings cover was marked, next to what others covered.
@@ -203,8 +231,8 @@ pub record AreMarked (blocks : List BlockType) (sys : System) (takings : List Ta
   pub ports : last.ports ≡ lines_marked lines first.ports
 
 -- Takings were gone through, and what all of them cover was marked, next to what others covered.
-pub record HasCovered (blocks : List BlockType) (first : Marks) (sys : System) (form : Form) (only : List Name) (steps : ℕ) (walk : Walk) (input remaining old new : Option (List ℕ)) : Type 0 where
-  pub gone : HasGone sys form only steps walk input remaining old new
+pub record HasCovered (blocks : List BlockType) (first : Marks) (sys : System) (form : Form) (what : Selection) (steps : ℕ) (walk : Walk) (input remaining old new : Option (List ℕ)) : Type 0 where
+  pub gone : HasGone sys form what steps walk input remaining old new
   pub marked : AreMarked blocks sys gone.takings gone.gone.lines first walk.trail.marks
 
 -- A text ends in a part of a line after another text.
@@ -214,9 +242,9 @@ pub record IsCutAfter (text front : List ℕ) : Type 0 where
   pub is : text ≡ front ++ part
 
 -- All takings of a trace were gone through, and the next line is the last one.
-pub record IsComplete (blocks : List BlockType) (first : Marks) (sys : System) (form : Form) (only : List Name) (steps : ℕ) (walk : Walk) (end : Outcome) (input remaining old new : Option (List ℕ)) : Type 0 where
+pub record IsComplete (blocks : List BlockType) (first : Marks) (sys : System) (form : Form) (what : Selection) (steps : ℕ) (walk : Walk) (end : Outcome) (input remaining old new : Option (List ℕ)) : Type 0 where
   pub takings : List Taking
-  pub gone : IsGone sys form only steps walk takings input remaining old new
+  pub gone : IsGone sys form what steps walk takings input remaining old new
   pub ends : EndsSo sys steps takings (ending_of end)
   pub last : IsLast sys walk.trail.reading.line.items end
   pub after : IsAfter (last_tick 0 gone.lines) end
@@ -224,7 +252,7 @@ pub record IsComplete (blocks : List BlockType) (first : Marks) (sys : System) (
 
 -- Takings were gone through, and the trace is cut off there, or after lines that may be a part of those of an event.
 -- These lines were added where they are shown.
-pub record IsSevered (blocks : List BlockType) (first : Marks) (sys : System) (form : Form) (only : List Name) (walk : Walk) (input old new : Option (List ℕ)) : Type 0 where
+pub record IsSevered (blocks : List BlockType) (first : Marks) (sys : System) (form : Form) (what : Selection) (walk : Walk) (input old new : Option (List ℕ)) : Type 0 where
   pub takings : List Taking
   pub goes_on : NoneStops takings
   pub chain : AreTakings sys most (opening_look sys) takings
@@ -236,15 +264,15 @@ pub record IsSevered (blocks : List BlockType) (first : Marks) (sys : System) (f
   pub rest : IfSome input (λ text. IsCutAfter text (lines_text form sys (map (line_of sys) (lines ++ untaken))))
   pub sent : List ℕ
   pub got : Appends old new sent
-  pub text : sent ++ walk.trail.page.text.items ≡ all_text form sys only takings ++ one_text form sys only untaken
+  pub text : sent ++ walk.trail.page.text.items ≡ all_text form sys what takings ++ one_text form sys what untaken
   pub marked : AreMarked blocks sys takings lines first walk.trail.marks
 
 -- A walk went on by one taking, or a trace is over.
 abbrev pub HasAdvanced :
-    (blocks : List BlockType) (first : Marks) (sys : System) (form : Form) (only : List Name) (steps : ℕ) (walk : Walk) (input remaining old new : Option (List ℕ)) → Step → Type 0
-HasAdvanced blocks first sys form only steps walk input remaining old new Taken = HasCovered blocks first sys form only steps walk input remaining old new
-HasAdvanced blocks first sys form only steps walk input remaining old new (Ended end) = IsComplete blocks first sys form only steps walk end input remaining old new
-HasAdvanced blocks first sys form only steps walk input remaining old new CutOff = IsSevered blocks first sys form only walk input old new
+    (blocks : List BlockType) (first : Marks) (sys : System) (form : Form) (what : Selection) (steps : ℕ) (walk : Walk) (input remaining old new : Option (List ℕ)) → Step → Type 0
+HasAdvanced blocks first sys form what steps walk input remaining old new Taken = HasCovered blocks first sys form what steps walk input remaining old new
+HasAdvanced blocks first sys form what steps walk input remaining old new (Ended end) = IsComplete blocks first sys form what steps walk end input remaining old new
+HasAdvanced blocks first sys form what steps walk input remaining old new CutOff = IsSevered blocks first sys form what walk input old new
 
 -- ---- Lines that were read ahead
 
@@ -288,19 +316,19 @@ pub record AreUnused (n : ℕ) (steps : List TickSteps) : Type 0 where
   pub each : (r : ℕ) (s : TickSteps) → slice_get steps r ≡ Some s → left_of s ≡ record { tick = None; left = 0; least = most }
 
 -- A walk that was begun with a line that was read.
-pub record Begins (sys : System) (only : List Name) (marks : Marks) (reading : Reading) (walk : Walk) : Type 0 where
+pub record Begins (sys : System) (what : Selection) (marks : Marks) (reading : Reading) (walk : Walk) : Type 0 where
   pub blocks : AreKept sys walk.blocks.items (opening_look sys)
   pub steps : AreUnused (length sys.resource_names) walk.steps.items
-  pub shown : ShowsOf sys only walk.shown.items
+  pub shown : ShowsOf sys what walk.shown
   pub empty : walk.trail.page.text.items ≡ []
   pub reading_is : walk.trail.reading ≡ reading
   pub marks_are : walk.trail.marks ≡ marks
 
 -- A walk that was begun with a line with which a trace can begin.
-pub record Starts (sys : System) (form : Form) (only : List Name) (walk : Walk) : Type 0 where
+pub record Starts (sys : System) (form : Form) (what : Selection) (walk : Walk) : Type 0 where
   pub blocks : AreKept sys walk.blocks.items (opening_look sys)
   pub steps : AreUnused (length sys.resource_names) walk.steps.items
-  pub shown : ShowsOf sys only walk.shown.items
+  pub shown : ShowsOf sys what walk.shown
   pub empty : walk.trail.page.text.items ≡ []
   pub next : IsNext sys form 0 walk.trail.reading.line.items walk.trail.reading.next
   pub first : walk.trail.reading.number ≡ 1

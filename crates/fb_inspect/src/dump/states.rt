@@ -15,6 +15,7 @@ use crate::dump::before::Before;
 use crate::dump::port_dump::PortDump;
 use crate::dump::state_wave::StateWave;
 use crate::error::InspectError;
+use crate::filter::EventFilter;
 use crate::insides::{begun, first_reading, is_severed, lend};
 use crate::walk::ahead::Ahead;
 use crate::walk::reading::Reading;
@@ -32,7 +33,9 @@ fn begin(alloc: Global, system: &System, reading: Reading) -> Result<StateWave, 
     ensures { IfOk result (BeginsWave system.now reading) }
 {
     let only = none_shown(alloc)?;
-    let mut walk = begun(alloc, system, only.as_slice(), Marks::none(alloc), reading)?;
+    let events = EventFilter::all();
+    let marks = Marks::none(alloc);
+    let mut walk = begun(alloc, system, only.as_slice(), events, marks, reading)?;
     walk.trail.passed.are_kept = true;
     let mut page = Page::new(alloc);
     let blocks = walk.blocks.as_slice();

@@ -182,16 +182,12 @@ impl Trail {
         })
     }
 
-    /// Forgets the lines that were passed, and that an event was lost.
+    /// Forgets the lines that were passed.
     pub(crate) fn forget(&mut self)
         ensures none { self.new.passed.lines.items ≡ [] }
-        ensures others { self.new ≡ record self.old {
-          passed = record self.old.passed { lines = self.new.passed.lines };
-          marks = record self.old.marks { charts = record self.old.marks.charts { lost = false } };
-        } }
+        ensures others { self.new ≡ record self.old { passed = record self.old.passed { lines = self.new.passed.lines } } }
     {
         self.passed.lines.clear();
-        self.marks.charts.lost = false;
     }
 
     /// Goes past the next line, which is this one. It is added, if its instance is shown.

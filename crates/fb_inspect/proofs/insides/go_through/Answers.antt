@@ -14,7 +14,7 @@ use Rattle.fb_inspect.proofs.lemmas.lines.Severing.{on_some}
 use Rattle.fb_inspect.proofs.insides.go_through.Goals as goal
 
 pub returns-then-is_severed-clause-whole : goal.returns-then-is_severed-clause-whole
-returns-then-is_severed-clause-whole g c = λ only known starts read one.
+returns-then-is_severed-clause-whole g c = λ what known starts read one.
     let fixed = c.args.fixed.now in
     let i = fixed.table.now.system.now in
     let steps = c.args.terms.steps in
@@ -22,15 +22,15 @@ returns-then-is_severed-clause-whole g c = λ only known starts read one.
     let new = g.W.Write.contents c.finish_cut.new.out in
     let walk = c.args.walk.now in
     let short = subst (λ (l : List ℕ). is_unended l ≡ true) c.as_slice.ensures.value (c.is_severed.ensures.line c.if-is_severed.true) in
-    let severed = severed_none i fixed.form only steps walk.trail.marks walk walk.trail.reading.line.items known (g.R.Read.remaining c.args.input.now) old starts.empty read one short refl in
+    let severed = severed_none i fixed.form what steps walk.trail.marks walk walk.trail.reading.line.items known (g.R.Read.remaining c.args.input.now) old starts.empty read one short refl in
     on_joined c.and.result c.finish_cut.result _ _ c.and.ensures
     (on_ok c.finish_cut.result _ _ c.finish_cut.ensures.finishes
     (λ finishes.
-    shown_cut c.args.terms.cut (system_of i) only steps known old new (c.is_severed.ensures.cut c.if-is_severed.true)
-    (severed_shown i fixed.form only steps walk.trail.marks walk known old old severed new finishes)))
+    shown_cut c.args.terms.cut (system_of i) what steps known old new (c.is_severed.ensures.cut c.if-is_severed.true)
+    (severed_shown i fixed.form what steps walk.trail.marks walk known old old severed new finishes)))
 
 pub returns-then-is_severed-clause-covered : goal.returns-then-is_severed-clause-covered
-returns-then-is_severed-clause-covered g c = λ only known starts read one.
+returns-then-is_severed-clause-covered g c = λ what known starts read one.
     let fixed = c.args.fixed.now in
     let i = fixed.table.now.system.now in
     let steps = c.args.terms.steps in
@@ -38,49 +38,49 @@ returns-then-is_severed-clause-covered g c = λ only known starts read one.
     let walk = c.args.walk.now in
     let allowed = c.is_severed.ensures.cut c.if-is_severed.true in
     let short = subst (λ (l : List ℕ). is_unended l ≡ true) c.as_slice.ensures.value (c.is_severed.ensures.line c.if-is_severed.true) in
-    let severed = severed_none i fixed.form only steps walk.trail.marks walk walk.trail.reading.line.items known (g.R.Read.remaining c.args.input.now) old starts.empty read one short refl in
-    let covered = subst (λ (m : Marks). IfSome known (λ text. IsCutCovered i only text walk.trail.marks m)) (sym c.finish_cut.ensures.marks)
-    (severed_covered i fixed.form only steps walk.trail.marks walk known old old severed) in
+    let severed = severed_none i fixed.form what steps walk.trail.marks walk walk.trail.reading.line.items known (g.R.Read.remaining c.args.input.now) old starts.empty read one short refl in
+    let covered = subst (λ (m : Marks). IfSome known (λ text. IsCutCovered i what text walk.trail.marks m)) (sym c.finish_cut.ensures.marks)
+    (severed_covered i fixed.form what steps walk.trail.marks walk known old old severed) in
     ok_joined c.and.result c.finish_cut.result _ _ _ c.and.ensures c.finish_cut.ensures.finishes (λ finishes. on_some known _ _ covered (λ text is. (allowed, is)))
 
 pub returns-then-is_severed-clause-fault : goal.returns-then-is_severed-clause-fault
-returns-then-is_severed-clause-fault g c = λ only known starts read one.
+returns-then-is_severed-clause-fault g c = λ what known starts read one.
     let fixed = c.args.fixed.now in
     let i = fixed.table.now.system.now in
     let steps = c.args.terms.steps in
     let old = g.W.Write.contents c.args.out.now in
     let walk = c.args.walk.now in
     let short = subst (λ (l : List ℕ). is_unended l ≡ true) c.as_slice.ensures.value (c.is_severed.ensures.line c.if-is_severed.true) in
-    let severed = severed_none i fixed.form only steps walk.trail.marks walk walk.trail.reading.line.items known (g.R.Read.remaining c.args.input.now) old starts.empty read one short refl in
+    let severed = severed_none i fixed.form what steps walk.trail.marks walk walk.trail.reading.line.items known (g.R.Read.remaining c.args.input.now) old starts.empty read one short refl in
     fails_joined c.and.result c.finish_cut.result _ _ c.and.ensures
     (err_then c.finish_cut.result _ _ c.finish_cut.ensures.fault
-    (λ part. severed_part i fixed.form only steps walk.trail.marks walk known old old severed (g.W.Write.contents c.finish_cut.new.out) part))
+    (λ part. severed_part i fixed.form what steps walk.trail.marks walk known old old severed (g.W.Write.contents c.finish_cut.new.out) part))
 
 pub returns-then-is_severed-clause-refused : goal.returns-then-is_severed-clause-refused
-returns-then-is_severed-clause-refused g c = λ only rest text few names starts known begins.
+returns-then-is_severed-clause-refused g c = λ what rest text few names starts known begins.
     err_joined c.and.result c.finish_cut.result _ _ c.and.ensures (err_none c.finish_cut.result _ c.finish_cut.ensures.none)
 
 pub returns-in_err-ahead-clause-fault : goal.returns-in_err-ahead-clause-fault
-returns-in_err-ahead-clause-fault g c = λ only known starts read one.
-    err_any c.from_residual.result _ (front_none (system_of c.args.fixed.now.table.now.system.now) only c.args.terms.steps (g.W.Write.contents c.args.out.now))
+returns-in_err-ahead-clause-fault g c = λ what known starts read one.
+    err_any c.from_residual.result _ (front_none (system_of c.args.fixed.now.table.now.system.now) what c.args.terms.steps (g.W.Write.contents c.args.out.now))
 
 pub returns-clause-whole : goal.returns-clause-whole
-returns-clause-whole g c = λ only known starts read one. c.go-gone.ensures.whole only known starts read
+returns-clause-whole g c = λ what known starts read one. c.go-gone.ensures.whole what known starts read
 
 pub returns-clause-covered : goal.returns-clause-covered
-returns-clause-covered g c = λ only known starts read one.
+returns-clause-covered g c = λ what known starts read one.
     let i = c.args.fixed.now.table.now.system.now in
-    ok_then c.go-gone.result _ _ (c.go-gone.ensures.covered only known starts read)
+    ok_then c.go-gone.result _ _ (c.go-gone.ensures.covered what known starts read)
     (λ extent covered.
-    subst (λ (m : Marks). IfSome known (λ text. IsCoveredBy c.args.terms.cut i only c.args.terms.steps text c.args.walk.now.trail.marks m extent)) (sym c.lend.ensures) covered)
+    subst (λ (m : Marks). IfSome known (λ text. IsCoveredBy c.args.terms.cut i what c.args.terms.steps text c.args.walk.now.trail.marks m extent)) (sym c.lend.ensures) covered)
 
 pub returns-clause-fault : goal.returns-clause-fault
-returns-clause-fault g c = λ only known starts read one. c.go-gone.ensures.fault only starts
+returns-clause-fault g c = λ what known starts read one. c.go-gone.ensures.fault what starts
 
 pub returns-clause-refused : goal.returns-clause-refused
-returns-clause-refused g c = λ only rest text few names starts known begins.
+returns-clause-refused g c = λ what rest text few names starts known begins.
     let fixed = c.args.fixed.now in
-    c.go-gone.ensures.refused only rest text few names starts known
+    c.go-gone.ensures.refused what rest text few names starts known
     (subst (λ (e : Bool). BeginsText (system_of fixed.table.now.system.now) fixed.form c.args.walk.now.trail.reading.line.items e rest text) (sym c.in_ok-ahead.ensures.watched) begins)
 
 pub returns-in_err-ahead-clause-whole : goal.returns-in_err-ahead-clause-whole

@@ -2,11 +2,12 @@ use Rattle.std.proofs.lemmas.Result.{err_from_is_err_and}
 use Rattle.fb_types.specs.Headline.{system_of}
 use Rattle.fb_inspect.proofs.lemmas.walk.Ended.{front_none}
 use Rattle.fb_inspect.proofs.lemmas.reactions.Placed.{err_any}
+use Rattle.fb_inspect.specs.Selections.{selection_of}
 use Rattle.fb_inspect.proofs.insides.inspect.Goals as goal
 
 pub returns-then-is_none-clause-fault : goal.returns-then-is_none-clause-fault
 returns-then-is_none-clause-fault g c =
-    front_none (system_of c.args.system.now) c.args.inspection.only.now c.args.inspection.terms.steps (g.W.Write.contents c.args.out.now)
+    front_none (system_of c.args.system.now) (selection_of c.args.inspection) c.args.inspection.terms.steps (g.W.Write.contents c.args.out.now)
 
 pub returns-clause-whole : goal.returns-clause-whole
 returns-clause-whole g c = c.in_ok-inspect_and_mark.ensures.whole

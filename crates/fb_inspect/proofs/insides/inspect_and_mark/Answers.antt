@@ -10,25 +10,26 @@ use Rattle.fb_inspect.specs.walk.Looks.{most}
 use Rattle.fb_inspect.specs.Refusals.{IsWrongAt, OfRefusal}
 use Rattle.fb_inspect.proofs.lemmas.results.Joined.{ok_passed}
 use Rattle.fb_inspect.proofs.lemmas.results.Refused.{none_passed}
+use Rattle.fb_inspect.specs.Selections.{selection_of}
 use Rattle.fb_inspect.proofs.insides.inspect_and_mark.Goals as goal
 
 pub returns-in_err-ports-clause-fault : goal.returns-in_err-ports-clause-fault
 returns-in_err-ports-clause-fault g c =
-    err_any c.from_residual.result _ (front_none (system_of c.args.system.now) c.args.inspection.only.now c.args.inspection.terms.steps (g.W.Write.contents c.args.out.now))
+    err_any c.from_residual.result _ (front_none (system_of c.args.system.now) (selection_of c.args.inspection) c.args.inspection.terms.steps (g.W.Write.contents c.args.out.now))
 
 pub returns-in_err-table-clause-fault : goal.returns-in_err-table-clause-fault
 returns-in_err-table-clause-fault g c =
-    err_any c.from_residual-in_err-table.result _ (front_none (system_of c.args.system.now) c.args.inspection.only.now c.args.inspection.terms.steps (g.W.Write.contents c.args.out.now))
+    err_any c.from_residual-in_err-table.result _ (front_none (system_of c.args.system.now) (selection_of c.args.inspection) c.args.inspection.terms.steps (g.W.Write.contents c.args.out.now))
 
 pub returns-in_default-clause-fault : goal.returns-in_default-clause-fault
-returns-in_default-clause-fault g c = front_none (system_of c.args.system.now) c.args.inspection.only.now c.args.inspection.terms.steps (g.W.Write.contents c.args.out.now)
+returns-in_default-clause-fault g c = front_none (system_of c.args.system.now) (selection_of c.args.inspection) c.args.inspection.terms.steps (g.W.Write.contents c.args.out.now)
 
 pub returns-clause-whole : goal.returns-clause-whole
 returns-clause-whole g c =
     let x = c.args.inspection in
     let old = g.W.Write.contents c.args.out.now in
     let new = g.W.Write.contents c.inspect_with.new.out in
-    subst (λ (s : Inputs). OnOk c.inspect_with.result (IfSome (g.R.Read.remaining c.args.input.now) (λ text. IsShownBy x.terms.cut (system_of s) x.only.now x.terms.steps text old new)))
+    subst (λ (s : Inputs). OnOk c.inspect_with.result (IfSome (g.R.Read.remaining c.args.input.now) (λ text. IsShownBy x.terms.cut (system_of s) (selection_of x) x.terms.steps text old new)))
     (of_table _ c.in-Some.table _ c.in-Some.is c.in_ok-table.ensures.system ∙ c.in_ok-ports.ensures) c.inspect_with.ensures.whole
 
 pub returns-clause-fault : goal.returns-clause-fault
@@ -36,7 +37,7 @@ returns-clause-fault g c =
     let x = c.args.inspection in
     let old = g.W.Write.contents c.args.out.now in
     let new = g.W.Write.contents c.inspect_with.new.out in
-    subst (λ (s : Inputs). OnErr c.inspect_with.result (ShowsFront (system_of s) x.only.now x.terms.steps old new))
+    subst (λ (s : Inputs). OnErr c.inspect_with.result (ShowsFront (system_of s) (selection_of x) x.terms.steps old new))
     (of_table _ c.in-Some.table _ c.in-Some.is c.in_ok-table.ensures.system ∙ c.in_ok-ports.ensures) c.inspect_with.ensures.fault
 
 pub returns-clause-refused : goal.returns-clause-refused

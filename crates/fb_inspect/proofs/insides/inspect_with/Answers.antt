@@ -15,64 +15,65 @@ use Rattle.fb_inspect.proofs.lemmas.walk.UpToRefusal.{text_begins}
 use Rattle.fb_inspect.proofs.lemmas.reactions.Placed.{err_any}
 use Rattle.fb_inspect.proofs.lemmas.results.Refused.{none_passed}
 use Rattle.fb_inspect.proofs.lemmas.results.Joined.{ok_passed}
+use Rattle.fb_inspect.specs.Selections.{selection_of}
 use Rattle.fb_inspect.proofs.insides.inspect_with.Goals as goal
 
 pub returns-in_err-form-clause-fault : goal.returns-in_err-form-clause-fault
 returns-in_err-form-clause-fault g c =
-    err_any c.from_residual.result _ (front_none (system_of c.args.table.now.system.now) c.args.inspection.only.now c.args.inspection.terms.steps (g.W.Write.contents c.args.out.now))
+    err_any c.from_residual.result _ (front_none (system_of c.args.table.now.system.now) (selection_of c.args.inspection) c.args.inspection.terms.steps (g.W.Write.contents c.args.out.now))
 
 pub returns-in_err-walk-clause-fault : goal.returns-in_err-walk-clause-fault
 returns-in_err-walk-clause-fault g c =
-    err_any c.from_residual-in_err-walk.result _ (front_none (system_of c.args.table.now.system.now) c.args.inspection.only.now c.args.inspection.terms.steps (g.W.Write.contents c.args.out.now))
+    err_any c.from_residual-in_err-walk.result _ (front_none (system_of c.args.table.now.system.now) (selection_of c.args.inspection) c.args.inspection.terms.steps (g.W.Write.contents c.args.out.now))
 
 pub go_through-requires-clause-starts : goal.go_through-requires-clause-starts
 go_through-requires-clause-starts g c =
     let sys = system_of c.args.table.now.system.now in
-    let only = c.args.inspection.only.now in
-    (only, starts_of sys _ only _ c.in_ok-form.reading c.in_ok-walk.walk c.in_ok-walk.ensures c.in_ok-form.ensures.next c.in_ok-form.ensures.number)
+    let what = (selection_of c.args.inspection) in
+    (what, starts_of sys _ what _ c.in_ok-form.reading c.in_ok-walk.walk c.in_ok-walk.ensures c.in_ok-form.ensures.next c.in_ok-form.ensures.number)
 
 pub returns-clause-whole : goal.returns-clause-whole
 returns-clause-whole g c =
     let sys = system_of c.args.table.now.system.now in
-    let only = c.args.inspection.only.now in
+    let what = (selection_of c.args.inspection) in
     let known = g.R.Read.remaining c.args.input.now in
-    let starts = starts_of sys _ only _ c.in_ok-form.reading c.in_ok-walk.walk c.in_ok-walk.ensures c.in_ok-form.ensures.next c.in_ok-form.ensures.number in
+    let starts = starts_of sys _ what _ c.in_ok-form.reading c.in_ok-walk.walk c.in_ok-walk.ensures c.in_ok-form.ensures.next c.in_ok-form.ensures.number in
     let line_is : c.in_ok-form.reading.line.items ≡ c.in_ok-walk.walk.trail.reading.line.items = sym (ap (λ (r : Reading). r.line.items) c.in_ok-walk.ensures.reading_is) in
-    c.in_ok-extent.ensures.whole only known starts (subst (Consumes known (g.R.Read.remaining c.first_reading.new.input)) line_is c.in_ok-form.ensures.read)
+    c.in_ok-extent.ensures.whole what known starts (subst (Consumes known (g.R.Read.remaining c.first_reading.new.input)) line_is c.in_ok-form.ensures.read)
     (subst (λ (l : List ℕ). IsFirstLine l known) line_is c.in_ok-form.ensures.first)
 
 pub returns-clause-covered : goal.returns-clause-covered
 returns-clause-covered g c =
     let i = c.args.table.now.system.now in
-    let only = c.args.inspection.only.now in
+    let what = (selection_of c.args.inspection) in
     let cut = c.args.inspection.terms.cut in
     let steps = c.args.inspection.terms.steps in
     let known = g.R.Read.remaining c.args.input.now in
-    let starts = starts_of (system_of i) _ only _ c.in_ok-form.reading c.in_ok-walk.walk c.in_ok-walk.ensures c.in_ok-form.ensures.next c.in_ok-form.ensures.number in
+    let starts = starts_of (system_of i) _ what _ c.in_ok-form.reading c.in_ok-walk.walk c.in_ok-walk.ensures c.in_ok-form.ensures.next c.in_ok-form.ensures.number in
     let line_is : c.in_ok-form.reading.line.items ≡ c.in_ok-walk.walk.trail.reading.line.items = sym (ap (λ (r : Reading). r.line.items) c.in_ok-walk.ensures.reading_is) in
-    let covered = c.in_ok-extent.ensures.covered only known starts (subst (Consumes known (g.R.Read.remaining c.first_reading.new.input)) line_is c.in_ok-form.ensures.read)
+    let covered = c.in_ok-extent.ensures.covered what known starts (subst (Consumes known (g.R.Read.remaining c.first_reading.new.input)) line_is c.in_ok-form.ensures.read)
     (subst (λ (l : List ℕ). IsFirstLine l known) line_is c.in_ok-form.ensures.first) in
     let Q : Marks → Type 0 = λ m. IfSome known (λ text. Covers cut i steps text c.args.marks m c.in_ok-extent.extent) in
     subst Q (sym c.replace-marks.ensures.value)
-    (covers_of cut i c.facts.ensures.accepted only steps known c.in_ok-walk.walk.trail.marks c.args.marks c.go_through.new.walk.trail.marks c.in_ok-extent.extent c.in_ok-walk.ensures.marks_are covered)
+    (covers_of cut i c.facts.ensures.accepted what steps known c.in_ok-walk.walk.trail.marks c.args.marks c.go_through.new.walk.trail.marks c.in_ok-extent.extent c.in_ok-walk.ensures.marks_are covered)
 
 pub returns-in_err-extent-clause-fault : goal.returns-in_err-extent-clause-fault
 returns-in_err-extent-clause-fault g c =
     let sys = system_of c.args.table.now.system.now in
-    let only = c.args.inspection.only.now in
+    let what = (selection_of c.args.inspection) in
     let known = g.R.Read.remaining c.args.input.now in
-    let starts = starts_of sys _ only _ c.in_ok-form.reading c.in_ok-walk.walk c.in_ok-walk.ensures c.in_ok-form.ensures.next c.in_ok-form.ensures.number in
+    let starts = starts_of sys _ what _ c.in_ok-form.reading c.in_ok-walk.walk c.in_ok-walk.ensures c.in_ok-form.ensures.next c.in_ok-form.ensures.number in
     let line_is : c.in_ok-form.reading.line.items ≡ c.in_ok-walk.walk.trail.reading.line.items = sym (ap (λ (r : Reading). r.line.items) c.in_ok-walk.ensures.reading_is) in
     err_any c.from_residual-in_err-extent.result _
-    (c.in_err-extent.ensures.fault only known starts (subst (Consumes known (g.R.Read.remaining c.first_reading.new.input)) line_is c.in_ok-form.ensures.read)
+    (c.in_err-extent.ensures.fault what known starts (subst (Consumes known (g.R.Read.remaining c.first_reading.new.input)) line_is c.in_ok-form.ensures.read)
     (subst (λ (l : List ℕ). IsFirstLine l known) line_is c.in_ok-form.ensures.first))
 
 pub returns-in_err-extent-clause-refused : goal.returns-in_err-extent-clause-refused
 returns-in_err-extent-clause-refused g c = λ names few.
     let sys = system_of c.args.table.now.system.now in
-    let only = c.args.inspection.only.now in
+    let what = (selection_of c.args.inspection) in
     let steps = c.args.inspection.terms.steps in
-    let starts = starts_of sys _ only _ c.in_ok-form.reading c.in_ok-walk.walk c.in_ok-walk.ensures c.in_ok-form.ensures.next c.in_ok-form.ensures.number in
+    let starts = starts_of sys _ what _ c.in_ok-form.reading c.in_ok-walk.walk c.in_ok-walk.ensures c.in_ok-form.ensures.next c.in_ok-form.ensures.number in
     let line_is : c.in_ok-form.reading.line.items ≡ c.in_ok-walk.walk.trail.reading.line.items = sym (ap (λ (r : Reading). r.line.items) c.in_ok-walk.ensures.reading_is) in
     let q = err_from_is_err_and c.from_residual-in_err-extent.result c.from_residual-in_err-extent.ensures.1 in
     rw (q.1, q.2)
@@ -80,7 +81,7 @@ returns-in_err-extent-clause-refused g c = λ names few.
     (λ text known.
     let begins = text_begins sys c.in_ok-form.form c.in_ok-form.reading.line.items false text (g.R.Read.remaining c.args.input.now) (g.R.Read.remaining c.first_reading.new.input) names known
     c.in_ok-form.ensures.read c.in_ok-form.ensures.first c.in_ok-form.ensures.form refl in
-    c.in_err-extent.ensures.refused only begins.0 text few names starts begins.1
+    c.in_err-extent.ensures.refused what begins.0 text few names starts begins.1
     (subst (λ (u : List ℕ). BeginsText sys c.in_ok-form.form u false begins.0 text) line_is begins.2)))
 
 pub returns-in_err-form-clause-whole : goal.returns-in_err-form-clause-whole

@@ -1,6 +1,6 @@
 use Rattle.std.proofs.Common.{◌≡◌, false, take}
 use Rattle.std.specs.List.{list_any}
-use Rattle.fb_inspect.specs.Inspections.{is_within}
+use Rattle.fb_inspect.specs.Selections.{is_within}
 use Rattle.fb_inspect.proofs.insides.is_one_of.Given as goal
 
 abbrev pub invariant-loop-whole : goal.invariant-loop-whole

@@ -1,5 +1,5 @@
 -- What changes inside a block, and what is kept of it.
-use Rattle.std.proofs.Common.{◌≡◌, ◌<◌, ℕ, Bool, true, false, cond, List, [], ◌∷◌, ◌++◌, ◌||◌, length, get_or, map, Option, Some, None, refl, sym, ap, subst, ◌∙◌, append_assoc, append-nil, arith}
+use Rattle.std.proofs.Common.{◌≡◌, ◌<◌, ℕ, Bool, cond, List, [], ◌∷◌, ◌++◌, length, get_or, map, Option, Some, None, refl, sym, ap, subst, ◌∙◌, append_assoc, append-nil, arith}
 use Rattle.std.specs.Prelude.{IfNone, codes, decimal, slice_get}
 use Rattle.std.specs.List.{list_any}
 use Rattle.std.proofs.lemmas.Bool.{false_from_ne_true}
@@ -13,16 +13,14 @@ use Rattle.fb_types.specs.declared.value.Value.{Value}
 use Rattle.fb_types.specs.declared.library.BasicType.{BasicType}
 use Rattle.fb_types.proofs.ByIndex.{element_at}
 use Rattle.fb_types.proofs.NameLaws.{same_from_same_name, same_name-itself}
-use Rattle.fb_coverage.specs.declared.marks.ChartMarks.{ChartMarks}
-use Rattle.fb_inspect.specs.walk.Chains.{Piece, Clears_by, Is_lost, Ran, Stops_by, Has, Emits}
+use Rattle.fb_inspect.specs.walk.Chains.{is_loss}
 use Rattle.fb_wave.specs.Scopes.{declares}
 use Rattle.fb_inspect.specs.walk.Looks.{Look, Seen, Taking}
-use Rattle.fb_inspect.specs.Markings.{PiecesMark}
 use Rattle.fb_inspect.specs.walk.Walking.{AreKept, IsKept}
 use Rattle.fb_inspect.specs.declared.walk.blocks.Chart.{Chart}
 use Rattle.fb_inspect.specs.declared.walk.blocks.Remembered.{Remembered}
 use Rattle.fb_inspect.specs.declared.walk.blocks.Remembered.TheVariants as kept
-use Rattle.fb_inspect.specs.dump.Inner.{chart_changes, internal_change, internal_code, is_loss, lost_code, of_chart, state_change, state_changed, state_code, taking_changes, value_by}
+use Rattle.fb_inspect.specs.dump.Inner.{chart_changes, internal_change, internal_code, lost_code, of_chart, state_change, state_changed, state_code, taking_changes, value_by}
 use Rattle.fb_inspect.specs.dump.Saved.{IsBefore, IsSaved}
 use Rattle.fb_inspect.specs.declared.dump.before.Before.{Before}
 
@@ -80,29 +78,6 @@ before_none None x s none = tt
 before_none (Some (Basic t)) x s none = absurd (none t refl)
 before_none (Some (Event e)) x s none = tt
 before_none (Some (Composite t)) x s none = tt
-
--- ---- Lost events
-
-or_true : (b c : Bool) → true ≡ (b || (true || c))
-or_true true c = refl
-or_true false c = refl
-
--- what is marked says whether an event was lost
-pub lost_by :
-    (t : BasicType) (i e : ℕ) (ps : List Piece) (m n : ChartMarks) → PiecesMark t i e ps m n → n.lost ≡ (m.lost || list_any is_loss ps)
-lost_by t i e [] m n same = ap (λ (k : ChartMarks). k.lost) same ∙ or_false m.lost
-  where
-    or_false : (b : Bool) → b ≡ (b || false)
-    or_false true = refl
-    or_false false = refl
-lost_by t i e (Clears_by y ∷ ps) m n are =
-    lost_by t i e ps are.0 n are.2 ∙ ap (λ (k : ChartMarks). k.lost || list_any is_loss ps) are.1.2
-lost_by t i e (Is_lost s ∷ ps) m n are =
-    lost_by t i e ps are.0 n are.2 ∙ ap (λ (k : ChartMarks). k.lost || list_any is_loss ps) are.1 ∙ or_true m.lost (list_any is_loss ps)
-lost_by t i e (Ran a before after ∷ ps) m n are = lost_by t i e ps are.0 n are.2 ∙ ap (λ (k : ChartMarks). k.lost || list_any is_loss ps) are.1
-lost_by t i e (Stops_by r ∷ ps) m n are = lost_by t i e ps are.0 n are.2 ∙ ap (λ (k : ChartMarks). k.lost || list_any is_loss ps) are.1
-lost_by t i e (Has memory due ∷ ps) m n are = lost_by t i e ps are.0 n are.2 ∙ ap (λ (k : ChartMarks). k.lost || list_any is_loss ps) are.1
-lost_by t i e (Emits f ∷ ps) m n are = lost_by t i e ps are.0 n are.2 ∙ ap (λ (k : ChartMarks). k.lost || list_any is_loss ps) are.1
 
 -- ---- What is kept of an instance
 

@@ -1,5 +1,5 @@
 -- One step of a dump: what was taken was shown, or the trace is over.
-use Rattle.std.proofs.Common.{◌≡◌, ◌<◌, ◌≤◌, ◌⊎◌, ℕ, ◌+◌, true, false, List, [], ◌∷◌, ◌++◌, length, map, Option, Some, None, refl, sym, ◌∙◌, ap, subst, inl, inr, append_assoc}
+use Rattle.std.proofs.Common.{◌≡◌, ◌<◌, ◌≤◌, ◌⊎◌, ℕ, ◌+◌, true, List, [], ◌∷◌, ◌++◌, length, map, Option, Some, None, refl, sym, ◌∙◌, ap, subst, inl, inr, append_assoc}
 use Rattle.std.specs.Prelude.{All, IfSome}
 use Rattle.std.specs.Io.KnownBytes.{Consumes}
 use Rattle.std.proofs.lemmas.List.{map-append}
@@ -43,7 +43,8 @@ use Rattle.fb_inspect.specs.declared.dump.state_wave.EventAt.{EventAt}
 use Rattle.fb_inspect.specs.declared.dump.state_wave.StateWave.{StateWave}
 use Rattle.fb_inspect.specs.declared.walk.trail.Trail.{Trail}
 use Rattle.fb_inspect.proofs.lemmas.dump.Growing.{look-one, takings-one}
-use Rattle.fb_inspect.proofs.lemmas.dump.Waved.{last_is, lines_belong, lost_is, passed_are, stops_more, waved_more}
+use Rattle.fb_inspect.proofs.lemmas.marks.Losses.{lost_is}
+use Rattle.fb_inspect.proofs.lemmas.dump.Waved.{last_is, lines_belong, passed_are, stops_more, waved_more}
 
 pub same_line : (a b : Line) (n : Next) → next.Event a ≡ n → n ≡ next.Event b → a ≡ b
 same_line a b n one other = same (one ∙ other)
@@ -91,27 +92,20 @@ cut_after sys form line rows text ls own (Some t) (Some s) off read whole =
     regroup : (a b c d : List ℕ) → (a ++ b) ++ (c ++ d) ≡ (a ++ (b ++ c)) ++ d
     regroup a b c d = append_assoc a b (c ++ d) ∙ ap (λ (u : List ℕ). a ++ u) (sym (append_assoc b c d)) ∙ sym (append_assoc a (b ++ c) d)
 
--- A walk that was made ready for a step: no line was passed yet, and no event is lost.
+-- A walk that was made ready for a step: no line was passed yet.
 pub record IsReady (w : StateWave) (was : Walk) : Type 0 where
   pub reading : was.trail.reading ≡ w.walk.trail.reading
   pub kept : was.trail.passed.are_kept ≡ true
   pub none : was.trail.passed.lines.items ≡ []
-  pub lost : was.trail.marks.charts.lost ≡ false
 
--- a walk whose passed lines and lost event are set back is ready
+-- a walk whose passed lines are set back is ready
 pub ready_of :
     (w : StateWave) (t : Trail) → w.walk.trail.passed.are_kept ≡ true → t.passed.lines.items ≡ []
-    → t
-    ≡ record (w.walk.trail) {
-      passed = record (w.walk.trail.passed) { lines = t.passed.lines };
-      marks = record (w.walk.trail.marks) { charts = record (w.walk.trail.marks.charts) { lost = false } };
-    }
-    → IsReady w (record (w.walk) { trail = t })
+    → t ≡ record (w.walk.trail) { passed = record (w.walk.trail.passed) { lines = t.passed.lines } } → IsReady w (record (w.walk) { trail = t })
 ready_of w t kept none is = record {
   reading = ap (λ (v : Trail). v.reading) is;
   kept = ap (λ (v : Trail). v.passed.are_kept) is ∙ kept;
   none = none;
-  lost = ap (λ (v : Trail). v.marks.charts.lost) is;
 }
 
 -- the instance is one of the system
@@ -168,7 +162,7 @@ module _ (types : List BlockType) (sys : System) (form : Form) (steps : ℕ) (w 
           shown = λ sent shows.
               (by seen goes.taking.after (event.saved seen have.look.are) goes.look_after.are).shown xs taken sent shows refl at_is
               (ap (λ (m : model.Line). m.key.tick) goes.first_is ∙ ap (λ (l : Line). l.key.tick) same ∙ sym event.tick_is) refl (sym passed)
-              (λ t kind. lost_is types (sys.kind goes.taking.first.at) goes.taking _ _ t goes.marked (ap sys.kind at_is ∙ kind) ready.lost) goes.lines_are;
+              (λ t kind. lost_is types (sys.kind goes.taking.first.at) goes.taking _ _ t goes.marked (ap sys.kind at_is ∙ kind)) goes.lines_are;
         }
 
     later_than : (line : Line) → next.Event line ≡ was.trail.reading.next → last_tick 0 (lines_of xs) ≤ line.key.tick

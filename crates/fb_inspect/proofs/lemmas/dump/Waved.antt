@@ -1,18 +1,14 @@
 -- Takings that are gone through and shown, one after another.
-use Rattle.std.proofs.Common.{◌≡◌, ◌≤◌, ℕ, ◌+◌, Bool, true, false, List, [], ◌∷◌, ◌++◌, ◌||◌, length, map, Option, Some, None, sym, ◌∙◌, ap, subst, inl, append_assoc, arith, length-append}
+use Rattle.std.proofs.Common.{◌≡◌, ◌≤◌, ℕ, ◌+◌, Bool, true, List, [], ◌∷◌, ◌++◌, length, map, Option, None, sym, ◌∙◌, ap, subst, inl, append_assoc, arith, length-append}
 use Rattle.std.specs.Prelude.{All}
-use Rattle.std.specs.List.{list_any}
 use Rattle.std.specs.Io.KnownBytes.{Consumes}
 use Rattle.std.proofs.KnownBytes.{Appends-nil, Appends-trans, Consumes-trans}
 use Rattle.std.proofs.lemmas.List.{map-append}
 use Rattle.std.proofs.lemmas.List.Elements.{All-append, All-nil}
-use Rattle.fb_types.specs.Blocks.{Basic, Kind}
 use Rattle.fb_types.specs.Numbers.{line_of}
 use Rattle.fb_types.specs.States as model
 use Rattle.fb_types.specs.Systems.{System}
 use Rattle.fb_types.specs.Text.{lines_text}
-use Rattle.fb_types.specs.declared.library.BasicType.{BasicType}
-use Rattle.fb_types.specs.declared.library.BlockType.{BlockType}
 use Rattle.fb_types.specs.declared.run.Form.{Form}
 use Rattle.fb_types.specs.declared.run.Line.{Line}
 use Rattle.fb_types.specs.declared.value.Reason.{Reason}
@@ -20,11 +16,8 @@ use Rattle.fb_system.specs.Lines.{BelongsTo}
 use Rattle.fb_wave.specs.Dumps.{last_tick}
 use Rattle.fb_wave.specs.Lines.{IsLineOf}
 use Rattle.fb_wave.specs.Waves.{RiseFrom}
-use Rattle.fb_coverage.specs.Sets.{with_taken}
-use Rattle.fb_coverage.specs.declared.marks.ChartMarks.{ChartMarks}
 use Rattle.fb_inspect.specs.Inspections.{AreTaken, NoneStops}
-use Rattle.fb_inspect.specs.walk.Looks.{Look, Taking, taking_lines}
-use Rattle.fb_inspect.specs.Markings.{TakingMarksAt, event_number}
+use Rattle.fb_inspect.specs.walk.Looks.{Look, taking_lines}
 use Rattle.fb_inspect.specs.walk.Moves.{HavePassed, IsLineAt, lines_kept}
 use Rattle.fb_wave.specs.Pages.{IsFlushed}
 use Rattle.fb_wave.specs.declared.page.Page.{Page}
@@ -32,11 +25,9 @@ use Rattle.fb_inspect.specs.declared.walk.trail.PassedLines.{PassedLines}
 use Rattle.fb_inspect.proofs.lemmas.walk.WalkedTakings.{each_of, none_more, rise_more}
 use Rattle.fb_inspect.proofs.lemmas.lines.Moving.{lines-append}
 use Rattle.fb_inspect.specs.dump.Dumping.{Shows}
-use Rattle.fb_inspect.specs.dump.Inner.{is_loss}
 use Rattle.fb_inspect.specs.dump.StateDumps.{HaveLines, Taken, lines_of, takings_of}
 use Rattle.fb_inspect.specs.dump.Waving.{HasWaved, IsWaved, TakingGoes, WaveStarts}
 use Rattle.fb_inspect.specs.declared.dump.state_wave.StateWave.{StateWave}
-use Rattle.fb_inspect.proofs.lemmas.dump.Changing.{lost_by}
 use Rattle.fb_inspect.proofs.lemmas.dump.Growing.{lines-one, takings-one}
 use Rattle.fb_inspect.proofs.lemmas.dump.WithoutInside.{last_lines}
 
@@ -55,15 +46,6 @@ stops_more xs y none stop = subst NoneStops (sym (takings-one xs y)) (none_more 
 pub passed_are : (ls : List Line) (old new : PassedLines) → old.are_kept ≡ true → old.lines.items ≡ [] → HavePassed ls old new → new.lines.items ≡ ls
 passed_are ls old new kept none passed =
     passed.lines ∙ ap (λ (b : Bool). lines_kept b old.lines.items ls) kept ∙ ap (λ (l : List Line). l ++ ls) none
-
--- what is marked says whether the taking lost its event
-pub lost_is :
-    (types : List BlockType) (k : Option Kind) (x : Taking) (m n : ChartMarks) (t : BasicType) → TakingMarksAt types k x m n → k ≡ Some (Basic t) → m.lost ≡ false
-    → list_any is_loss x.pieces ≡ n.lost
-lost_is types k x m n t marks is none =
-    let chart = subst (λ (o : Option Kind). TakingMarksAt types o x m n) is marks in
-    let all = lost_by t chart.number (event_number t x.first.event) x.pieces (with_taken chart.number (event_number t x.first.event) m) n chart.pieces in
-    sym (all ∙ ap (λ (b : Bool). b || list_any is_loss x.pieces) none)
 
 -- the lines are those of the system
 pub lines_belong : (sys : System) (tick : ℕ) (ls : List Line) → All (IsLineAt sys tick) ls → All (BelongsTo sys) ls

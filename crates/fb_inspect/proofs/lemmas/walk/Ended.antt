@@ -5,7 +5,6 @@ use Rattle.std.specs.Io.KnownBytes.{Appends, Consumes, IsAtEnd}
 use Rattle.std.proofs.KnownBytes.{Appends-nil, Appends-trans}
 use Rattle.std.proofs.lemmas.List.Elements.{All-nil}
 use Rattle.fb_types.specs.Headline.{AreAccepted, Inputs, system_of}
-use Rattle.fb_types.specs.Names.{Name}
 use Rattle.fb_types.specs.Numbers.{line_of}
 use Rattle.fb_types.specs.Systems.{System}
 use Rattle.fb_types.specs.Text.{last_line, lines_text, trace_text}
@@ -22,6 +21,7 @@ use Rattle.fb_wave.specs.declared.truncation.Cut.{Cut}
 use Rattle.fb_wave.specs.declared.truncation.Cut.TheVariants as cut
 use Rattle.fb_wave.proofs.lemmas.Copied.{ends_after}
 use Rattle.fb_coverage.specs.declared.marks.Marks.{Marks}
+use Rattle.fb_inspect.specs.Selections.{Selection}
 use Rattle.fb_inspect.specs.Covering.{Covers, IsCovered, IsCoveredBy, IsCutCovered}
 use Rattle.fb_inspect.specs.Happenings.{History}
 use Rattle.fb_inspect.specs.Inspections.{IsCutInspected, IsCutShown, IsInspected, IsShown, IsShownBy, ShowsFront, all_text, cut_note, one_text}
@@ -40,20 +40,20 @@ use Rattle.fb_inspect.proofs.lemmas.lines.Severing.{cut_whole, on_some}
 
 -- ---- The end
 
-module _ (i : Inputs) (form : Form) (only : List Name) (steps : ℕ) (first : Marks) where
+module _ (i : Inputs) (form : Form) (what : Selection) (steps : ℕ) (first : Marks) where
   abbrev types_of : List BlockType
   types_of = i.library.blocks
 
   abbrev its_system : System
   its_system = system_of i
 
-  module _ (walk : Walk) (end : Outcome) (input remaining old mid : Option (List ℕ)) (complete : IsComplete types_of first its_system form only steps walk end input remaining old mid) where
+  module _ (walk : Walk) (end : Outcome) (input remaining old mid : Option (List ℕ)) (complete : IsComplete types_of first its_system form what steps walk end input remaining old mid) where
     abbrev its_lines : List ℕ
     its_lines = lines_text form its_system (map (line_of its_system) complete.gone.lines)
 
     inspected_as :
         (text : List ℕ) → text ≡ trace_text form its_system (map (line_of its_system) complete.gone.lines) (ending_of end)
-        → IsInspected its_system only steps text (all_text form its_system only complete.takings ++ last_line its_system (ending_of end))
+        → IsInspected its_system what steps text (all_text form its_system what complete.takings ++ last_line its_system (ending_of end))
     inspected_as text is = record {
       form = form;
       lines = complete.gone.lines;
@@ -83,33 +83,33 @@ module _ (i : Inputs) (form : Form) (only : List Name) (steps : ℕ) (first : Ma
             ∙ ap (λ (v : List ℕ). its_lines ++ v) complete.last.is)
 
     -- all was written
-    pub complete_shown : (new : Option (List ℕ)) → Finishes walk remaining mid new → IfSome input (λ text. IsShown its_system only steps text old new)
+    pub complete_shown : (new : Option (List ℕ)) → Finishes walk remaining mid new → IfSome input (λ text. IsShown its_system what steps text old new)
     complete_shown new finished =
-        of_text (λ text. IsShown its_system only steps text old new) finished.over
+        of_text (λ text. IsShown its_system what steps text old new) finished.over
         (λ text is. record {
-          bytes = all_text form its_system only complete.takings ++ last_line its_system (ending_of end);
+          bytes = all_text form its_system what complete.takings ++ last_line its_system (ending_of end);
           inspected = inspected_as text is;
           got = subst (Appends old new)
               (sym (append_assoc complete.gone.sent walk.trail.page.text.items walk.trail.reading.line.items)
               ∙ ap (λ (t : List ℕ). t ++ walk.trail.reading.line.items) complete.gone.text
-              ∙ ap (λ (t : List ℕ). all_text form its_system only complete.takings ++ t) complete.last.is)
+              ∙ ap (λ (t : List ℕ). all_text form its_system what complete.takings ++ t) complete.last.is)
               (Appends-trans old mid new complete.gone.sent (walk.trail.page.text.items ++ walk.trail.reading.line.items) complete.gone.got finished.got);
         })
 
     -- all was marked
-    pub complete_covered : IsAtEnd remaining → IfSome input (λ text. IsCovered i only steps text first walk.trail.marks)
+    pub complete_covered : IsAtEnd remaining → IfSome input (λ text. IsCovered i what steps text first walk.trail.marks)
     unfolding inspected_as
     complete_covered over =
-        of_text (λ text. IsCovered i only steps text first walk.trail.marks) over
+        of_text (λ text. IsCovered i what steps text first walk.trail.marks) over
         (λ text is. record {
-          bytes = all_text form its_system only complete.takings ++ last_line its_system (ending_of end);
+          bytes = all_text form its_system what complete.takings ++ last_line its_system (ending_of end);
           inspected = inspected_as text is;
           charts = complete.marked.charts;
           ports = complete.marked.ports;
         })
 
     -- a part was written
-    pub complete_part : (new : Option (List ℕ)) → SendsPart walk mid new → ShowsFront its_system only steps old new
+    pub complete_part : (new : Option (List ℕ)) → SendsPart walk mid new → ShowsFront its_system what steps old new
     complete_part new part = record {
       form = form;
       takings = complete.takings;
@@ -125,10 +125,10 @@ module _ (i : Inputs) (form : Form) (only : List Name) (steps : ℕ) (first : Ma
       appended = Appends-trans old mid new complete.gone.sent part.got complete.gone.got part.appended;
     }
 
-  module _ (walk : Walk) (input old mid : Option (List ℕ)) (off : IsSevered types_of first its_system form only walk input old mid) where
+  module _ (walk : Walk) (input old mid : Option (List ℕ)) (off : IsSevered types_of first its_system form what walk input old mid) where
     cut_inspected :
         (text : List ℕ) → IsCutAfter text (lines_text form its_system (map (line_of its_system) (off.lines ++ off.untaken)))
-        → IsCutInspected its_system only text (all_text form its_system only off.takings ++ (one_text form its_system only off.untaken ++ cut_note))
+        → IsCutInspected its_system what text (all_text form its_system what off.takings ++ (one_text form its_system what off.untaken ++ cut_note))
     cut_inspected text after = record {
       form = form;
       lines = off.lines;
@@ -143,42 +143,42 @@ module _ (i : Inputs) (form : Form) (only : List Name) (steps : ℕ) (first : Ma
     }
 
     -- all was written
-    pub severed_shown : (new : Option (List ℕ)) → FinishesCut walk mid new → IfSome input (λ text. IsCutShown its_system only text old new)
+    pub severed_shown : (new : Option (List ℕ)) → FinishesCut walk mid new → IfSome input (λ text. IsCutShown its_system what text old new)
     severed_shown new finished =
         on_some input _ _ off.rest
         (λ text after. record {
-          bytes = all_text form its_system only off.takings ++ (one_text form its_system only off.untaken ++ cut_note);
+          bytes = all_text form its_system what off.takings ++ (one_text form its_system what off.untaken ++ cut_note);
           inspected = cut_inspected text after;
           got = subst (Appends old new)
               (sym (append_assoc off.sent walk.trail.page.text.items cut_note)
               ∙ ap (λ (t : List ℕ). t ++ cut_note) off.text
-              ∙ append_assoc (all_text form its_system only off.takings) (one_text form its_system only off.untaken) cut_note)
+              ∙ append_assoc (all_text form its_system what off.takings) (one_text form its_system what off.untaken) cut_note)
               (Appends-trans old mid new off.sent (walk.trail.page.text.items ++ cut_note) off.got finished.got);
         })
 
     -- all was marked
-    pub severed_covered : IfSome input (λ text. IsCutCovered i only text first walk.trail.marks)
+    pub severed_covered : IfSome input (λ text. IsCutCovered i what text first walk.trail.marks)
     unfolding cut_inspected
     severed_covered =
         on_some input _ _ off.rest
         (λ text after. record {
-          bytes = all_text form its_system only off.takings ++ (one_text form its_system only off.untaken ++ cut_note);
+          bytes = all_text form its_system what off.takings ++ (one_text form its_system what off.untaken ++ cut_note);
           inspected = cut_inspected text after;
           charts = off.marked.charts;
           ports = off.marked.ports;
         })
 
     -- a part was written
-    pub severed_part : (new : Option (List ℕ)) → SendsCutPart walk mid new → ShowsFront its_system only steps old new
+    pub severed_part : (new : Option (List ℕ)) → SendsCutPart walk mid new → ShowsFront its_system what steps old new
     severed_part new part = record {
       form = form;
       takings = off.takings;
       taken = inl off.chain;
-      last = one_text form its_system only off.untaken ++ cut_note;
+      last = one_text form its_system what off.untaken ++ cut_note;
       ends = inr (inr (off.untaken, off.of_one, refl));
       got = off.sent ++ part.got;
       rest = part.rest;
-      parts = sym (append_assoc (all_text form its_system only off.takings) (one_text form its_system only off.untaken) cut_note)
+      parts = sym (append_assoc (all_text form its_system what off.takings) (one_text form its_system what off.untaken) cut_note)
           ∙ ap (λ (t : List ℕ). t ++ cut_note) (sym off.text)
           ∙ append_assoc off.sent walk.trail.page.text.items cut_note
           ∙ ap (λ (t : List ℕ). off.sent ++ t) part.parts
@@ -189,7 +189,7 @@ module _ (i : Inputs) (form : Form) (only : List Name) (steps : ℕ) (first : Ma
   -- a trace is cut off before its first line ends
   pub severed_none :
       (walk : Walk) (line : List ℕ) (input remaining old : Option (List ℕ)) → walk.trail.page.text.items ≡ [] → Consumes input remaining line → IsFirstLine line input
-      → is_unended line ≡ true → walk.trail.marks ≡ first → IsSevered types_of first its_system form only walk input old old
+      → is_unended line ≡ true → walk.trail.marks ≡ first → IsSevered types_of first its_system form what walk input old old
   severed_none walk line input remaining old empty read one short same = record {
     takings = [];
     goes_on = tt;
@@ -208,42 +208,42 @@ module _ (i : Inputs) (form : Form) (only : List Name) (steps : ℕ) (first : Ma
 
 -- where a trace may be cut off or not
 pub shown_whole :
-    (may : Cut) (sys : System) (only : List Name) (steps : ℕ) (input old new : Option (List ℕ)) → IfSome input (λ text. IsShown sys only steps text old new)
-    → IfSome input (λ text. IsShownBy may sys only steps text old new)
-shown_whole cut.Refused sys only steps input old new shown = shown
-shown_whole cut.Allowed sys only steps input old new shown = on_some input _ _ shown (λ text is. inl is)
+    (may : Cut) (sys : System) (what : Selection) (steps : ℕ) (input old new : Option (List ℕ)) → IfSome input (λ text. IsShown sys what steps text old new)
+    → IfSome input (λ text. IsShownBy may sys what steps text old new)
+shown_whole cut.Refused sys what steps input old new shown = shown
+shown_whole cut.Allowed sys what steps input old new shown = on_some input _ _ shown (λ text is. inl is)
 
 pub shown_cut :
-    (may : Cut) (sys : System) (only : List Name) (steps : ℕ) (input old new : Option (List ℕ)) → may ≡ cut.Allowed → IfSome input (λ text. IsCutShown sys only text old new)
-    → IfSome input (λ text. IsShownBy may sys only steps text old new)
-shown_cut cut.Refused sys only steps input old new same shown = absurd (cc)
-shown_cut cut.Allowed sys only steps input old new same shown = on_some input _ _ shown (λ text is. inr is)
+    (may : Cut) (sys : System) (what : Selection) (steps : ℕ) (input old new : Option (List ℕ)) → may ≡ cut.Allowed → IfSome input (λ text. IsCutShown sys what text old new)
+    → IfSome input (λ text. IsShownBy may sys what steps text old new)
+shown_cut cut.Refused sys what steps input old new same shown = absurd (cc)
+shown_cut cut.Allowed sys what steps input old new same shown = on_some input _ _ shown (λ text is. inr is)
 
 -- what is covered, whatever is shown of it, next to marks by another name
 covers_by :
-    (may : Cut) (i : Inputs) → AreAccepted i → (only : List Name) (steps : ℕ) (text : List ℕ) (first last : Marks) (extent : Extent) → IsCoveredBy may i only steps text first last extent
+    (may : Cut) (i : Inputs) → AreAccepted i → (what : Selection) (steps : ℕ) (text : List ℕ) (first last : Marks) (extent : Extent) → IsCoveredBy may i what steps text first last extent
     → Covers may i steps text first last extent
-covers_by may i accepted only steps text first last Whole covered =
+covers_by may i accepted what steps text first last Whole covered =
     let h : History = record { takings = covered.inspected.takings; lines = covered.inspected.lines } in
-    record { only = only; history = h; goes = (covered.bytes, covered.inspected, refl); marked = marked_by i accepted h first last covered.charts covered.ports }
-covers_by may i accepted only steps text first last CutOff (allowed, covered) =
+    record { what = what; history = h; goes = (covered.bytes, covered.inspected, refl); marked = marked_by i accepted h first last covered.charts covered.ports }
+covers_by may i accepted what steps text first last CutOff (allowed, covered) =
     let h : History = record { takings = covered.inspected.takings; lines = covered.inspected.lines } in
-    record { only = only; history = h; goes = (allowed, covered.bytes, covered.inspected, refl); marked = marked_by i accepted h first last covered.charts covered.ports }
+    record { what = what; history = h; goes = (allowed, covered.bytes, covered.inspected, refl); marked = marked_by i accepted h first last covered.charts covered.ports }
 
 pub covers_of :
-    (may : Cut) (i : Inputs) → AreAccepted i → (only : List Name) (steps : ℕ) (known : Option (List ℕ)) (own first last : Marks) (extent : Extent) → own ≡ first
-    → IfSome known (λ text. IsCoveredBy may i only steps text own last extent) → IfSome known (λ text. Covers may i steps text first last extent)
-covers_of may i accepted only steps known own first last extent same is =
+    (may : Cut) (i : Inputs) → AreAccepted i → (what : Selection) (steps : ℕ) (known : Option (List ℕ)) (own first last : Marks) (extent : Extent) → own ≡ first
+    → IfSome known (λ text. IsCoveredBy may i what steps text own last extent) → IfSome known (λ text. Covers may i steps text first last extent)
+covers_of may i accepted what steps known own first last extent same is =
     on_some known _ _ is
-    (λ text covered. covers_by may i accepted only steps text first last extent (subst (λ (m : Marks). IsCoveredBy may i only steps text m last extent) same covered))
+    (λ text covered. covers_by may i accepted what steps text first last extent (subst (λ (m : Marks). IsCoveredBy may i what steps text m last extent) same covered))
 
 -- ---- Faults
 
 -- what the writer got is the front of what is shown of the takings that were gone through
 pub front_gone :
-    (sys : System) (form : Form) (only : List Name) (steps : ℕ) (walk : Walk) (takings : List Taking) (input remaining old new : Option (List ℕ))
-    → IsGone sys form only steps walk takings input remaining old new → ShowsFront sys only steps old new
-front_gone sys form only steps walk takings input remaining old new gone = record {
+    (sys : System) (form : Form) (what : Selection) (steps : ℕ) (walk : Walk) (takings : List Taking) (input remaining old new : Option (List ℕ))
+    → IsGone sys form what steps walk takings input remaining old new → ShowsFront sys what steps old new
+front_gone sys form what steps walk takings input remaining old new gone = record {
   form = form;
   takings = takings;
   taken = gone.taken;
@@ -251,15 +251,15 @@ front_gone sys form only steps walk takings input remaining old new gone = recor
   ends = inl refl;
   got = gone.sent;
   rest = walk.trail.page.text.items;
-  parts = append-nil (all_text form sys only takings) ∙ sym gone.text;
+  parts = append-nil (all_text form sys what takings) ∙ sym gone.text;
   appended = gone.got;
 }
 
 -- the same, where a part of what waits was sent after it
 pub front_flush :
-    (sys : System) (form : Form) (only : List Name) (steps : ℕ) (walk : Walk) (takings : List Taking) (input remaining old mid new : Option (List ℕ)) (fault : PageFault)
-    → IsGone sys form only steps walk takings input remaining old mid → IsCutShort mid new walk.trail.page fault → ShowsFront sys only steps old new
-front_flush sys form only steps walk takings input remaining old mid new fault gone short = record {
+    (sys : System) (form : Form) (what : Selection) (steps : ℕ) (walk : Walk) (takings : List Taking) (input remaining old mid new : Option (List ℕ)) (fault : PageFault)
+    → IsGone sys form what steps walk takings input remaining old mid → IsCutShort mid new walk.trail.page fault → ShowsFront sys what steps old new
+front_flush sys form what steps walk takings input remaining old mid new fault gone short = record {
   form = form;
   takings = takings;
   taken = gone.taken;
@@ -267,13 +267,13 @@ front_flush sys form only steps walk takings input remaining old mid new fault g
   ends = inl refl;
   got = gone.sent ++ short.sent;
   rest = short.missing;
-  parts = append-nil (all_text form sys only takings) ∙ sym gone.text ∙ ap (λ (t : List ℕ). gone.sent ++ t) short.parts ∙ sym (append_assoc gone.sent short.sent short.missing);
+  parts = append-nil (all_text form sys what takings) ∙ sym gone.text ∙ ap (λ (t : List ℕ). gone.sent ++ t) short.parts ∙ sym (append_assoc gone.sent short.sent short.missing);
   appended = Appends-trans old mid new gone.sent short.sent gone.got short.got;
 }
 
 -- The writer got nothing, since nothing was gone through.
-pub front_none : (sys : System) (only : List Name) (steps : ℕ) (old : Option (List ℕ)) → ShowsFront sys only steps old old
-front_none sys only steps old = record {
+pub front_none : (sys : System) (what : Selection) (steps : ℕ) (old : Option (List ℕ)) → ShowsFront sys what steps old old
+front_none sys what steps old = record {
   form = One;
   takings = [];
   taken = inl tt;
@@ -307,9 +307,9 @@ some_text (Some rest) line = (Some (line ++ rest), refl)
 
 -- a walk that was begun starts with a line that was judged
 pub starts_of :
-    (sys : System) (form : Form) (only : List Name) (marks : Marks) (reading : Reading) (walk : Walk) → Begins sys only marks reading walk → IsNext sys form 0 reading.line.items reading.next
-    → reading.number ≡ 1 → Starts sys form only walk
-starts_of sys form only marks reading walk begins next number = record {
+    (sys : System) (form : Form) (what : Selection) (marks : Marks) (reading : Reading) (walk : Walk) → Begins sys what marks reading walk → IsNext sys form 0 reading.line.items reading.next
+    → reading.number ≡ 1 → Starts sys form what walk
+starts_of sys form what marks reading walk begins next number = record {
   blocks = begins.blocks;
   steps = begins.steps;
   shown = begins.shown;

@@ -3,7 +3,6 @@ use Rattle.std.proofs.Common.{◌≡◌, ◌≤◌, ◌⊎◌, ℕ, ◌+◌, Lis
 use Rattle.std.specs.Prelude.{IfOk}
 use Rattle.std.specs.Global.{Vec}
 use Rattle.std.specs.Io.KnownBytes.{Consumes, prepend_known}
-use Rattle.fb_types.specs.Names.{Name}
 use Rattle.fb_types.specs.Systems.{System}
 use Rattle.fb_types.specs.declared.library.BlockType.{BlockType}
 use Rattle.fb_types.specs.declared.run.Form.{Form}
@@ -12,6 +11,7 @@ use Rattle.fb_types.specs.declared.value.Reason.{Reason}
 use Rattle.fb_types.specs.declared.value.Reason.TheVariants.{Steps}
 use Rattle.fb_trace.specs.declared.last.Outcome.{Outcome}
 use Rattle.fb_coverage.specs.declared.marks.Marks.{Marks}
+use Rattle.fb_inspect.specs.Selections.{Selection}
 use Rattle.fb_inspect.specs.Inspections.{KeepSteps, limited}
 use Rattle.fb_inspect.specs.walk.Lines.{IsNext}
 use Rattle.fb_inspect.specs.walk.Looks.{Left, Look, left_at, most}
@@ -192,10 +192,10 @@ step_over types sys form steps look old new line ahead remaining rest CutOff is 
 
 -- a trace is cut off, whatever the next line is then
 pub severed_next :
-    (types : List BlockType) (first : Marks) (sys : System) (form : Form) (only : List Name) (w : Walk) (after : Next) (input old mid : Option (List ℕ))
-    → IsSevered types first sys form only w input old mid
-    → IsSevered types first sys form only (record w { trail = record (w.trail) { reading = record (w.trail.reading) { next = after } } }) input old mid
-severed_next types first sys form only w after input old mid off = record {
+    (types : List BlockType) (first : Marks) (sys : System) (form : Form) (what : Selection) (w : Walk) (after : Next) (input old mid : Option (List ℕ))
+    → IsSevered types first sys form what w input old mid
+    → IsSevered types first sys form what (record w { trail = record (w.trail) { reading = record (w.trail.reading) { next = after } } }) input old mid
+severed_next types first sys form what w after input old mid off = record {
   takings = off.takings;
   goes_on = off.goes_on;
   chain = off.chain;

@@ -1,14 +1,13 @@
 -- One step of a walk, by one event or to the end of the trace.
 use Rattle.std.proofs.Common.{◌≡◌, ◌<◌, ◌≤◌, ◌⊎◌, ℕ, ◌+◌, ◌-◌, ◌==◌, Bool, true, false, List, [], ◌∷◌, ◌++◌, length, map, Option, Some, None, refl, sym, ◌∙◌, ap, subst, inl, inr, append_assoc, append-nil, arith}
 use Rattle.std.specs.Prelude.{All, IfSome, if◌then◌else◌, slice_get, slice_set}
-use Rattle.std.specs.Global.{Vec}
+use Rattle.std.specs.List.{list_any}
 use Rattle.std.specs.Io.KnownBytes.{Consumes, prepend_known}
 use Rattle.std.proofs.Math.ListN.{length-set}
 use Rattle.std.proofs.lemmas.Bool.{false_from_ne_true}
 use Rattle.std.proofs.lemmas.Bool.Decides.{nat_tests}
 use Rattle.std.proofs.lemmas.List.{map-append}
 use Rattle.std.proofs.lemmas.List.Elements.{All-append, All-cons}
-use Rattle.fb_types.specs.Names.{Name}
 use Rattle.fb_types.specs.Numbers.{line_of, path_at}
 use Rattle.fb_types.specs.Simulation.{AtStop}
 use Rattle.fb_types.specs.States as model
@@ -30,13 +29,16 @@ use Rattle.fb_wave.specs.Lines.{IsLast, IsLineOf, IsTextOf}
 use Rattle.fb_coverage.specs.declared.marks.Marks.{Marks}
 use Rattle.fb_net.proofs.Others.{get_set_other, get_set_same}
 use Rattle.fb_inspect.specs.walk.Counted.{left_of}
-use Rattle.fb_inspect.specs.Inspections.{AreLimited, AreTaken, AreTakings, EndsBySteps, EndsByStop, EndsSo, KeepSteps, KeepsLimit, NoneStops, RunsOut, all_text, is_kept, last_look, limited, stop_of}
+use Rattle.fb_inspect.specs.Inspections.{AreLimited, AreTaken, AreTakings, EndsBySteps, EndsByStop, EndsSo, KeepSteps, KeepsLimit, NoneStops, RunsOut, all_text, last_look, limited, stop_of}
+use Rattle.fb_inspect.specs.Selections.{Selection, is_shown_at}
+use Rattle.fb_inspect.specs.walk.Chains.{is_loss}
 use Rattle.fb_inspect.specs.walk.Lines.{IsNext, IsNextLine}
 use Rattle.fb_inspect.specs.Markings.{TakingMarks}
 use Rattle.fb_inspect.specs.walk.Looks.{IsTaking, Left, Look, Taking, left_at, most, opening_look, taking_text}
 use Rattle.fb_inspect.specs.walk.Moves.{Goes, IsLineAt, shown_text}
 use Rattle.fb_inspect.specs.walk.Stepping.{EndsAfter, IsStopped, IsUsedUp, LineGoes, stop_at}
-use Rattle.fb_inspect.specs.walk.Walking.{AreCutOff, AreMarked, HasAdvanced, HasCovered, HasLimited, IsComplete, IsCutAfter, IsGone, IsLookOf, IsReadOn, IsSevered, MayEnd, WalkTakes, flag_at}
+use Rattle.fb_inspect.specs.walk.Walking.{AreCutOff, AreMarked, HasAdvanced, HasCovered, HasLimited, IsComplete, IsCutAfter, IsGone, IsLookOf, IsReadOn, IsSevered, MayEnd, WalkTakes, may_show, shows}
+use Rattle.fb_inspect.specs.declared.filter.Shown.{Shown}
 use Rattle.fb_inspect.specs.declared.walk.ahead.Ahead.{Ahead}
 use Rattle.fb_inspect.specs.declared.walk.blocks.Remembered.{Remembered}
 use Rattle.fb_inspect.specs.declared.walk.reading.Next.{Next}
@@ -46,7 +48,7 @@ use Rattle.fb_inspect.specs.declared.walk.trail.Trail.{Trail}
 use Rattle.fb_inspect.specs.declared.walk.Step.{Step}
 use Rattle.fb_inspect.specs.declared.walk.Step.TheVariants.{Taken, Ended, CutOff}
 use Rattle.fb_inspect.specs.declared.walk.Walk.{Walk}
-use Rattle.fb_inspect.proofs.lemmas.walk.WalkedTakings.{chain_more, each_of, gone_more, last_is, look_more, more_marked, none_more, nothing, rise_more, shown_if, stop_by, stop_more}
+use Rattle.fb_inspect.proofs.lemmas.walk.WalkedTakings.{chain_more, each_of, gone_more, last_is, look_more, more_marked, none_more, nothing, rise_more, shown_if, shows_is, stop_by, stop_more}
 use Rattle.fb_inspect.proofs.lemmas.lines.Moving.{lines-append, next_line}
 use Rattle.fb_inspect.proofs.lemmas.walk.Walked.{one_or_other}
 
@@ -257,8 +259,8 @@ module _ (types : List BlockType) (sys : System) (form : Form) (limit : ℕ) (lo
     shown_are = goes.shown_are ∙ shown;
     lines = goes.lines;
     lines_are = goes.lines_are;
-    goes = subst (λ (t : Trail). Goes sys form line.key.tick goes.lines (shown_text (flag_at old.shown.items line.instance) (taking_text form sys goes.taking)) (record t { is_shown = flag_at old.shown.items line.instance }) new.trail remaining rest) trail
-        (subst (λ (v : Vec Bool). Goes sys form line.key.tick goes.lines (shown_text (flag_at v.items line.instance) (taking_text form sys goes.taking)) (record (mid.trail) { is_shown = flag_at v.items line.instance }) new.trail remaining rest) shown
+    goes = subst (λ (t : Trail). Goes sys form line.key.tick goes.lines (shown_text (shows old.shown line (list_any is_loss goes.taking.pieces)) (taking_text form sys goes.taking)) (record t { is_shown = may_show old.shown line }) new.trail remaining rest) trail
+        (subst (λ (v : Shown). Goes sys form line.key.tick goes.lines (shown_text (shows v line (list_any is_loss goes.taking.pieces)) (taking_text form sys goes.taking)) (record (mid.trail) { is_shown = may_show v line }) new.trail remaining rest) shown
         goes.goes);
     marked = subst (λ (t : Trail). TakingMarks types sys goes.taking t.marks.charts new.trail.marks.charts) trail goes.marked;
   }
@@ -291,12 +293,12 @@ filled_on text new o n none filled = record {
 pub same_on : (o : Option (List ℕ)) → IsReadOn o o
 same_on o = record { after = λ known bytes read. read; before = λ rest bytes read. read }
 
-module _ (types : List BlockType) (first : Marks) (sys : System) (form : Form) (only : List Name) (steps : ℕ) where
+module _ (types : List BlockType) (first : Marks) (sys : System) (form : Form) (what : Selection) (steps : ℕ) where
   -- what is left to go through may be read ahead
   pub reread_on :
       (w : Walk) (known r s old mid : Option (List ℕ)) → ((bytes : List ℕ) → Consumes known r bytes → Consumes known s bytes)
-      → (covered : HasCovered types first sys form only steps w known r old mid) (t : ℕ) → last_tick 0 covered.gone.gone.lines ≤ t
-      → (c : HasCovered types first sys form only steps w known s old mid) × (last_tick 0 c.gone.gone.lines ≤ t)
+      → (covered : HasCovered types first sys form what steps w known r old mid) (t : ℕ) → last_tick 0 covered.gone.gone.lines ≤ t
+      → (c : HasCovered types first sys form what steps w known s old mid) × (last_tick 0 c.gone.gone.lines ≤ t)
   reread_on w known r s old mid on covered t later =
       let gone = covered.gone.gone in (
         record {
@@ -326,9 +328,9 @@ module _ (types : List BlockType) (first : Marks) (sys : System) (form : Form) (
 
   -- what is known of a walk does not depend on what the next line is
   pub bad_on :
-      (w : Walk) (bad : Next) (known r old mid : Option (List ℕ)) → bad ≡ next.Bad → (covered : HasCovered types first sys form only steps w known r old mid) (t : ℕ)
+      (w : Walk) (bad : Next) (known r old mid : Option (List ℕ)) → bad ≡ next.Bad → (covered : HasCovered types first sys form what steps w known r old mid) (t : ℕ)
       → last_tick 0 covered.gone.gone.lines ≤ t
-      → (c : HasCovered types first sys form only steps (record w { trail = record (w.trail) { reading = record (w.trail.reading) { next = bad } } }) known r old mid)
+      → (c : HasCovered types first sys form what steps (record w { trail = record (w.trail) { reading = record (w.trail.reading) { next = bad } } }) known r old mid)
       × (last_tick 0 c.gone.gone.lines ≤ t)
   bad_on w bad known r old mid is covered t later =
       let gone = covered.gone.gone in (
@@ -358,8 +360,8 @@ module _ (types : List BlockType) (first : Marks) (sys : System) (form : Form) (
       )
 
   pub complete_bad :
-      (w : Walk) (bad : Next) (end : Outcome) (known r old mid : Option (List ℕ)) → IsComplete types first sys form only steps w end known r old mid
-      → IsComplete types first sys form only steps (record w { trail = record (w.trail) { reading = record (w.trail.reading) { next = bad } } }) end known r old mid
+      (w : Walk) (bad : Next) (end : Outcome) (known r old mid : Option (List ℕ)) → IsComplete types first sys form what steps w end known r old mid
+      → IsComplete types first sys form what steps (record w { trail = record (w.trail) { reading = record (w.trail.reading) { next = bad } } }) end known r old mid
   complete_bad w bad end known r old mid complete =
       let gone = complete.gone in
       record {
@@ -382,14 +384,14 @@ module _ (types : List BlockType) (first : Marks) (sys : System) (form : Form) (
         marked = complete.marked;
       }
 
-  module _ (w : Walk) (input remaining old mid : Option (List ℕ)) (covered : HasCovered types first sys form only steps w input remaining old mid) where
+  module _ (w : Walk) (input remaining old mid : Option (List ℕ)) (covered : HasCovered types first sys form what steps w input remaining old mid) where
     abbrev seen_last : Look
     seen_last = last_look (opening_look sys) covered.gone.takings
 
     -- the last line comes where no taking stopped its resource
     pub ended_here :
         (end : Outcome) → IsNext sys form (last_tick 0 covered.gone.gone.lines) w.trail.reading.line.items (next.End end) → MayEnd sys steps seen_last (ending_of end)
-        → IsComplete types first sys form only steps w end input remaining old mid
+        → IsComplete types first sys form what steps w end input remaining old mid
     ended_here end here may = record {
       takings = covered.gone.takings;
       gone = covered.gone.gone;
@@ -407,17 +409,17 @@ module _ (types : List BlockType) (first : Marks) (sys : System) (form : Form) (
         chained : AreTakings sys most (opening_look sys) (covered.gone.takings ++ goes.taking ∷ [])
         chained = chain_more sys most (opening_look sys) covered.gone.takings goes.taking covered.gone.chain covered.gone.goes_on goes.is_taking
 
-        more : IsGone sys form only steps done (covered.gone.takings ++ goes.taking ∷ []) input rest old mid
-        more = gone_more sys form only steps types w done covered.gone.takings line stop input remaining rest old mid covered.gone.gone later within most seen_last goes (inl chained)
+        more : IsGone sys form what steps done (covered.gone.takings ++ goes.taking ∷ []) input rest old mid
+        more = gone_more sys form what steps types w done covered.gone.takings line stop input remaining rest old mid covered.gone.gone later within most seen_last goes (inl chained)
 
         tick_is : last_tick 0 (covered.gone.gone.lines ++ goes.lines) ≡ line.key.tick
-        tick_is = last_is sys form only steps types w done covered.gone.takings line stop input remaining rest old mid covered.gone.gone later within most seen_last goes (inl chained)
+        tick_is = last_is sys form what steps types w done covered.gone.takings line stop input remaining rest old mid covered.gone.gone later within most seen_last goes (inl chained)
 
         marks_are : AreMarked types sys (covered.gone.takings ++ goes.taking ∷ []) (covered.gone.gone.lines ++ goes.lines) first done.trail.marks
-        marks_are = more_marked sys form only steps types w done covered.gone.takings line stop input remaining rest old mid covered.gone.gone later within most seen_last goes (inl chained) first covered.marked
+        marks_are = more_marked sys form what steps types w done covered.gone.takings line stop input remaining rest old mid covered.gone.gone later within most seen_last goes (inl chained) first covered.marked
 
         -- one more event is taken
-        taken_on : stop ≡ None → IsNext sys form line.key.tick done.trail.reading.line.items done.trail.reading.next → HasCovered types first sys form only steps done input rest old mid
+        taken_on : stop ≡ None → IsNext sys form line.key.tick done.trail.reading.line.items done.trail.reading.next → HasCovered types first sys form what steps done input rest old mid
         unfolding more gone_more
         taken_on goes_on next_is = record {
           gone = record {
@@ -434,7 +436,7 @@ module _ (types : List BlockType) (first : Marks) (sys : System) (form : Form) (
         -- one more event is taken, and a reason other than the steps stops its resource
         stopped_on :
             (r : Reason) → stop ≡ Some r → (r ≡ Steps → ⊥) → IsLast sys done.trail.reading.line.items (stop_at line r) → IsAfter line.key.tick (stop_at line r)
-            → IsComplete types first sys form only steps done (stop_at line r) input rest old mid
+            → IsComplete types first sys form what steps done (stop_at line r) input rest old mid
         unfolding more gone_more
         stopped_on r stops other last after =
             let it = covered.gone.takings ++ goes.taking ∷ [] in
@@ -451,7 +453,7 @@ module _ (types : List BlockType) (first : Marks) (sys : System) (form : Form) (
       ran_out_on :
           (done : Walk) (stop : Option Reason) (rest : Option (List ℕ)) (goes : WalkTakes types sys form steps (limited steps line.key.tick line.key.resource seen_last) line stop w done remaining rest)
           → KeepSteps sys steps seen_last → KeepsLimit steps line.key.tick line.key.resource seen_last → RunsOut steps line.key.tick line.key.resource (limited steps line.key.tick line.key.resource seen_last) (goes.taking ∷ [])
-          → IsLast sys done.trail.reading.line.items (stop_at line Steps) → IsAfter line.key.tick (stop_at line Steps) → IsComplete types first sys form only steps done (stop_at line Steps) input rest old mid
+          → IsLast sys done.trail.reading.line.items (stop_at line Steps) → IsAfter line.key.tick (stop_at line Steps) → IsComplete types first sys form what steps done (stop_at line Steps) input rest old mid
       unfolding gone_more
       ran_out_on done stop rest goes kept within_limit out last after =
           let so = last_limited sys steps covered.gone.takings covered.gone.chain covered.gone.goes_on goes.taking line goes.first_is kept within_limit goes.is_taking in
@@ -459,34 +461,34 @@ module _ (types : List BlockType) (first : Marks) (sys : System) (form : Form) (
           let look : Look = limited steps line.key.tick line.key.resource seen_last in
           record {
             takings = covered.gone.takings ++ goes.taking ∷ [];
-            gone = gone_more sys form only steps types w done covered.gone.takings line stop input remaining rest old mid covered.gone.gone later within steps look goes taken;
+            gone = gone_more sys form what steps types w done covered.gone.takings line stop input remaining rest old mid covered.gone.gone later within steps look goes taken;
             ends = ends_used sys steps covered.gone.takings covered.gone.chain covered.gone.goes_on goes.taking line goes.first_is kept within_limit goes.is_taking out;
             last = last;
             after = subst (λ (t : ℕ). IsAfter t (stop_at line Steps))
-                (sym (last_is sys form only steps types w done covered.gone.takings line stop input remaining rest old mid covered.gone.gone later within steps look goes taken)) after;
-            marked = more_marked sys form only steps types w done covered.gone.takings line stop input remaining rest old mid covered.gone.gone later within steps look goes taken first covered.marked;
+                (sym (last_is sys form what steps types w done covered.gone.takings line stop input remaining rest old mid covered.gone.gone later within steps look goes taken)) after;
+            marked = more_marked sys form what steps types w done covered.gone.takings line stop input remaining rest old mid covered.gone.gone later within steps look goes taken first covered.marked;
           }
 
       -- one more event is taken, and the trace ends after it
       ended_on :
           (done : Walk) (end : Outcome) (rest : Option (List ℕ)) → EndsAfter types sys form steps seen_last line end w done remaining rest
-          → IsComplete types first sys form only steps done end input rest old mid
+          → IsComplete types first sys form what steps done end input rest old mid
       ended_on done end rest ends = by ends.how
         where
           by :
               IsStopped types sys form seen_last line end w done remaining rest ⊎ IsUsedUp types sys form steps seen_last line end w done remaining rest
-              → IsComplete types first sys form only steps done end input rest old mid
+              → IsComplete types first sys form what steps done end input rest old mid
           by (inl x) =
-              subst (λ (e : Outcome). IsLast sys done.trail.reading.line.items e → IsAfter line.key.tick e → IsComplete types first sys form only steps done e input rest old mid) (sym x.is)
+              subst (λ (e : Outcome). IsLast sys done.trail.reading.line.items e → IsAfter line.key.tick e → IsComplete types first sys form what steps done e input rest old mid) (sym x.is)
               (stopped_on done (Some x.reason) rest x.goes x.reason refl x.other) ends.last ends.after
           by (inr x) =
-              subst (λ (e : Outcome). IsLast sys done.trail.reading.line.items e → IsAfter line.key.tick e → IsComplete types first sys form only steps done e input rest old mid) (sym x.is)
+              subst (λ (e : Outcome). IsLast sys done.trail.reading.line.items e → IsAfter line.key.tick e → IsComplete types first sys form what steps done e input rest old mid) (sym x.is)
               (ran_out_on done x.stop rest x.goes x.kept x.within x.out) ends.last ends.after
 
       -- the step that a walk makes with the line, where the trace is not cut off
       pub advanced_on :
           (done : Walk) (ahead : Ahead) (rest : Option (List ℕ)) (step : Step) → (step ≡ CutOff → ⊥) → LineGoes types sys form steps seen_last line w done ahead remaining rest step
-          → HasAdvanced types first sys form only steps done input rest old mid step
+          → HasAdvanced types first sys form what steps done input rest old mid step
       advanced_on done ahead rest Taken whole goes = taken_on done None rest goes.goes refl goes.next
       advanced_on done ahead rest (Ended end) whole goes = ended_on done end rest goes
       advanced_on done ahead rest CutOff whole goes = absurd (whole refl)
@@ -494,13 +496,13 @@ module _ (types : List BlockType) (first : Marks) (sys : System) (form : Form) (
       -- the trace is cut off in the lines after it
       pub severed_on :
           (done : Walk) (rows : List Line) (text : List ℕ) → AreCutOff sys form line rows text remaining → done.trail.marks ≡ w.trail.marks
-          → done.trail.page.text.items ≡ w.trail.page.text.items ++ shown_text (flag_at w.shown.items line.instance) (w.trail.reading.line.items ++ text)
-          → IsSevered types first sys form only done input old mid
+          → done.trail.page.text.items ≡ w.trail.page.text.items ++ shown_text (shows w.shown line false) (w.trail.reading.line.items ++ text)
+          → IsSevered types first sys form what done input old mid
       severed_on done rows text off marks_same put =
           let gone = covered.gone.gone in
           let all : List Line = line ∷ rows in
           let L : List ℕ = lines_text form sys (map (line_of sys) gone.lines) in
-          let flag : Bool = flag_at w.shown.items line.instance in
+          let flag : Bool = shows w.shown line false in
           let own : w.trail.reading.line.items ++ text ≡ lines_text form sys (map (line_of sys) all) =
           ap (λ (t : List ℕ). t ++ text) is.is ∙ ap (λ (t : List ℕ). line_text form sys (line_of sys line) ++ t) off.is in
           let whole : lines_text form sys (map (line_of sys) (gone.lines ++ all)) ≡ L ++ (w.trail.reading.line.items ++ text) =
@@ -524,9 +526,9 @@ module _ (types : List BlockType) (first : Marks) (sys : System) (form : Form) (
             text = ap (λ (t : List ℕ). gone.sent ++ t) put
                 ∙ sym (append_assoc gone.sent w.trail.page.text.items (shown_text flag (w.trail.reading.line.items ++ text)))
                 ∙ ap (λ (t : List ℕ). t ++ shown_text flag (w.trail.reading.line.items ++ text)) gone.text
-                ∙ ap (λ (t : List ℕ). all_text form sys only covered.gone.takings ++ shown_text flag t) own
-                ∙ ap (λ (t : List ℕ). all_text form sys only covered.gone.takings ++ t)
-                (shown_if (is_kept only (path_at sys line.instance)) flag (lines_text form sys (map (line_of sys) all)) (gone.shown line.instance within));
+                ∙ ap (λ (t : List ℕ). all_text form sys what covered.gone.takings ++ shown_text flag t) own
+                ∙ ap (λ (t : List ℕ). all_text form sys what covered.gone.takings ++ t)
+                (shown_if (is_shown_at what (path_at sys line.instance) line.key.tick []) flag (lines_text form sys (map (line_of sys) all)) (shows_is sys what w.shown line [] gone.shown within));
             marked = subst (AreMarked types sys covered.gone.takings gone.lines first) (sym marks_same) covered.marked;
           }
         where

@@ -4,7 +4,6 @@ use Rattle.std.specs.Prelude.{IfSome}
 use Rattle.std.specs.Io.BufRead.{take_through}
 use Rattle.std.specs.Io.KnownBytes.{Consumes}
 use Rattle.std.proofs.lemmas.List.Elements.{All-nil}
-use Rattle.fb_types.specs.Names.{Name}
 use Rattle.fb_types.specs.Numbers.{line_of}
 use Rattle.fb_types.specs.Systems.{System}
 use Rattle.fb_types.specs.Text.{lines_text}
@@ -15,6 +14,7 @@ use Rattle.fb_trace.specs.declared.last.Outcome.{Outcome}
 use Rattle.fb_coverage.specs.declared.marks.Marks.{Marks}
 use Rattle.fb_wave.specs.Dumps.{last_tick}
 use Rattle.fb_wave.specs.Lines.{IsLineOf}
+use Rattle.fb_inspect.specs.Selections.{Selection}
 use Rattle.fb_inspect.specs.walk.Lines.{IsNext}
 use Rattle.fb_inspect.specs.walk.Looks.{Taking, opening_look}
 use Rattle.fb_inspect.specs.Refusals.{IsWrongAt}
@@ -64,9 +64,9 @@ well_opens sys form steps w a rest text look number next empty begins =
     some (y ∷ ys) x e = cc
 
 pub well_first :
-    (sys : System) (form : Form) (only : List Name) (steps : ℕ) (w : Walk) (a : Ahead) (rest text : List ℕ) → Starts sys form only w → a.text.items ≡ []
+    (sys : System) (form : Form) (what : Selection) (steps : ℕ) (w : Walk) (a : Ahead) (rest text : List ℕ) → Starts sys form what w → a.text.items ≡ []
     → BeginsText sys form w.trail.reading.line.items a.watched.is_excess rest text → StandsWell sys form steps w a rest text
-well_first sys form only steps w a rest text starts empty begins =
+well_first sys form what steps w a rest text starts empty begins =
     well_opens sys form steps w a rest text (record { are = starts.blocks; counts = starts.steps.all; lefts = λ r s at. sym (starts.steps.each r s at) }) starts.first starts.next empty begins
 
 -- a part of what waited was sent
@@ -77,10 +77,10 @@ well_flushed sys form steps w page a rest text well = record { takings = well.ta
 
 -- more than the last line is left
 pub after_last :
-    (types : List BlockType) (first : Marks) (sys : System) (form : Form) (only : List Name) (steps : ℕ) (w : Walk) (end : Outcome) (text : List ℕ) (remaining old mid : Option (List ℕ)) (n : ℕ)
-    → IsComplete types first sys form only steps w end (Some text) remaining old mid → n ≡ w.trail.reading.number + 1 → IfSome remaining (λ rest. 0 < length rest) → IsWrongAt sys steps n text
-after_last types first sys form only steps w end text None old mid n complete number more = absurd complete.gone.read
-after_last types first sys form only steps w end text (Some rest) old mid n complete number more =
+    (types : List BlockType) (first : Marks) (sys : System) (form : Form) (what : Selection) (steps : ℕ) (w : Walk) (end : Outcome) (text : List ℕ) (remaining old mid : Option (List ℕ)) (n : ℕ)
+    → IsComplete types first sys form what steps w end (Some text) remaining old mid → n ≡ w.trail.reading.number + 1 → IfSome remaining (λ rest. 0 < length rest) → IsWrongAt sys steps n text
+after_last types first sys form what steps w end text None old mid n complete number more = absurd complete.gone.read
+after_last types first sys form what steps w end text (Some rest) old mid n complete number more =
     let counted = complete.gone.numbered in
     inr
     (record {

@@ -1,8 +1,10 @@
 -- One taking of a walk through a trace, from the reaction of one instance.
 use Rattle.std.proofs.Common.{◌≡◌, ◌≢◌, ◌<◌, ◌≤◌, ◌^◌, ℕ, min, suc, Bool, true, false, List, [], ◌∷◌, ◌++◌, length, Option, Some, None, refl, sym, ◌∙◌, ap, subst, inl, inr, append-nil, arith}
-use Rattle.std.specs.Prelude.{◌==◌, if◌then◌else◌, slice_get, slice_set}
+use Rattle.std.specs.Prelude.{◌==◌, ◌&&◌, if◌then◌else◌, slice_get, slice_set, take}
+use Rattle.std.specs.List.{list_any}
 use Rattle.std.proofs.Math.ListN.{length-set}
 use Rattle.std.proofs.lemmas.Bool.{false_from_ne_true}
+use Rattle.std.proofs.lemmas.List.{take_at}
 use Rattle.std.proofs.lemmas.Bool.Decides.{nat_tests}
 use Rattle.std.proofs.lemmas.Option.{slice_get_within}
 use Rattle.fb_types.specs.Blocks.{Basic, Composite, Emission, Event, Kind}
@@ -37,14 +39,16 @@ use Rattle.fb_wave.specs.Lines.{IsLineOf}
 use Rattle.fb_coverage.specs.Sets.{with_taken}
 use Rattle.fb_coverage.specs.declared.marks.ChartMarks.{ChartMarks}
 use Rattle.fb_coverage.specs.declared.marks.Marks.{Marks}
-use Rattle.fb_inspect.specs.walk.Chains.{Piece, ShowsReaction}
+use Rattle.fb_wave.specs.declared.page.Page.{Page}
+use Rattle.fb_inspect.specs.Selections.{is_wanted}
+use Rattle.fb_inspect.specs.walk.Chains.{Piece, ShowsReaction, is_loss}
 use Rattle.fb_inspect.specs.walk.Charting.{ChartGoes, IsChartOf, IsChartTaking, place, sys_of}
 use Rattle.fb_inspect.specs.walk.Counted.{left_of}
 use Rattle.fb_inspect.specs.walk.Looks.{IsTaking, IsTakingAt, IsTakingByBlock, IsTakingByChart, IsTakingByTimer, IsTakingWith, Left, Look, Seen, Taking, emissions_by, emits_pieces, left_at, memory_pieces, pieces_text, reacted, taking_text, with_left, with_seen}
 use Rattle.fb_inspect.specs.Markings.{ChartMarked, PiecesMark, TakingMarks, TakingMarksAt, event_number}
 use Rattle.fb_inspect.specs.walk.Moves.{Goes, StaysAlone, shown_text}
 use Rattle.fb_inspect.specs.walk.Timing.{BlockGoes, IsBlockKept, IsBlockLine, TimerGoes, taken_reaction, taken_variables, timer_reaction}
-use Rattle.fb_inspect.specs.walk.Walking.{AreKept, CanReact, HasStepped, IsChartKept, IsKept, IsLookOf, KeptGoes, ReactGoes, WalkTakes, flag_at, with_steps}
+use Rattle.fb_inspect.specs.walk.Walking.{AreKept, CanReact, HasStepped, IsChartKept, IsKept, IsLookOf, KeptGoes, ReactGoes, WalkTakes, has_lost, is_chart, may_show, with_steps}
 use Rattle.fb_inspect.specs.declared.walk.blocks.Chart.{Chart}
 use Rattle.fb_inspect.specs.declared.walk.blocks.EventBlock.{EventBlock}
 use Rattle.fb_inspect.specs.declared.walk.blocks.Remembered.{Remembered}
@@ -53,6 +57,7 @@ use Rattle.fb_inspect.specs.declared.walk.charts.ChartTaking.{ChartTaking}
 use Rattle.fb_inspect.specs.declared.walk.steps.TickSteps.{TickSteps}
 use Rattle.fb_inspect.specs.declared.walk.trail.Trail.{Trail}
 use Rattle.fb_inspect.specs.declared.walk.Walk.{Walk}
+use Rattle.fb_inspect.proofs.lemmas.marks.Losses.{loss_is}
 use Rattle.fb_inspect.proofs.lemmas.marks.Marked.{event_number_at}
 use Rattle.fb_inspect.proofs.lemmas.lines.Moving.{aside, goes_as, goes_same, goes_then, shown-append}
 use Rattle.fb_inspect.proofs.lemmas.reactions.Timed.{taken_is}
@@ -442,6 +447,20 @@ module _ (sys : System) (limit : ℕ) (key : Key) (look done : Look) (old mid ne
       subst (λ (i : ℕ). done.steps i ≡ left_of s) (sym same) (here_left s lefts (subst (λ (i : ℕ). slice_get new i ≡ Some s) same at)))
       (λ differ. other_left r s differ lefts at)
 
+-- ---- What is left out
+
+take_front : (xs ys : List ℕ) → take (length xs) (xs ++ ys) ≡ xs
+take_front xs ys = take_at xs ys (length xs) refl
+
+-- a text after which something was added, if it is shown, and left out again, unless it is wanted
+text_left :
+    (front wanted : Bool) (old new last t : List ℕ) → new ≡ old ++ shown_text front t → last ≡ (if wanted then new else take (length old) new)
+    → last ≡ old ++ shown_text (front && wanted) t
+text_left true true old new last t added left = left ∙ added
+text_left false true old new last t added left = left ∙ added
+text_left true false old new last t added left = left ∙ ap (take (length old)) added ∙ take_front old t ∙ sym (append-nil old)
+text_left false false old new last t added left = left ∙ ap (take (length old)) added ∙ take_front old [] ∙ sym (append-nil old)
+
 -- ---- One taking
 
 module _ (types : List BlockType) (sys : System) (form : Form) (limit : ℕ) (look : Look) (numbered : (i : ℕ) → i < length sys.paths → sys.number (path_at sys i) ≡ i) where
@@ -452,14 +471,31 @@ module _ (types : List BlockType) (sys : System) (form : Form) (limit : ℕ) (lo
       subst (λ (n : ℕ). IsTakingWith sys look n x) (sym (ap (λ (k : Key). left_at limit k.tick (look.steps k.resource)) key_is ∙ used))
       (subst (λ (k : Key). k.tick ≤ 10 ^ 12) (sym key_is) early, subst (λ (q : Path). IsTakingAt left look (sys.kind q) x) (sym at_is) is_taking)
 
+  -- what was added is left out again, unless it is wanted
   pub taking_gone :
-      (line : Line) (stop : Option Reason) (old mid new : Walk) (remaining rest : Option (List ℕ)) → line.instance < length sys.paths
+      (line : Line) (stop : Option Reason) (old mid new : Walk) (page : Page) (remaining rest : Option (List ℕ)) → line.instance < length sys.paths
       → IsLookOf sys old.blocks.items old.steps.items look → line.key.tick ≤ 10 ^ 12 → HasStepped limit line.key old.steps.items mid.steps.items
-      → mid.blocks.items ≡ old.blocks.items → mid.shown ≡ old.shown → mid.trail.marks ≡ old.trail.marks → mid.trail.passed ≡ old.trail.passed → mid.trail.is_shown ≡ flag_at old.shown.items line.instance
+      → mid.blocks.items ≡ old.blocks.items → mid.shown ≡ old.shown → mid.trail.marks ≡ old.trail.marks → mid.trail.passed ≡ old.trail.passed → mid.trail.is_shown ≡ may_show old.shown line
       → mid.trail.reading.line.items ≡ old.trail.reading.line.items → mid.trail.page.text.items ≡ old.trail.page.text.items → mid.trail.reading.number ≡ old.trail.reading.number
-      → ReactGoes types sys form look line stop mid new remaining rest → WalkTakes types sys form limit look line stop old new remaining rest
-  taking_gone line stop old mid new remaining rest within look_is early stepped blocks_same shown_same marks_same passed_same flag line_same text_same number_same goes =
+      → page.text.items ≡ (if is_wanted old.shown.events (has_lost new line.instance) then new.trail.page.text.items else take (length old.trail.page.text.items) new.trail.page.text.items)
+      → ReactGoes types sys form look line stop mid new remaining rest
+      → WalkTakes types sys form limit look line stop old (record new { trail = record (new.trail) { page = page } }) remaining rest
+  taking_gone line stop old mid new page remaining rest within look_is early stepped blocks_same shown_same marks_same passed_same flag line_same text_same number_same left_out goes =
       let x = goes.goes.taking in
+      let stays : slice_get new.blocks.items line.instance ≡ Some goes.block =
+      (let there : line.instance < length mid.blocks.items =
+      subst (λ (n : ℕ). line.instance < n) (sym (ap length blocks_same ∙ look_is.are.all)) within in
+      let one = element_at mid.blocks.items line.instance there in
+      ap (λ (l : List Remembered). slice_get l line.instance) goes.blocks_are ∙ get_set_same mid.blocks.items line.instance one.0 goes.block one.1) in
+      let loss : has_lost new line.instance ≡ list_any is_loss x.pieces =
+      ap (λ (o : Option Remembered). new.trail.marks.charts.lost && is_chart o) stays
+      ∙ loss_is types goes.own.meter.left look (sys.kind (path_at sys line.instance)) x mid.trail.marks.charts new.trail.marks.charts goes.block _ goes.goes.is_taking
+      (subst (λ (p : Path). TakingMarksAt types (sys.kind p) x mid.trail.marks.charts new.trail.marks.charts) (ap (λ (m : model.Line). m.at) goes.goes.first_is) goes.goes.marked)
+      goes.goes.kept in
+      let front = goes_same sys form line.key.tick goes.goes.lines (shown_text (may_show old.shown line) (taking_text form sys x)) mid.trail
+      (record (old.trail) { is_shown = may_show old.shown line }) new.trail remaining rest
+      (aside (record (old.trail) { is_shown = may_show old.shown line }) mid.trail flag (ap (λ (m : Marks). m.ports) marks_same) passed_same number_same) line_same text_same
+      (goes_as sys form line.key.tick mid.trail new.trail goes.goes.lines _ _ remaining rest (ap (λ (b : Bool). shown_text b (taking_text form sys x)) flag) goes.goes.goes) in
       let mine : goes.own ≡ stepped.after =
       own_is sys limit line.key look x.after old.steps.items mid.steps.items new.steps.items stepped goes.own goes.stood goes.left goes.steps_are goes.goes.steps_are in
       let used : left_at limit line.key.tick (look.steps line.key.resource) ≡ suc goes.own.meter.left =
@@ -479,9 +515,18 @@ module _ (types : List BlockType) (sys : System) (form : Form) (limit : ℕ) (lo
         shown_are = goes.shown_are ∙ shown_same;
         lines = goes.goes.lines;
         lines_are = goes.goes.lines_are;
-        goes = goes_same sys form line.key.tick goes.goes.lines (shown_text (flag_at old.shown.items line.instance) (taking_text form sys x)) mid.trail
-            (record (old.trail) { is_shown = flag_at old.shown.items line.instance }) new.trail remaining rest
-            (aside (record (old.trail) { is_shown = flag_at old.shown.items line.instance }) mid.trail flag (ap (λ (m : Marks). m.ports) marks_same) passed_same number_same) line_same text_same
-            (goes_as sys form line.key.tick mid.trail new.trail goes.goes.lines _ _ remaining rest (ap (λ (b : Bool). shown_text b (taking_text form sys x)) flag) goes.goes.goes);
+        goes = record {
+          each = front.each;
+          kept = front.kept;
+          taken = front.taken;
+          took = front.took;
+          read = front.read;
+          text = text_left (may_show old.shown line) (is_wanted old.shown.events (list_any is_loss x.pieces)) old.trail.page.text.items new.trail.page.text.items page.text.items (taking_text form sys x) front.text
+              (left_out
+              ∙ ap (λ (b : Bool). if is_wanted old.shown.events b then new.trail.page.text.items else take (length old.trail.page.text.items) new.trail.page.text.items) loss);
+          ported = front.ported;
+          passed = front.passed;
+          numbered = front.numbered;
+        };
         marked = subst (λ (m : Marks). TakingMarks types sys x m.charts new.trail.marks.charts) marks_same goes.goes.marked;
       }

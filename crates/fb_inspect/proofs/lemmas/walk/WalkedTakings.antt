@@ -1,12 +1,12 @@
 -- Takings of a walk through a trace, one after another.
 use Rattle.std.proofs.Common.{◌≡◌, ◌<◌, ◌≤◌, ℕ, suc, Bool, List, [], ◌∷◌, ◌++◌, length, map, Option, Some, None, refl, sym, ◌∙◌, ap, subst, inl, append_assoc, append-nil, arith, length-append}
-use Rattle.std.specs.Prelude.{All, if◌then◌else◌}
+use Rattle.std.specs.Prelude.{All, ◌&&◌, if◌then◌else◌}
+use Rattle.std.specs.List.{list_any}
 use Rattle.std.specs.Io.KnownBytes.{Consumes}
 use Rattle.std.proofs.KnownBytes.{Appends-nil, Appends-trans, Consumes-trans}
 use Rattle.std.proofs.lemmas.List.{map-append}
 use Rattle.std.proofs.lemmas.List.Elements.{All-append, All-nil}
-use Rattle.fb_types.specs.Names.{Name}
-use Rattle.fb_types.specs.Numbers.{line_of}
+use Rattle.fb_types.specs.Numbers.{line_of, path_at}
 use Rattle.fb_types.specs.Simulation.{Ending, AtStop}
 use Rattle.fb_types.specs.States as model
 use Rattle.fb_types.specs.Systems.{System}
@@ -20,13 +20,17 @@ use Rattle.fb_wave.specs.Lines.{IsLineOf}
 use Rattle.fb_wave.specs.Waves.{RiseFrom}
 use Rattle.fb_coverage.specs.declared.marks.ChartMarks.{ChartMarks}
 use Rattle.fb_coverage.specs.declared.marks.Marks.{Marks}
-use Rattle.fb_inspect.specs.Inspections.{AreTaken, AreTakings, NoneStops, NothingAfter, all_lines, all_text, is_kept, last_look, stop_of}
+use Rattle.fb_inspect.specs.Inspections.{AreTaken, AreTakings, NoneStops, NothingAfter, all_lines, all_text, last_look, stop_of}
+use Rattle.fb_inspect.specs.Selections.{Selection, is_during, is_kept, is_shown, is_shown_at, is_wanted}
+use Rattle.fb_inspect.specs.walk.Chains.{Piece, is_loss}
 use Rattle.fb_inspect.specs.walk.Looks.{IsTaking, Look, Taking, emission_line, taking_lines, taking_text}
 use Rattle.fb_inspect.specs.Markings.{TakingMarks, TakingsMark, lines_marked}
 use Rattle.fb_inspect.specs.walk.Moves.{IsLineAt, shown_text}
 use Rattle.fb_wave.specs.Pages.{IsFlushed}
-use Rattle.fb_inspect.specs.walk.Walking.{AreMarked, HasCovered, HasGone, IsGone, Starts, WalkTakes, flag_at}
+use Rattle.fb_inspect.specs.walk.Walking.{AreMarked, HasCovered, HasGone, IsGone, ShowsOf, Starts, WalkTakes, shows}
 use Rattle.fb_wave.specs.declared.page.Page.{Page}
+use Rattle.fb_inspect.specs.declared.filter.EventFilter.{EventFilter}
+use Rattle.fb_inspect.specs.declared.filter.Shown.{Shown}
 use Rattle.fb_inspect.specs.declared.walk.Walk.{Walk}
 use Rattle.fb_inspect.proofs.lemmas.lines.Moving.{lines-append, marked-append, next_line}
 
@@ -51,15 +55,15 @@ pub lines_more : (xs : List Taking) (x : Taking) → all_lines (xs ++ x ∷ []) 
 lines_more [] x = append-nil (taking_lines x)
 lines_more (y ∷ ys) x = ap (λ (ls : List model.Line). taking_lines y ++ ls) (lines_more ys x) ∙ sym (append_assoc (taking_lines y) (all_lines ys) (taking_lines x))
 
-abbrev pub text_one : Form → System → List Name → Taking → List ℕ
-text_one form sys only x = if is_kept only x.first.at then taking_text form sys x else []
+abbrev pub text_one : Form → System → Selection → Taking → List ℕ
+text_one form sys what x = if is_shown what x then taking_text form sys x else []
 
 pub text_more :
-    (form : Form) (sys : System) (only : List Name) (xs : List Taking) (x : Taking) → all_text form sys only (xs ++ x ∷ []) ≡ all_text form sys only xs ++ text_one form sys only x
-text_more form sys only [] x = append-nil (text_one form sys only x)
-text_more form sys only (y ∷ ys) x =
-    ap (λ (t : List ℕ). text_one form sys only y ++ t) (text_more form sys only ys x)
-    ∙ sym (append_assoc (text_one form sys only y) (all_text form sys only ys) (text_one form sys only x))
+    (form : Form) (sys : System) (what : Selection) (xs : List Taking) (x : Taking) → all_text form sys what (xs ++ x ∷ []) ≡ all_text form sys what xs ++ text_one form sys what x
+text_more form sys what [] x = append-nil (text_one form sys what x)
+text_more form sys what (y ∷ ys) x =
+    ap (λ (t : List ℕ). text_one form sys what y ++ t) (text_more form sys what ys x)
+    ∙ sym (append_assoc (text_one form sys what y) (all_text form sys what ys) (text_one form sys what x))
 
 pub none_more : (xs : List Taking) (x : Taking) → NoneStops xs → x.stop ≡ None → NoneStops (xs ++ x ∷ [])
 none_more [] x none stop = (stop, tt)
@@ -110,14 +114,22 @@ marks_more types sys (y ∷ ys) x m n o are more = (are.0, are.1, marks_more typ
 
 -- ---- The walk
 
+-- what is shown of a line, by the flag of its instance
+pub shows_is :
+    (sys : System) (what : Selection) (shown : Shown) (line : Line) (ps : List Piece) → ShowsOf sys what shown → line.instance < length sys.paths
+    → shows shown line (list_any is_loss ps) ≡ is_shown_at what (path_at sys line.instance) line.key.tick ps
+shows_is sys what shown line ps is within =
+    ap (λ (b : Bool). b && is_during shown.events line.key.tick && is_wanted shown.events (list_any is_loss ps)) (is.instances line.instance within)
+    ∙ ap (λ (f : EventFilter). is_kept what.only (path_at sys line.instance) && is_during f line.key.tick && is_wanted f (list_any is_loss ps)) is.events
+
 pub shown_if : (b c : Bool) (t : List ℕ) → c ≡ b → shown_text c t ≡ (if b then t else [])
 shown_if b c t same = ap (λ (d : Bool). shown_text d t) same
 
-module _ (sys : System) (form : Form) (only : List Name) (steps : ℕ) where
+module _ (sys : System) (form : Form) (what : Selection) (steps : ℕ) where
   -- no line was gone through yet
   gone_none :
-      (walk : Walk) (input remaining old : Option (List ℕ)) → Starts sys form only walk → Consumes input remaining walk.trail.reading.line.items
-      → HasGone sys form only steps walk input remaining old old
+      (walk : Walk) (input remaining old : Option (List ℕ)) → Starts sys form what walk → Consumes input remaining walk.trail.reading.line.items
+      → HasGone sys form what steps walk input remaining old old
   gone_none walk input remaining old starts read = record {
     takings = [];
     goes_on = tt;
@@ -140,22 +152,24 @@ module _ (sys : System) (form : Form) (only : List Name) (steps : ℕ) where
 
   -- before the first line nothing is marked
   pub covered_none :
-      (types : List BlockType) (walk : Walk) (input remaining old : Option (List ℕ)) → Starts sys form only walk → Consumes input remaining walk.trail.reading.line.items
-      → HasCovered types walk.trail.marks sys form only steps walk input remaining old old
+      (types : List BlockType) (walk : Walk) (input remaining old : Option (List ℕ)) → Starts sys form what walk → Consumes input remaining walk.trail.reading.line.items
+      → HasCovered types walk.trail.marks sys form what steps walk input remaining old old
   unfolding gone_none
   covered_none types walk input remaining old starts read = record {
     gone = gone_none walk input remaining old starts read;
     marked = record { charts = refl; ports = refl };
   }
 
-  module _ (types : List BlockType) (walk done : Walk) (takings : List Taking) (line : Line) (stop : Option Reason) (input remaining rest old mid : Option (List ℕ)) (gone : IsGone sys form only steps walk takings input remaining old mid)
+  module _ (types : List BlockType) (walk done : Walk) (takings : List Taking) (line : Line) (stop : Option Reason) (input remaining rest old mid : Option (List ℕ)) (gone : IsGone sys form what steps walk takings input remaining old mid)
       (later : last_tick 0 gone.lines ≤ line.key.tick) (within : line.instance < length sys.paths) (limit : ℕ) (look : Look) (goes : WalkTakes types sys form limit look line stop walk done remaining rest)
       (taken : AreTaken sys steps (takings ++ goes.taking ∷ [])) where
     abbrev pub flag : Bool
-    flag = flag_at walk.shown.items line.instance
+    flag = shows walk.shown line (list_any is_loss goes.taking.pieces)
 
-    pub flag_is : flag ≡ is_kept only goes.taking.first.at
-    flag_is = gone.shown line.instance within ∙ ap (λ (m : model.Line). is_kept only m.at) (sym goes.first_is)
+    pub flag_is : flag ≡ is_shown what goes.taking
+    flag_is =
+        shows_is sys what walk.shown line goes.taking.pieces gone.shown within
+        ∙ ap (λ (m : model.Line). is_shown_at what m.at m.key.tick goes.taking.pieces) (sym goes.first_is)
 
     pub all_are : map (line_of sys) (gone.lines ++ goes.lines) ≡ all_lines (takings ++ goes.taking ∷ [])
     all_are =
@@ -165,13 +179,13 @@ module _ (sys : System) (form : Form) (only : List Name) (steps : ℕ) where
         ∙ sym (lines_more takings goes.taking)
 
     -- one more taking
-    unfoldable pub gone_more : IsGone sys form only steps done (takings ++ goes.taking ∷ []) input rest old mid
+    unfoldable pub gone_more : IsGone sys form what steps done (takings ++ goes.taking ∷ []) input rest old mid
     gone_more =
         let L : List ℕ = lines_text form sys (map (line_of sys) gone.lines) in
         let K : List ℕ = lines_text form sys (map (line_of sys) goes.lines) in
         record {
           taken = taken;
-          shown = λ k h. ap (λ (s : List Bool). flag_at s k) (ap (λ v. v.items) goes.shown_are) ∙ gone.shown k h;
+          shown = subst (ShowsOf sys what) (sym goes.shown_are) gone.shown;
           lines = gone.lines ++ goes.lines;
           lines_are = all_are;
           are = record {
@@ -191,8 +205,8 @@ module _ (sys : System) (form : Form) (only : List Name) (steps : ℕ) where
           text = ap (λ (t : List ℕ). gone.sent ++ t) goes.goes.text
               ∙ sym (append_assoc gone.sent walk.trail.page.text.items (shown_text flag (taking_text form sys goes.taking)))
               ∙ ap (λ (t : List ℕ). t ++ shown_text flag (taking_text form sys goes.taking)) gone.text
-              ∙ ap (λ (t : List ℕ). all_text form sys only takings ++ t) (shown_if (is_kept only goes.taking.first.at) flag (taking_text form sys goes.taking) flag_is)
-              ∙ sym (text_more form sys only takings goes.taking);
+              ∙ ap (λ (t : List ℕ). all_text form sys what takings ++ t) (shown_if (is_shown what goes.taking) flag (taking_text form sys goes.taking) flag_is)
+              ∙ sym (text_more form sys what takings goes.taking);
         }
 
     pub last_is : last_tick 0 (gone.lines ++ goes.lines) ≡ line.key.tick
@@ -208,8 +222,8 @@ module _ (sys : System) (form : Form) (only : List Name) (steps : ℕ) where
 
   -- a part of what waited was sent
   pub flushed_on :
-      (types : List BlockType) (first : Marks) (walk : Walk) (page : Page) (input remaining old mid out : Option (List ℕ)) → HasCovered types first sys form only steps walk input remaining old mid
-      → IsFlushed mid out walk.trail.page page → HasCovered types first sys form only steps (record walk { trail = record (walk.trail) { page = page } }) input remaining old out
+      (types : List BlockType) (first : Marks) (walk : Walk) (page : Page) (input remaining old mid out : Option (List ℕ)) → HasCovered types first sys form what steps walk input remaining old mid
+      → IsFlushed mid out walk.trail.page page → HasCovered types first sys form what steps (record walk { trail = record (walk.trail) { page = page } }) input remaining old out
   flushed_on types first walk page input remaining old mid out covered flushed =
       let gone = covered.gone.gone in
       record {

@@ -2,7 +2,7 @@
 use Rattle.std.proofs.Common.{◌≡◌, ℕ, Bool, true, false, ◌&&◌, List, [], ◌∷◌, ◌++◌, refl, ◌∙◌, ap, nat_eq, arith}
 use Rattle.std.proofs.lemmas.Bool.{and_parts, false_from_ne_true, false≢true}
 use Rattle.std.proofs.lemmas.Bool.Decides.{nat_tests}
-use Rattle.fb_inspect.specs.Inspections.{is_cut_there, is_within}
+use Rattle.fb_inspect.specs.Selections.{is_cut_there, is_within}
 
 nat_eq-itself : (n : ℕ) → nat_eq n n ≡ true
 nat_eq-itself n = grind (arith, nat_tests)

@@ -1,34 +1,39 @@
-use Rattle.std.proofs.Common.{Bor, List, map, subst, ap, ◌∙◌}
+use Rattle.std.proofs.Common.{◌≡◌, Bor, List, map, subst, ap, ◌∙◌}
 use Rattle.std.specs.Prelude.{IfSome, OnErr, OnOk}
 use Rattle.clap.specs.Words.{Text}
 use Rattle.fb_types.specs.Headline.{system_of}
 use Rattle.fb_inspect.specs.Inspections.{IsShownBy, ShowsFront}
+use Rattle.fb_inspect.specs.Selections.{Selection}
+use Rattle.fb_inspect.specs.declared.filter.EventFilter.{EventFilter}
 use Rattle.fb_inspect.proofs.lemmas.walk.Ended.{front_none}
 use Rattle.fb_wave.specs.declared.truncation.Cut.{Cut}
-use Rattle.fbsim_command.specs.Inspecting.{cut_of, paths_of, upper}
+use Rattle.fbsim_command.specs.Inspecting.{selection_of, upper}
 use Rattle.fbsim_command.proofs.Inspecting.{on_err_any}
 use Rattle.fbsim_command.proofs.inspect.go.Goals as goal
 
 pub returns-in_err-only-clause-fault : goal.returns-in_err-only-clause-fault
 returns-in_err-only-clause-fault g c =
-    on_err_any c.from_residual.result _ (front_none (system_of c.args.system.now) (paths_of c.args.inspect.now) c.args.inspect.now.steps (g.W.Write.contents c.args.out.now))
+    on_err_any c.from_residual.result _ (front_none (system_of c.args.system.now) (selection_of c.args.inspect.now) c.args.inspect.now.steps (g.W.Write.contents c.args.out.now))
 
 abbrev uppers : List (Bor Text) → List Text
 uppers texts = map (λ t. upper t.now) texts
+
+selects : {xs ys : List Text} {f g : EventFilter} → xs ≡ ys → f ≡ g → ◌≡◌ {A = Selection} (record { only = xs; events = f }) (record { only = ys; events = g })
+selects {xs} {ys} {f} {g} only events = ap (λ (zs : List Text). record { only = zs; events = f }) only ∙ ap (λ (h : EventFilter). record { only = ys; events = h }) events
 
 pub returns-clause-whole : goal.returns-clause-whole
 returns-clause-whole g c =
     let x = c.args.inspect.now in
     let old = g.W.Write.contents c.args.out.now in
     let new = g.W.Write.contents c.inspect.new.out in
-    subst (λ (m : Cut). OnOk c.inspect.result (IfSome (g.R.Read.remaining c.args.trace.now) (λ text. IsShownBy m (system_of c.args.system.now) (paths_of x) x.steps text old new))) c.cut_of.ensures
-    (subst (λ (only : List Text). OnOk c.inspect.result (IfSome (g.R.Read.remaining c.args.trace.now) (λ text. IsShownBy c.cut_of.result (system_of c.args.system.now) only x.steps text old new)))
-    (c.as_slice-2.ensures.value ∙ c.in_ok-only.ensures ∙ ap uppers c.as_slice.ensures.value) c.inspect.ensures.whole)
+    subst (λ (m : Cut). OnOk c.inspect.result (IfSome (g.R.Read.remaining c.args.trace.now) (λ text. IsShownBy m (system_of c.args.system.now) (selection_of x) x.steps text old new))) c.cut_of.ensures
+    (subst (λ (what : Selection). OnOk c.inspect.result (IfSome (g.R.Read.remaining c.args.trace.now) (λ text. IsShownBy c.cut_of.result (system_of c.args.system.now) what x.steps text old new)))
+    (selects (c.as_slice-2.ensures.value ∙ c.in_ok-only.ensures ∙ ap uppers c.as_slice.ensures.value) c.all.ensures) c.inspect.ensures.whole)
 
 pub returns-clause-fault : goal.returns-clause-fault
 returns-clause-fault g c =
     let x = c.args.inspect.now in
     let old = g.W.Write.contents c.args.out.now in
     let new = g.W.Write.contents c.inspect.new.out in
-    subst (λ (only : List Text). OnErr c.inspect.result (ShowsFront (system_of c.args.system.now) only x.steps old new))
-    (c.as_slice-2.ensures.value ∙ c.in_ok-only.ensures ∙ ap uppers c.as_slice.ensures.value) c.inspect.ensures.fault
+    subst (λ (what : Selection). OnErr c.inspect.result (ShowsFront (system_of c.args.system.now) what x.steps old new))
+    (selects (c.as_slice-2.ensures.value ∙ c.in_ok-only.ensures ∙ ap uppers c.as_slice.ensures.value) c.all.ensures) c.inspect.ensures.fault

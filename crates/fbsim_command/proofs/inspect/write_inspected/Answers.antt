@@ -2,7 +2,7 @@ use Rattle.std.proofs.Common.{Err, string_bytes, subst, sym}
 use Rattle.std.specs.Prelude.{IfSome, OnErr, OnOk}
 use Rattle.fb_types.specs.Headline.{system_of}
 use Rattle.fb_inspect.specs.Inspections.{IsShownBy, ShowsFront}
-use Rattle.fbsim_command.specs.Inspecting.{Inspects, cut_of, paths_of}
+use Rattle.fbsim_command.specs.Inspecting.{Inspects, cut_of, selection_of}
 use Rattle.fbsim_command.specs.declared.failure.Failure.{Failure}
 use Rattle.fbsim_command.proofs.Inspecting.{inspects_front, inspects_none, line_noted_inside, none_noted_inside}
 use Rattle.fbsim_command.proofs.inspect.write_inspected.Goals as goal
@@ -21,7 +21,7 @@ returns-in-Ok-gone-clause-inspected g c =
     let old = g.W.Write.contents c.args.out.now in
     let new = g.W.Write.contents c.go-gone.new.out in
     let trace = g.R.Read.remaining c.args.trace.now in
-    (c.in-Ok.system, c.in-Ok.ensures.system, subst (λ r. OnOk r (IfSome trace (λ text. IsShownBy (cut_of x) sys (paths_of x) x.steps text old new))) c.in-Ok-gone.is c.go-gone.ensures.whole)
+    (c.in-Ok.system, c.in-Ok.ensures.system, subst (λ r. OnOk r (IfSome trace (λ text. IsShownBy (cut_of x) sys (selection_of x) x.steps text old new))) c.in-Ok-gone.is c.go-gone.ensures.whole)
 
 pub returns-in-Ok-gone-clause-noted : goal.returns-in-Ok-gone-clause-noted
 returns-in-Ok-gone-clause-noted g c =
@@ -37,7 +37,7 @@ returns-clause-inspected g c =
     let e = c.in-Err-gone.error in
     subst (λ (f : Failure). Inspects c.args.inputs.now x trace old new (Err f)) (sym c.from-in-Err-gone.ensures)
     (inspects_front c.args.inputs.now x trace old new c.in-Ok.system c.in-Ok.ensures.system e
-    (subst (λ r. OnErr r (ShowsFront sys (paths_of x) x.steps old new)) c.in-Err-gone.is c.go-gone.ensures.fault))
+    (subst (λ r. OnErr r (ShowsFront sys (selection_of x) x.steps old new)) c.in-Err-gone.is c.go-gone.ensures.fault))
 
 pub returns-clause-noted : goal.returns-clause-noted
 returns-clause-noted g c =

@@ -22,18 +22,18 @@ use Rattle.fb_inspect.proofs.lemmas.results.Joined.{ok_passed}
 use Rattle.fb_inspect.proofs.walk.Walk.advance.Goals as goal
 
 pub returns-in-CutOff-clause-goes : goal.returns-in-CutOff-clause-goes
-returns-in-CutOff-clause-goes g c = λ first only known old new covered.
+returns-in-CutOff-clause-goes g c = λ first what known old new covered.
     let fixed = c.args.fixed.now in
     let types = fixed.table.now.system.now.library.blocks in
     let sys = system_of fixed.table.now.system.now in
     let here = subst (λ (n : Next). IsNextLine sys fixed.form (last_tick 0 covered.gone.gone.lines) c.args.self.now.trail.reading.line.items n) (sym c.in-Event.ensures.value) covered.gone.next in
-    let past = bad_on types first sys fixed.form only c.args.terms.steps c.args.self.now c.replace.new.dest known (unread c.args.ahead.now (g.R.Read.remaining c.args.input.now)) old new
+    let past = bad_on types first sys fixed.form what c.args.terms.steps c.args.self.now c.replace.new.dest known (unread c.args.ahead.now (g.R.Read.remaining c.args.input.now)) old new
     c.replace.ensures.after covered c.in-Event.line.key.tick here.1 in
     let w = c.advance_by_event.new.self in
-    subst (λ (r : Reading). IsSevered types first sys fixed.form only (record w { trail = record (w.trail) { reading = r } }) known old new) (sym c.put_back.ensures)
-    (severed_next types first sys fixed.form only w (next.Event c.in-Event.line) known old new
-    (subst (HasAdvanced types first sys fixed.form only c.args.terms.steps c.advance_by_event.new.self known (unread c.advance_by_event.new.ahead (g.R.Read.remaining c.advance_by_event.new.input)) old new) c.in-CutOff.is
-    (c.in_ok-advance_by_event-in-Event.ensures.goes first only known old new past.0 past.1)))
+    subst (λ (r : Reading). IsSevered types first sys fixed.form what (record w { trail = record (w.trail) { reading = r } }) known old new) (sym c.put_back.ensures)
+    (severed_next types first sys fixed.form what w (next.Event c.in-Event.line) known old new
+    (subst (HasAdvanced types first sys fixed.form what c.args.terms.steps c.advance_by_event.new.self known (unread c.advance_by_event.new.ahead (g.R.Read.remaining c.advance_by_event.new.input)) old new) c.in-CutOff.is
+    (c.in_ok-advance_by_event-in-Event.ensures.goes first what known old new past.0 past.1)))
 
 pub returns-in-CutOff-clause-takes : goal.returns-in-CutOff-clause-takes
 returns-in-CutOff-clause-takes g c = λ look is.
@@ -53,15 +53,15 @@ returns-in-CutOff-clause-takes g c = λ look is.
     )
 
 pub returns-in-Taken-clause-goes : goal.returns-in-Taken-clause-goes
-returns-in-Taken-clause-goes g c = λ first only known old new covered.
+returns-in-Taken-clause-goes g c = λ first what known old new covered.
     let fixed = c.args.fixed.now in
     let types = fixed.table.now.system.now.library.blocks in
     let sys = system_of fixed.table.now.system.now in
     let here = subst (λ (n : Next). IsNextLine sys fixed.form (last_tick 0 covered.gone.gone.lines) c.args.self.now.trail.reading.line.items n) (sym c.in-Event.ensures.value) covered.gone.next in
-    let past = bad_on types first sys fixed.form only c.args.terms.steps c.args.self.now c.replace.new.dest known (unread c.args.ahead.now (g.R.Read.remaining c.args.input.now)) old new
+    let past = bad_on types first sys fixed.form what c.args.terms.steps c.args.self.now c.replace.new.dest known (unread c.args.ahead.now (g.R.Read.remaining c.args.input.now)) old new
     c.replace.ensures.after covered c.in-Event.line.key.tick here.1 in
-    subst (HasAdvanced types first sys fixed.form only c.args.terms.steps c.advance_by_event.new.self known (unread c.advance_by_event.new.ahead (g.R.Read.remaining c.advance_by_event.new.input)) old new) c.in-Taken.is
-    (c.in_ok-advance_by_event-in-Event.ensures.goes first only known old new past.0 past.1)
+    subst (HasAdvanced types first sys fixed.form what c.args.terms.steps c.advance_by_event.new.self known (unread c.advance_by_event.new.ahead (g.R.Read.remaining c.advance_by_event.new.input)) old new) c.in-Taken.is
+    (c.in_ok-advance_by_event-in-Event.ensures.goes first what known old new past.0 past.1)
 
 pub returns-in-Taken-clause-takes : goal.returns-in-Taken-clause-takes
 returns-in-Taken-clause-takes g c = λ look is.
@@ -76,15 +76,15 @@ returns-in-Taken-clause-takes g c = λ look is.
     (subst (LineGoes types sys fixed.form c.args.terms.steps look c.in-Event.line c.args.self.now c.advance_by_event.new.self c.advance_by_event.new.ahead r rest) c.in-Taken.is goes)
 
 pub returns-in-Ended-clause-goes : goal.returns-in-Ended-clause-goes
-returns-in-Ended-clause-goes g c = λ first only known old new covered.
+returns-in-Ended-clause-goes g c = λ first what known old new covered.
     let fixed = c.args.fixed.now in
     let types = fixed.table.now.system.now.library.blocks in
     let sys = system_of fixed.table.now.system.now in
     let here = subst (λ (n : Next). IsNextLine sys fixed.form (last_tick 0 covered.gone.gone.lines) c.args.self.now.trail.reading.line.items n) (sym c.in-Event.ensures.value) covered.gone.next in
-    let past = bad_on types first sys fixed.form only c.args.terms.steps c.args.self.now c.replace.new.dest known (unread c.args.ahead.now (g.R.Read.remaining c.args.input.now)) old new
+    let past = bad_on types first sys fixed.form what c.args.terms.steps c.args.self.now c.replace.new.dest known (unread c.args.ahead.now (g.R.Read.remaining c.args.input.now)) old new
     c.replace.ensures.after covered c.in-Event.line.key.tick here.1 in
-    subst (HasAdvanced types first sys fixed.form only c.args.terms.steps c.advance_by_event.new.self known (unread c.advance_by_event.new.ahead (g.R.Read.remaining c.advance_by_event.new.input)) old new) c.in-Ended.is
-    (c.in_ok-advance_by_event-in-Event.ensures.goes first only known old new past.0 past.1)
+    subst (HasAdvanced types first sys fixed.form what c.args.terms.steps c.advance_by_event.new.self known (unread c.advance_by_event.new.ahead (g.R.Read.remaining c.advance_by_event.new.input)) old new) c.in-Ended.is
+    (c.in_ok-advance_by_event-in-Event.ensures.goes first what known old new past.0 past.1)
 
 pub returns-in-Ended-clause-takes : goal.returns-in-Ended-clause-takes
 returns-in-Ended-clause-takes g c = λ look is.
@@ -99,14 +99,14 @@ returns-in-Ended-clause-takes g c = λ look is.
     (subst (LineGoes types sys fixed.form c.args.terms.steps look c.in-Event.line c.args.self.now c.advance_by_event.new.self c.advance_by_event.new.ahead r rest) c.in-Ended.is goes)
 
 pub returns-in-End-clause-goes : goal.returns-in-End-clause-goes
-returns-in-End-clause-goes g c = λ first only known old new covered.
+returns-in-End-clause-goes g c = λ first what known old new covered.
     let fixed = c.args.fixed.now in
     let types = fixed.table.now.system.now.library.blocks in
     let sys = system_of fixed.table.now.system.now in
     let r = unread c.args.ahead.now (g.R.Read.remaining c.args.input.now) in
     let here = subst (λ (n : Next). IsNextLine sys fixed.form (last_tick 0 covered.gone.gone.lines) c.args.self.now.trail.reading.line.items n) (sym c.in-End.ensures.value) covered.gone.next in
-    complete_bad types first sys fixed.form only c.args.terms.steps c.args.self.now c.replace.new.dest c.in-End.end known r old new
-    (ended_here types first sys fixed.form only c.args.terms.steps c.args.self.now known r old new covered c.in-End.end here
+    complete_bad types first sys fixed.form what c.args.terms.steps c.args.self.now c.replace.new.dest c.in-End.end known r old new
+    (ended_here types first sys fixed.form what c.args.terms.steps c.args.self.now known r old new covered c.in-End.end here
     (c.may_end.ensures.may sys (last_look (opening_look sys) covered.gone.takings) covered.gone.look c.if-may_end.true))
 
 pub returns-in-End-clause-takes : goal.returns-in-End-clause-takes

@@ -1,7 +1,7 @@
-use Rattle.std.proofs.Common.{Bool, List, Ok, ℕ, ◌<◌, Option, ap, refl, subst, sym, ◌∙◌}
+use Rattle.std.proofs.Common.{List, Ok, ℕ, ◌<◌, Option, refl, subst, sym}
 use Rattle.std.specs.Io.KnownBytes.{Consumes}
 use Rattle.fb_types.specs.Headline.{system_of}
-use Rattle.fb_inspect.specs.walk.Walking.{AreCutOff, flag_at, unread}
+use Rattle.fb_inspect.specs.walk.Walking.{AreCutOff, unread}
 use Rattle.fb_inspect.specs.declared.walk.Walk.{Walk}
 use Rattle.fb_inspect.proofs.lemmas.results.Joined.{both_put}
 use Rattle.fb_inspect.proofs.lemmas.lines.Moving.{shown_both}
@@ -18,7 +18,7 @@ use Rattle.fb_inspect.proofs.lemmas.walk.StandsAfter.{at_look, goes_left, look_a
 use Rattle.fb_inspect.proofs.walk.Walk.advance_by_event.Goals as goal
 
 pub returns-then-is_cut-clause-goes : goal.returns-then-is_cut-clause-goes
-returns-then-is_cut-clause-goes g c = λ first only known old new covered later.
+returns-then-is_cut-clause-goes g c = λ first what known old new covered later.
     let fixed = c.args.fixed.now in
     let types = fixed.table.now.system.now.library.blocks in
     let sys = system_of fixed.table.now.system.now in
@@ -26,43 +26,43 @@ returns-then-is_cut-clause-goes g c = λ first only known old new covered later.
     let off = c.in_ok-is_cut.ensures.cut c.if-is_cut.true in
     let on : (bytes : List ℕ) → Consumes known (unread c.args.ahead.now o) bytes → Consumes known o bytes =
     λ bytes read. subst (λ (p : Option (List ℕ)). Consumes known p bytes) (none_ahead c.args.ahead.now.text.items o off.1) read in
-    let again = reread_on types first sys fixed.form only c.args.terms.steps c.args.self.now known (unread c.args.ahead.now o) o old new on covered c.args.line.now.key.tick later in
+    let again = reread_on types first sys fixed.form what c.args.terms.steps c.args.self.now known (unread c.args.ahead.now o) o old new on covered c.args.line.now.key.tick later in
     let w : Walk = c.args.self.now in
     let cut : Walk = record w { trail = record (w.trail) { page = record (w.trail.page) { text = c.put_line-then-is_cut.new.text } } } in
-    severed_on types first sys fixed.form only c.args.terms.steps c.args.self.now known o old new again.0 c.args.line.now again.1 c.requires.is cut c.look.new.self.rows.items c.look.new.self.text.items off.2 refl
-    (shown_both c.flag_at-is_shown.result _ _ _ w.trail.reading.line.items c.look.new.self.text.items w.trail.page.text.items c.put_line-then-is_cut.new.text.items
-    (c.flag_at-is_shown.ensures ∙ ap (λ (fs : List Bool). flag_at fs c.args.line.now.instance) c.as_slice.ensures.value) c.as_slice-whole.ensures.value c.as_slice-then-is_cut.ensures.value
+    severed_on types first sys fixed.form what c.args.terms.steps c.args.self.now known o old new again.0 c.args.line.now again.1 c.requires.is cut c.look.new.self.rows.items c.look.new.self.text.items off.2 refl
+    (shown_both c.shows_untaken-is_shown.result _ _ _ w.trail.reading.line.items c.look.new.self.text.items w.trail.page.text.items c.put_line-then-is_cut.new.text.items
+    c.shows_untaken-is_shown.ensures c.as_slice-whole.ensures.value c.as_slice.ensures.value
     (both_put (Ok tt) c.put_line.result c.put_line-then-is_cut.result _ _ _ _ c.in_ok-and.ensures c.put_line.ensures c.put_line-then-is_cut.ensures))
 
 pub returns-then-is_near-clause-goes : goal.returns-then-is_near-clause-goes
-returns-then-is_near-clause-goes g c = λ first only known old new covered later.
+returns-then-is_near-clause-goes g c = λ first what known old new covered later.
     let fixed = c.args.fixed.now in
     let types = fixed.table.now.system.now.library.blocks in
     let sys = system_of fixed.table.now.system.now in
     let o = unread c.args.ahead.now (g.R.Read.remaining c.args.input.now) in
     let n = g.R.Read.remaining c.look.new.input in
-    let again = reread_on types first sys fixed.form only c.args.terms.steps c.args.self.now known o (unread c.look.new.self n) old new
+    let again = reread_on types first sys fixed.form what c.args.terms.steps c.args.self.now known o (unread c.look.new.self n) old new
     ((c.in_ok-is_cut.ensures.whole c.if-is_cut.false).after known) covered c.args.line.now.key.tick later in
     ok_both c.take_to_last_step.result _ _ _ c.take_to_last_step.ensures.whole (c.take_to_last_step.ensures.takes (last_look (opening_look sys) again.0.gone.takings) n again.0.gone.look)
     (λ step whole goes.
-    advanced_on types first sys fixed.form only c.args.terms.steps c.args.self.now known (unread c.look.new.self n) old new again.0 c.args.line.now again.1 c.requires.is c.take_to_last_step.new.self c.take_to_last_step.new.ahead
+    advanced_on types first sys fixed.form what c.args.terms.steps c.args.self.now known (unread c.look.new.self n) old new again.0 c.args.line.now again.1 c.requires.is c.take_to_last_step.new.self c.take_to_last_step.new.ahead
     (unread c.take_to_last_step.new.ahead n) step whole goes)
 
 pub returns-then-is_near-clause-cut : goal.returns-then-is_near-clause-cut
 returns-then-is_near-clause-cut g c = ok_then c.take_to_last_step.result _ _ c.take_to_last_step.ensures.whole (λ step never same. absurd (never same))
 
 pub returns-clause-goes : goal.returns-clause-goes
-returns-clause-goes g c = λ first only known old new covered later.
+returns-clause-goes g c = λ first what known old new covered later.
     let fixed = c.args.fixed.now in
     let types = fixed.table.now.system.now.library.blocks in
     let sys = system_of fixed.table.now.system.now in
     let o = unread c.args.ahead.now (g.R.Read.remaining c.args.input.now) in
     let n = g.R.Read.remaining c.look.new.input in
-    let again = reread_on types first sys fixed.form only c.args.terms.steps c.args.self.now known o (unread c.look.new.self n) old new
+    let again = reread_on types first sys fixed.form what c.args.terms.steps c.args.self.now known o (unread c.look.new.self n) old new
     ((c.in_ok-is_cut.ensures.whole c.if-is_cut.false).after known) covered c.args.line.now.key.tick later in
     ok_both c.take_counting_steps.result _ _ _ c.take_counting_steps.ensures.whole (c.take_counting_steps.ensures.takes (last_look (opening_look sys) again.0.gone.takings) n again.0.gone.look)
     (λ step whole goes.
-    advanced_on types first sys fixed.form only c.args.terms.steps c.args.self.now known (unread c.look.new.self n) old new again.0 c.args.line.now again.1 c.requires.is c.take_counting_steps.new.self c.take_counting_steps.new.ahead
+    advanced_on types first sys fixed.form what c.args.terms.steps c.args.self.now known (unread c.look.new.self n) old new again.0 c.args.line.now again.1 c.requires.is c.take_counting_steps.new.self c.take_counting_steps.new.ahead
     (unread c.take_counting_steps.new.ahead n) step whole goes)
 
 pub returns-then-is_cut-clause-takes : goal.returns-then-is_cut-clause-takes

@@ -25,17 +25,17 @@ use Rattle.fb_inspect.proofs.walk.Walk.go.Goals as goal
 
 pub loop-init : goal.loop-init
 loop-init g c = (
-  λ only known starts read.
+  λ what known starts read.
       let fixed = c.args.fixed.now in
       let types = fixed.table.now.system.now.library.blocks in
       let sys = system_of fixed.table.now.system.now in
       let w = c.args.self.now in
       let o = g.R.Read.remaining c.args.input.now in
       let out = g.W.Write.contents c.args.out.now in
-      subst (λ (p : Option (List ℕ)). HasCovered types w.trail.marks sys fixed.form only c.args.terms.steps w known p out out) (sym (none_ahead c.args.ahead.now.text.items o c.requires.empty))
-      (covered_none sys fixed.form only c.args.terms.steps types w known o out starts read),
-  λ only rest text few names starts known begins.
-      (rest, known, well_first (system_of c.args.fixed.now.table.now.system.now) c.args.fixed.now.form only c.args.terms.steps c.args.self.now c.args.ahead.now rest text starts c.requires.empty begins),
+      subst (λ (p : Option (List ℕ)). HasCovered types w.trail.marks sys fixed.form what c.args.terms.steps w known p out out) (sym (none_ahead c.args.ahead.now.text.items o c.requires.empty))
+      (covered_none sys fixed.form what c.args.terms.steps types w known o out starts read),
+  λ what rest text few names starts known begins.
+      (rest, known, well_first (system_of c.args.fixed.now.table.now.system.now) c.args.fixed.now.form what c.args.terms.steps c.args.self.now c.args.ahead.now rest text starts c.requires.empty begins),
 )
 
 pub advance-requires-clause-look : goal.advance-requires-clause-look
@@ -51,17 +51,17 @@ advance-requires-clause-next g c =
     (last_tick 0 covered.gone.gone.lines, covered.gone.next)
 
 pub returns-in_err-advance-clause-fault : goal.returns-in_err-advance-clause-fault
-returns-in_err-advance-clause-fault g c = λ only starts.
+returns-in_err-advance-clause-fault g c = λ what starts.
     let fixed = c.args.fixed.now in
     let known = some_text (g.R.Read.remaining c.args.input.now) c.args.self.now.trail.reading.line.items in
-    let covered = c.loop.invariant.0 only known.0 starts known.1 in
+    let covered = c.loop.invariant.0 what known.0 starts known.1 in
     err_any c.from_residual.result _
-    (front_gone (system_of fixed.table.now.system.now) fixed.form only c.args.terms.steps c.loop.self covered.gone.takings known.0 (unread c.loop.ahead (g.R.Read.remaining c.loop.input))
+    (front_gone (system_of fixed.table.now.system.now) fixed.form what c.args.terms.steps c.loop.self covered.gone.takings known.0 (unread c.loop.ahead (g.R.Read.remaining c.loop.input))
     (g.W.Write.contents c.args.out.now) (g.W.Write.contents c.loop.out) covered.gone.gone)
 
 pub returns-in_err-flush_much-in-Taken-clause-fault :
     goal.returns-in_err-flush_much-in-Taken-clause-fault
-returns-in_err-flush_much-in-Taken-clause-fault g c = λ only starts.
+returns-in_err-flush_much-in-Taken-clause-fault g c = λ what starts.
     let fixed = c.args.fixed.now in
     let types = fixed.table.now.system.now.library.blocks in
     let sys = system_of fixed.table.now.system.now in
@@ -71,15 +71,15 @@ returns-in_err-flush_much-in-Taken-clause-fault g c = λ only starts.
     let mid = g.W.Write.contents c.loop.out in
     let r = unread c.advance.new.ahead (g.R.Read.remaining c.advance.new.input) in
     let known = some_text (g.R.Read.remaining c.args.input.now) c.args.self.now.trail.reading.line.items in
-    let next = subst (λ (s : Step). HasAdvanced types first sys fixed.form only steps c.advance.new.self known.0 r old mid s) c.in-Taken.is
-    (c.in_ok-advance.ensures.goes first only known.0 old mid (c.loop.invariant.0 only known.0 starts known.1)) in
+    let next = subst (λ (s : Step). HasAdvanced types first sys fixed.form what steps c.advance.new.self known.0 r old mid s) c.in-Taken.is
+    (c.in_ok-advance.ensures.goes first what known.0 old mid (c.loop.invariant.0 what known.0 starts known.1)) in
     err_any c.from_residual-in_err-flush_much-in-Taken.result _
-    (front_flush sys fixed.form only steps c.advance.new.self next.gone.takings known.0 r old mid (g.W.Write.contents c.flush_much.new.out) c.in_err-flush_much-in-Taken.field-0.0 next.gone.gone
+    (front_flush sys fixed.form what steps c.advance.new.self next.gone.takings known.0 r old mid (g.W.Write.contents c.flush_much.new.out) c.in_err-flush_much-in-Taken.field-0.0 next.gone.gone
     c.in_err-flush_much-in-Taken.ensures.part)
 
 pub loop-preserved : goal.loop-preserved
 loop-preserved g c = (
-  λ only known starts read.
+  λ what known starts read.
       let fixed = c.args.fixed.now in
       let types = fixed.table.now.system.now.library.blocks in
       let sys = system_of fixed.table.now.system.now in
@@ -88,20 +88,20 @@ loop-preserved g c = (
       let old = g.W.Write.contents c.args.out.now in
       let mid = g.W.Write.contents c.loop.out in
       let r = unread c.advance.new.ahead (g.R.Read.remaining c.advance.new.input) in
-      let next = subst (λ (s : Step). HasAdvanced types first sys fixed.form only steps c.advance.new.self known r old mid s) c.in-Taken.is
-      (c.in_ok-advance.ensures.goes first only known old mid (c.loop.invariant.0 only known starts read)) in
-      flushed_on sys fixed.form only steps types first c.advance.new.self c.flush_much.new.self known r old mid (g.W.Write.contents c.flush_much.new.out) next c.in_ok-flush_much-in-Taken.ensures.whole,
-  λ only rest text few names starts known begins.
+      let next = subst (λ (s : Step). HasAdvanced types first sys fixed.form what steps c.advance.new.self known r old mid s) c.in-Taken.is
+      (c.in_ok-advance.ensures.goes first what known old mid (c.loop.invariant.0 what known starts read)) in
+      flushed_on sys fixed.form what steps types first c.advance.new.self c.flush_much.new.self known r old mid (g.W.Write.contents c.flush_much.new.out) next c.in_ok-flush_much-in-Taken.ensures.whole,
+  λ what rest text few names starts known begins.
       let fixed = c.args.fixed.now in
       let sys = system_of fixed.table.now.system.now in
-      let before = c.loop.invariant.1 only rest text few names starts known begins in
+      let before = c.loop.invariant.1 what rest text few names starts known begins in
       let after = subst (λ (s : Step). GoesAfter sys fixed.form c.args.terms.steps c.advance.new.self c.advance.new.ahead (g.R.Read.remaining c.advance.new.input) text (Ok s)) c.in-Taken.is
       (c.in_ok-advance.ensures.stands before.0 text few names before.1 before.2) in
       (after.0, after.1, well_flushed sys fixed.form c.args.terms.steps c.advance.new.self c.flush_much.new.self c.advance.new.ahead after.0 text after.2),
 )
 
 pub returns-in-Ended-clause-fault : goal.returns-in-Ended-clause-fault
-returns-in-Ended-clause-fault g c = λ only starts.
+returns-in-Ended-clause-fault g c = λ what starts.
     let fixed = c.args.fixed.now in
     let i = fixed.table.now.system.now in
     let first = c.args.self.now.trail.marks in
@@ -110,14 +110,14 @@ returns-in-Ended-clause-fault g c = λ only starts.
     let mid = g.W.Write.contents c.loop.out in
     let r = unread c.advance.new.ahead (g.R.Read.remaining c.advance.new.input) in
     let known = some_text (g.R.Read.remaining c.args.input.now) c.args.self.now.trail.reading.line.items in
-    let next = subst (λ (s : Step). HasAdvanced i.library.blocks first (system_of i) fixed.form only steps c.advance.new.self known.0 r old mid s) c.in-Ended.is
-    (c.in_ok-advance.ensures.goes first only known.0 old mid (c.loop.invariant.0 only known.0 starts known.1)) in
+    let next = subst (λ (s : Step). HasAdvanced i.library.blocks first (system_of i) fixed.form what steps c.advance.new.self known.0 r old mid s) c.in-Ended.is
+    (c.in_ok-advance.ensures.goes first what known.0 old mid (c.loop.invariant.0 what known.0 starts known.1)) in
     fails_joined c.and.result c.finish.result _ _ c.and.ensures
     (err_then c.finish.result _ _ c.finish.ensures.fault
-    (λ part. complete_part i fixed.form only steps first c.advance.new.self c.in-Ended.field-0 known.0 r old mid next (g.W.Write.contents c.finish.new.out) part))
+    (λ part. complete_part i fixed.form what steps first c.advance.new.self c.in-Ended.field-0 known.0 r old mid next (g.W.Write.contents c.finish.new.out) part))
 
 pub returns-in-Ended-clause-whole : goal.returns-in-Ended-clause-whole
-returns-in-Ended-clause-whole g c = λ only known starts read.
+returns-in-Ended-clause-whole g c = λ what known starts read.
     let fixed = c.args.fixed.now in
     let i = fixed.table.now.system.now in
     let first = c.args.self.now.trail.marks in
@@ -126,16 +126,16 @@ returns-in-Ended-clause-whole g c = λ only known starts read.
     let mid = g.W.Write.contents c.loop.out in
     let new = g.W.Write.contents c.finish.new.out in
     let r = unread c.advance.new.ahead (g.R.Read.remaining c.advance.new.input) in
-    let next = subst (λ (s : Step). HasAdvanced i.library.blocks first (system_of i) fixed.form only steps c.advance.new.self known r old mid s) c.in-Ended.is
-    (c.in_ok-advance.ensures.goes first only known old mid (c.loop.invariant.0 only known starts read)) in
+    let next = subst (λ (s : Step). HasAdvanced i.library.blocks first (system_of i) fixed.form what steps c.advance.new.self known r old mid s) c.in-Ended.is
+    (c.in_ok-advance.ensures.goes first what known old mid (c.loop.invariant.0 what known starts read)) in
     on_joined c.and.result c.finish.result _ _ c.and.ensures
     (on_ok c.finish.result _ _ c.finish.ensures.finishes
     (λ over.
-    shown_whole c.args.terms.cut (system_of i) only steps known old new
-    (complete_shown i fixed.form only steps first c.advance.new.self c.in-Ended.field-0 known r old mid next new over)))
+    shown_whole c.args.terms.cut (system_of i) what steps known old new
+    (complete_shown i fixed.form what steps first c.advance.new.self c.in-Ended.field-0 known r old mid next new over)))
 
 pub returns-in-Ended-clause-covered : goal.returns-in-Ended-clause-covered
-returns-in-Ended-clause-covered g c = λ only known starts read.
+returns-in-Ended-clause-covered g c = λ what known starts read.
     let fixed = c.args.fixed.now in
     let i = fixed.table.now.system.now in
     let first = c.args.self.now.trail.marks in
@@ -143,15 +143,15 @@ returns-in-Ended-clause-covered g c = λ only known starts read.
     let old = g.W.Write.contents c.args.out.now in
     let mid = g.W.Write.contents c.loop.out in
     let r = unread c.advance.new.ahead (g.R.Read.remaining c.advance.new.input) in
-    let next = subst (λ (s : Step). HasAdvanced i.library.blocks first (system_of i) fixed.form only steps c.advance.new.self known r old mid s) c.in-Ended.is
-    (c.in_ok-advance.ensures.goes first only known old mid (c.loop.invariant.0 only known starts read)) in
+    let next = subst (λ (s : Step). HasAdvanced i.library.blocks first (system_of i) fixed.form what steps c.advance.new.self known r old mid s) c.in-Ended.is
+    (c.in_ok-advance.ensures.goes first what known old mid (c.loop.invariant.0 what known starts read)) in
     ok_joined c.and.result c.finish.result _ _ _ c.and.ensures c.finish.ensures.finishes
     (λ finishes.
-    subst (λ (m : Marks). IfSome known (λ text. IsCovered i only steps text first m)) (sym c.finish.ensures.marks)
-    (complete_covered i fixed.form only steps first c.advance.new.self c.in-Ended.field-0 known r old mid next finishes.over))
+    subst (λ (m : Marks). IfSome known (λ text. IsCovered i what steps text first m)) (sym c.finish.ensures.marks)
+    (complete_covered i fixed.form what steps first c.advance.new.self c.in-Ended.field-0 known r old mid next finishes.over))
 
 pub returns-in-CutOff-clause-fault : goal.returns-in-CutOff-clause-fault
-returns-in-CutOff-clause-fault g c = λ only starts.
+returns-in-CutOff-clause-fault g c = λ what starts.
     let fixed = c.args.fixed.now in
     let i = fixed.table.now.system.now in
     let first = c.args.self.now.trail.marks in
@@ -160,14 +160,14 @@ returns-in-CutOff-clause-fault g c = λ only starts.
     let mid = g.W.Write.contents c.loop.out in
     let r = unread c.advance.new.ahead (g.R.Read.remaining c.advance.new.input) in
     let known = some_text (g.R.Read.remaining c.args.input.now) c.args.self.now.trail.reading.line.items in
-    let next = subst (λ (s : Step). HasAdvanced i.library.blocks first (system_of i) fixed.form only steps c.advance.new.self known.0 r old mid s) c.in-CutOff.is
-    (c.in_ok-advance.ensures.goes first only known.0 old mid (c.loop.invariant.0 only known.0 starts known.1)) in
+    let next = subst (λ (s : Step). HasAdvanced i.library.blocks first (system_of i) fixed.form what steps c.advance.new.self known.0 r old mid s) c.in-CutOff.is
+    (c.in_ok-advance.ensures.goes first what known.0 old mid (c.loop.invariant.0 what known.0 starts known.1)) in
     fails_joined c.and-in-CutOff.result c.finish_cut.result _ _ c.and-in-CutOff.ensures
     (err_then c.finish_cut.result _ _ c.finish_cut.ensures.fault
-    (λ part. severed_part i fixed.form only steps first c.advance.new.self known.0 old mid next (g.W.Write.contents c.finish_cut.new.out) part))
+    (λ part. severed_part i fixed.form what steps first c.advance.new.self known.0 old mid next (g.W.Write.contents c.finish_cut.new.out) part))
 
 pub returns-in-CutOff-clause-whole : goal.returns-in-CutOff-clause-whole
-returns-in-CutOff-clause-whole g c = λ only known starts read.
+returns-in-CutOff-clause-whole g c = λ what known starts read.
     let fixed = c.args.fixed.now in
     let i = fixed.table.now.system.now in
     let first = c.args.self.now.trail.marks in
@@ -176,16 +176,16 @@ returns-in-CutOff-clause-whole g c = λ only known starts read.
     let mid = g.W.Write.contents c.loop.out in
     let new = g.W.Write.contents c.finish_cut.new.out in
     let r = unread c.advance.new.ahead (g.R.Read.remaining c.advance.new.input) in
-    let next = subst (λ (s : Step). HasAdvanced i.library.blocks first (system_of i) fixed.form only steps c.advance.new.self known r old mid s) c.in-CutOff.is
-    (c.in_ok-advance.ensures.goes first only known old mid (c.loop.invariant.0 only known starts read)) in
+    let next = subst (λ (s : Step). HasAdvanced i.library.blocks first (system_of i) fixed.form what steps c.advance.new.self known r old mid s) c.in-CutOff.is
+    (c.in_ok-advance.ensures.goes first what known old mid (c.loop.invariant.0 what known starts read)) in
     on_joined c.and-in-CutOff.result c.finish_cut.result _ _ c.and-in-CutOff.ensures
     (on_ok c.finish_cut.result _ _ c.finish_cut.ensures.finishes
     (λ finishes.
-    shown_cut c.args.terms.cut (system_of i) only steps known old new (c.in_ok-advance.ensures.cut c.in-CutOff.is)
-    (severed_shown i fixed.form only steps first c.advance.new.self known old mid next new finishes)))
+    shown_cut c.args.terms.cut (system_of i) what steps known old new (c.in_ok-advance.ensures.cut c.in-CutOff.is)
+    (severed_shown i fixed.form what steps first c.advance.new.self known old mid next new finishes)))
 
 pub returns-in-CutOff-clause-covered : goal.returns-in-CutOff-clause-covered
-returns-in-CutOff-clause-covered g c = λ only known starts read.
+returns-in-CutOff-clause-covered g c = λ what known starts read.
     let fixed = c.args.fixed.now in
     let i = fixed.table.now.system.now in
     let first = c.args.self.now.trail.marks in
@@ -193,38 +193,38 @@ returns-in-CutOff-clause-covered g c = λ only known starts read.
     let old = g.W.Write.contents c.args.out.now in
     let mid = g.W.Write.contents c.loop.out in
     let r = unread c.advance.new.ahead (g.R.Read.remaining c.advance.new.input) in
-    let next = subst (λ (s : Step). HasAdvanced i.library.blocks first (system_of i) fixed.form only steps c.advance.new.self known r old mid s) c.in-CutOff.is
-    (c.in_ok-advance.ensures.goes first only known old mid (c.loop.invariant.0 only known starts read)) in
+    let next = subst (λ (s : Step). HasAdvanced i.library.blocks first (system_of i) fixed.form what steps c.advance.new.self known r old mid s) c.in-CutOff.is
+    (c.in_ok-advance.ensures.goes first what known old mid (c.loop.invariant.0 what known starts read)) in
     let allowed = c.in_ok-advance.ensures.cut c.in-CutOff.is in
-    let covered = subst (λ (m : Marks). IfSome known (λ text. IsCutCovered i only text first m)) (sym c.finish_cut.ensures.marks)
-    (severed_covered i fixed.form only steps first c.advance.new.self known old mid next) in
+    let covered = subst (λ (m : Marks). IfSome known (λ text. IsCutCovered i what text first m)) (sym c.finish_cut.ensures.marks)
+    (severed_covered i fixed.form what steps first c.advance.new.self known old mid next) in
     ok_joined c.and-in-CutOff.result c.finish_cut.result _ _ _ c.and-in-CutOff.ensures c.finish_cut.ensures.finishes (λ finishes. on_some known _ _ covered (λ text is. (allowed, is)))
 
 pub returns-clause-fault : goal.returns-clause-fault
-returns-clause-fault g c = λ only starts.
+returns-clause-fault g c = λ what starts.
     let fixed = c.args.fixed.now in
     let known = some_text (g.R.Read.remaining c.args.input.now) c.args.self.now.trail.reading.line.items in
-    let covered = c.loop.invariant.0 only known.0 starts known.1 in
-    front_gone (system_of fixed.table.now.system.now) fixed.form only c.args.terms.steps c.loop.self covered.gone.takings known.0 (unread c.loop.ahead (g.R.Read.remaining c.loop.input))
+    let covered = c.loop.invariant.0 what known.0 starts known.1 in
+    front_gone (system_of fixed.table.now.system.now) fixed.form what c.args.terms.steps c.loop.self covered.gone.takings known.0 (unread c.loop.ahead (g.R.Read.remaining c.loop.input))
     (g.W.Write.contents c.args.out.now) (g.W.Write.contents c.loop.out) covered.gone.gone
 
 pub returns-in_err-advance-clause-refused : goal.returns-in_err-advance-clause-refused
-returns-in_err-advance-clause-refused g c = λ only rest text few names starts known begins.
+returns-in_err-advance-clause-refused g c = λ what rest text few names starts known begins.
     let fixed = c.args.fixed.now in
     let sys = system_of fixed.table.now.system.now in
-    let before = c.loop.invariant.1 only rest text few names starts known begins in
+    let before = c.loop.invariant.1 what rest text few names starts known begins in
     let q = err_from_is_err_and c.from_residual.result c.from_residual.ensures.1 in
     rw (q.1, q.2)
     (refused_then c.in_err-advance.field-0.0 (λ n. IsWrongLine sys c.args.terms.steps n text) (λ n. IsWrongAt sys c.args.terms.steps n text) (c.in_err-advance.ensures.stands before.0 text few names before.1 before.2) (λ n wrong. inl wrong))
 
 pub returns-in_err-flush_much-in-Taken-clause-refused :
     goal.returns-in_err-flush_much-in-Taken-clause-refused
-returns-in_err-flush_much-in-Taken-clause-refused g c = λ only rest text few names starts known begins.
+returns-in_err-flush_much-in-Taken-clause-refused g c = λ what rest text few names starts known begins.
     let q = err_from_is_err_and c.from_residual-in_err-flush_much-in-Taken.result c.from_residual-in_err-flush_much-in-Taken.ensures.1 in
     rw (q.1, q.2) tt
 
 pub returns-in-Ended-clause-refused : goal.returns-in-Ended-clause-refused
-returns-in-Ended-clause-refused g c = λ only rest text few names starts known begins.
+returns-in-Ended-clause-refused g c = λ what rest text few names starts known begins.
     let fixed = c.args.fixed.now in
     let i = fixed.table.now.system.now in
     let sys = system_of i in
@@ -234,14 +234,14 @@ returns-in-Ended-clause-refused g c = λ only rest text few names starts known b
     let mid = g.W.Write.contents c.loop.out in
     let r = unread c.advance.new.ahead (g.R.Read.remaining c.advance.new.input) in
     let read = subst (λ (o : Option (List ℕ)). Consumes (Some text) o c.args.self.now.trail.reading.line.items) (sym known) begins.is in
-    let next = subst (λ (s : Step). HasAdvanced i.library.blocks first sys fixed.form only steps c.advance.new.self (Some text) r old mid s) c.in-Ended.is
-    (c.in_ok-advance.ensures.goes first only (Some text) old mid (c.loop.invariant.0 only (Some text) starts read)) in
+    let next = subst (λ (s : Step). HasAdvanced i.library.blocks first sys fixed.form what steps c.advance.new.self (Some text) r old mid s) c.in-Ended.is
+    (c.in_ok-advance.ensures.goes first what (Some text) old mid (c.loop.invariant.0 what (Some text) starts read)) in
     err_joined c.and.result c.finish.result _ _ c.and.ensures
     (err_refused c.finish.result (λ n. (n ≡ c.advance.new.self.trail.reading.number + 1) × IfSome r (λ rest. 0 < length rest)) (λ n. IsWrongAt sys steps n text) c.finish.ensures.refused
-    (λ n over. after_last i.library.blocks first sys fixed.form only steps c.advance.new.self c.in-Ended.field-0 text r old mid n next over.0 over.1))
+    (λ n over. after_last i.library.blocks first sys fixed.form what steps c.advance.new.self c.in-Ended.field-0 text r old mid n next over.0 over.1))
 
 pub returns-in-CutOff-clause-refused : goal.returns-in-CutOff-clause-refused
-returns-in-CutOff-clause-refused g c = λ only rest text few names starts known begins.
+returns-in-CutOff-clause-refused g c = λ what rest text few names starts known begins.
     err_joined c.and-in-CutOff.result c.finish_cut.result _ _ c.and-in-CutOff.ensures (err_none c.finish_cut.result _ c.finish_cut.ensures.none)
 
 pub returns-in_err-advance-clause-whole : goal.returns-in_err-advance-clause-whole

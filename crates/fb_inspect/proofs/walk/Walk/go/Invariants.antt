@@ -1,8 +1,8 @@
 use Rattle.std.proofs.Common.{◌≡◌, ◌≤◌, ℕ, List, Option, Some}
 use Rattle.std.specs.Io.KnownBytes.{Consumes}
 use Rattle.fb_types.specs.Headline.{system_of}
-use Rattle.fb_types.specs.Names.{Name}
 use Rattle.fb_wave.specs.Named.{HasNames}
+use Rattle.fb_inspect.specs.Selections.{Selection}
 use Rattle.fb_inspect.specs.walk.Looks.{most}
 use Rattle.fb_inspect.specs.walk.Standing.{BeginsText, IsLeft, StandsWell}
 use Rattle.fb_inspect.specs.walk.Walking.{HasCovered, Starts, unread}
@@ -11,9 +11,9 @@ use Rattle.fb_inspect.proofs.walk.Walk.go.Given as goal
 -- the takings up to here were gone through, and the walk stands at the next line
 abbrev pub invariant-loop : goal.invariant-loop
 invariant-loop g l =
-    ((only : List Name) (known : Option (List ℕ)) → Starts (system_of l.fixed.table.now.system.now) l.fixed.form only l.fn.self
+    ((what : Selection) (known : Option (List ℕ)) → Starts (system_of l.fixed.table.now.system.now) l.fixed.form what l.fn.self
     → Consumes known (g.R.Read.remaining l.fn.input) l.fn.self.trail.reading.line.items
-    → HasCovered l.fixed.table.now.system.now.library.blocks l.fn.self.trail.marks (system_of l.fixed.table.now.system.now) l.fixed.form only l.terms.steps l.self known (unread l.ahead (g.R.Read.remaining l.input)) (g.W.Write.contents l.fn.out) (g.W.Write.contents l.out))
-    × ((only : List Name) (rest text : List ℕ) → l.terms.steps ≤ most → HasNames (system_of l.fixed.table.now.system.now) → Starts (system_of l.fixed.table.now.system.now) l.fixed.form only l.fn.self
+    → HasCovered l.fixed.table.now.system.now.library.blocks l.fn.self.trail.marks (system_of l.fixed.table.now.system.now) l.fixed.form what l.terms.steps l.self known (unread l.ahead (g.R.Read.remaining l.input)) (g.W.Write.contents l.fn.out) (g.W.Write.contents l.out))
+    × ((what : Selection) (rest text : List ℕ) → l.terms.steps ≤ most → HasNames (system_of l.fixed.table.now.system.now) → Starts (system_of l.fixed.table.now.system.now) l.fixed.form what l.fn.self
     → g.R.Read.remaining l.fn.input ≡ Some rest → BeginsText (system_of l.fixed.table.now.system.now) l.fixed.form l.fn.self.trail.reading.line.items l.fn.ahead.watched.is_excess rest text
     → IsLeft (g.R.Read.remaining l.input) (λ left. StandsWell (system_of l.fixed.table.now.system.now) l.fixed.form l.terms.steps l.self l.ahead left text))

@@ -1,5 +1,5 @@
-use Rattle.std.proofs.Common.{◌≡◌, ℕ, ◌<◌, suc, List, Bool, length, length-set, slice_set, refl, ap, sym, subst, inl, ◌∙◌, arith}
-use Rattle.std.specs.Prelude.{IfErr, slice_get}
+use Rattle.std.proofs.Common.{◌≡◌, ℕ, ◌<◌, suc, List, length, length-set, slice_set, refl, ap, sym, subst, inl, ◌∙◌, arith}
+use Rattle.std.specs.Prelude.{IfErr, OnOk, ◌&&◌, if◌then◌else◌, slice_get, take}
 use Rattle.std.proofs.lemmas.Option.{same_Some}
 use Rattle.fb_types.specs.Headline.{system_of}
 use Rattle.fb_types.specs.Numbers.{path_at}
@@ -7,7 +7,13 @@ use Rattle.fb_types.proofs.ByIndex.{element_at}
 use Rattle.fb_net.proofs.Others.{get_set_same}
 use Rattle.fb_inspect.specs.walk.Looks.{IsTaking, IsTakingAt, left_at}
 use Rattle.fb_inspect.specs.Refusals.{FailsBy, OfRefusal}
-use Rattle.fb_inspect.specs.walk.Walking.{flag_at}
+use Rattle.fb_inspect.specs.Selections.{is_wanted}
+use Rattle.fb_inspect.specs.walk.Lines.{IsAlone}
+use Rattle.fb_inspect.specs.walk.OfWalk.{IsNext}
+use Rattle.fb_inspect.specs.walk.Walking.{WalkTakes, is_chart}
+use Rattle.fb_inspect.specs.declared.walk.reading.Reading.{Reading}
+use Rattle.fb_inspect.specs.declared.walk.blocks.Remembered.{Remembered}
+use Rattle.fb_inspect.specs.declared.walk.trail.Trail.{Trail}
 use Rattle.fb_inspect.specs.declared.walk.steps.TickSteps.{TickSteps}
 use Rattle.fb_inspect.specs.declared.walk.Walk.{Walk}
 use Rattle.fb_inspect.proofs.lemmas.results.Errors.{of_number}
@@ -41,29 +47,44 @@ react_kept-stop-requires g c =
 
 pub returns-clause-goes : goal.returns-clause-goes
 returns-clause-goes g c = λ look is.
+    let types = c.args.fixed.now.table.now.system.now.library.blocks in
+    let sys = system_of c.args.fixed.now.table.now.system.now in
+    let form = c.args.fixed.now.form in
+    let limit = c.args.fixed.now.limit in
     let l = c.args.line.now in
     let old : Walk = c.args.self.now in
-    let mid : Walk = record old { steps = c.use_step.new.steps; trail = record (old.trail) { is_shown = c.flag_at-self.result } } in
+    let mid : Walk = record old { steps = c.use_step.new.steps; trail = record (old.trail) { is_shown = c.may_show-self.result } } in
+    let last : Walk = c.leave_out.new.self in
+    let gone : Trail = c.react_kept-stop.new.trail in
+    let others = c.leave_out.ensures.others in
     let stepped = c.if-not-use_step.ensures.used in
     let within = subst (λ (n : ℕ). l.instance < n) (sym is.are.all) c.requires.is.line.belongs.instance in
     let at = item_is old.blocks.items l.instance c.index_mut-block.result.now within c.index_mut-block.ensures.value in
     let counted = ap length stepped.steps_are ∙ length-set c.args.self.now.steps.items l.key.resource stepped.after ∙ is.counts in
     let resource = subst (λ (n : ℕ). l.key.resource < n) (sym counted) c.requires.is.line.belongs.resource in
+    let before = g.R.Read.remaining c.args.input.now in
+    let after = g.R.Read.remaining c.react_kept-stop.new.input in
+    let all = gone.page.text.items in
     ok_then c.react_kept-stop.result _ _ (c.react_kept-stop.ensures.goes look (is.are.each l.instance c.index_mut-block.result.now at))
     (λ stop goes.
-    taking_gone c.args.fixed.now.table.now.system.now.library.blocks (system_of c.args.fixed.now.table.now.system.now) c.args.fixed.now.form c.args.fixed.now.limit look c.facts.ensures.numbered l stop old mid _
-    (g.R.Read.remaining c.args.input.now) (g.R.Read.remaining c.react_kept-stop.new.input) c.requires.is.line.belongs.instance is c.if-line-gt-LATEST_TICK.false
-    stepped refl refl refl refl (c.flag_at-self.ensures ∙ ap (λ (fs : List Bool). flag_at fs l.instance) c.as_slice.ensures.value) refl refl refl
+    subst (λ (t : Trail). WalkTakes types sys form limit look l stop old (record last { trail = t }) before after) (sym (ap (λ (w : Walk). w.trail) others))
+    (taking_gone types sys form limit look c.facts.ensures.numbered l stop old mid (record last { trail = gone }) last.trail.page before after c.requires.is.line.belongs.instance is
+    c.if-line-gt-LATEST_TICK.false stepped refl refl refl refl c.may_show-self.ensures refl refl refl
+    (c.leave_out.ensures.text
+    ∙ ap (λ (bs : List Remembered). if is_wanted old.shown.events (gone.marks.charts.lost && is_chart (slice_get bs l.instance)) then all else take c.len-before.result all)
+    (sym (ap (λ (w : Walk). w.blocks.items) others))
+    ∙ ap (λ (n : ℕ). if is_wanted old.shown.events (gone.marks.charts.lost && is_chart (slice_get last.blocks.items l.instance)) then all else take n all)
+    (c.len-before.ensures ∙ old.trail.page.text.ok.0))
     (record {
       own = c.index_mut-steps.result.now;
       stood = item_is c.use_step.new.steps.items l.key.resource c.index_mut-steps.result.now resource c.index_mut-steps.ensures.value;
       block = c.react_kept-stop.new.block;
       left = c.react_kept-stop.new.meter.left;
       goes = goes;
-      blocks_are = refl;
-      steps_are = ap (slice_set c.use_step.new.steps.items l.key.resource) c.settle.ensures;
-      shown_are = refl;
-    }))
+      blocks_are = ap (λ (w : Walk). w.blocks.items) others;
+      steps_are = ap (λ (w : Walk). w.steps.items) others ∙ ap (slice_set c.use_step.new.steps.items l.key.resource) c.settle.ensures;
+      shown_are = ap (λ (w : Walk). w.shown) others;
+    })))
 
 pub returns-clause-alone : goal.returns-clause-alone
 returns-clause-alone g c =
@@ -71,7 +92,10 @@ returns-clause-alone g c =
     let are = c.requires.look.1.are in
     let within = subst (λ (n : ℕ). l.instance < n) (sym are.all) c.requires.is.line.belongs.instance in
     let at = item_is c.args.self.now.blocks.items l.instance c.index_mut-block.result.now within c.index_mut-block.ensures.value in
-    ok_on c.react_kept-stop.result _ _ (c.react_kept-stop.ensures.goes c.requires.look.0 (are.each l.instance c.index_mut-block.result.now at)) (λ stop goes. goes.alone)
+    let before = g.R.Read.remaining c.args.input.now in
+    let after = g.R.Read.remaining c.react_kept-stop.new.input in
+    subst (λ (r : Reading). OnOk c.react_kept-stop.result (IsAlone c.args.self.now.trail.reading.line.items before → IsAlone r.line.items after)) (sym (ap (λ (w : Walk). w.trail.reading) c.leave_out.ensures.others))
+    (ok_on c.react_kept-stop.result _ _ (c.react_kept-stop.ensures.goes c.requires.look.0 (are.each l.instance c.index_mut-block.result.now at)) (λ stop goes. goes.alone))
 
 pub returns-then-line-gt-LATEST_TICK-clause-refused : goal.returns-then-line-gt-LATEST_TICK-clause-refused
 returns-then-line-gt-LATEST_TICK-clause-refused g c = λ look names plain is.
@@ -117,10 +141,12 @@ returns-clause-refused g c = λ look names plain is.
     let resource = subst (λ (n : ℕ). l.key.resource < n) (sym counted) c.requires.is.line.belongs.resource in
     let there = item_is c.use_step.new.steps.items l.key.resource c.index_mut-steps.result.now resource c.index_mut-steps.ensures.value in
     let same : c.index_mut-steps.result.now ≡ stepped.after = same_Some c.index_mut-steps.result.now stepped.after (sym there ∙ stood) in
-    err_refused c.react_kept-stop.result (FailsBy (IsTakingAt stepped.after.meter.left look k) sys form l old new before after) (FailsBy (IsTaking sys limit look) sys form l old new before after)
+    subst (λ (r : Reading). IfErr c.react_kept-stop.result (OfRefusal (FailsBy (IsTaking sys limit look) sys form l old r before after))) (sym (ap (λ (w : Walk). w.trail.reading) c.leave_out.ensures.others))
+    (err_refused c.react_kept-stop.result (FailsBy (IsTakingAt stepped.after.meter.left look k) sys form l old new before after) (FailsBy (IsTaking sys limit look) sys form l old new before after)
     (subst (λ (s : TickSteps). IfErr c.react_kept-stop.result (OfRefusal (FailsBy (IsTakingAt s.meter.left look k) sys form l old new before after))) same
     (c.react_kept-stop.ensures.refused look names plain (is.are.each l.instance c.index_mut-block.result.now at)))
-    (λ n fails. fails_whole sys limit look l stepped.after.meter.left used c.if-line-gt-LATEST_TICK.false form old new before after n fails)
+    (λ n fails. fails_whole sys limit look l stepped.after.meter.left used c.if-line-gt-LATEST_TICK.false form old new before after n fails))
 
 pub returns-clause-next : goal.returns-clause-next
-returns-clause-next g c = c.react_kept-stop.ensures.next
+returns-clause-next g c =
+    subst (λ (r : Reading). OnOk c.react_kept-stop.result (IsNext c.args.fixed.now c.args.line.now.key.tick r)) (sym (ap (λ (w : Walk). w.trail.reading) c.leave_out.ensures.others)) c.react_kept-stop.ensures.next

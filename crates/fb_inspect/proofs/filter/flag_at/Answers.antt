@@ -2,7 +2,7 @@ use Rattle.std.proofs.Common.{Bool, Option, ap, false, sym}
 use Rattle.std.specs.Prelude.{unwrap_or}
 use Rattle.std.proofs.lemmas.Option.{slice_get_past}
 use Rattle.fb_inspect.proofs.lemmas.reactions.Placed.{item_is}
-use Rattle.fb_inspect.proofs.walk.flag_at.Goals as goal
+use Rattle.fb_inspect.proofs.filter.flag_at.Goals as goal
 
 pub returns-in-Some : goal.returns-in-Some
 returns-in-Some c =
