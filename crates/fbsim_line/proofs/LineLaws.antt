@@ -11,7 +11,7 @@ use Rattle.clap.specs.declared.error.kind.ErrorKind.TheVariants.{DisplayHelp, Di
 use Rattle.fb_types.specs.declared.run.Form.{Form}
 use Rattle.fb_types.specs.declared.run.Form.TheVariants.{One, Two}
 use Rattle.clap.specs.declared.builder.value_parser.ValueParser.{ValueParser}
-use Rattle.fbsim_line.specs.Line.{AreCall, AreLevels, AreNoCall, IsNoTask, MayBeNumber, has_any, warns, AskHelp, IsTaken, NameNoCall, IsForm, AsksCoverage, AsksDiff, AsksDraw, AsksExpect, AsksInspect, AsksWave, IsNumber, IsAction, IsTask, IsCall, IsCallOf, IsFault, IsFlag, IsText, command_name, call_name, declares_nothing, or_none, AreForms, simulator, simulator_with}
+use Rattle.fbsim_line.specs.Line.{AreCall, AreLevels, AreNoCall, IsNoTask, MayBeNumber, has_any, warns, AskHelp, IsTaken, NameNoCall, IsForm, AsksCoverage, AsksDiff, AsksDraw, AsksExpect, AsksInspect, AsksSession, AsksWave, IsNumber, IsAction, IsTask, IsCall, IsCallOf, IsFault, IsFlag, IsText, command_name, call_name, declares_nothing, or_none, AreForms, simulator, simulator_with}
 use Rattle.fbsim_line.proofs.FormLaws.{same_fault, same_subcommand, same_takes}
 use Rattle.fbsim_line.specs.declared.levels.Levels.{Levels}
 use Rattle.fbsim_line.specs.declared.line.LineFault.{LineFault}
@@ -26,6 +26,7 @@ use Rattle.fbsim_line.specs.declared.bench_line.Expect.{Expect}
 use Rattle.fbsim_line.specs.declared.coverage_line.Coverage.{Coverage}
 use Rattle.fbsim_line.specs.declared.draw_line.Draw.{Draw}
 use Rattle.fbsim_line.specs.declared.inspect_line.Inspect.{Inspect}
+use Rattle.fbsim_line.specs.declared.session_line.SessionCall.{SessionCall}
 
 pub if_none : {T : Type 0} (r : Option T) (P : Type 0) → P → IfNone r P
 if_none (Some x) P p = tt
@@ -161,6 +162,7 @@ no_name rows name is none (call.Diff d) named given = differs (codes "explain") 
 no_name rows name is none (call.Draw d types) named given = differs (codes "explain") (codes "draw") refl (sym is ∙ named)
 no_name rows name is none (call.Inspect x types) named given = differs (codes "explain") (codes "inspect") refl (sym is ∙ named)
 no_name rows name is none (call.Coverage x types) named given = differs (codes "explain") (codes "coverage") refl (sym is ∙ named)
+no_name rows name is none (call.Session x types) named given = differs (codes "explain") (codes "session") refl (sym is ∙ named)
 
 pub no_wave : (rows : List Row) (name : Text) → name ≡ codes "wave" → ((w : Wave) → AsksWave rows w → ⊥) → (r : Call) → name ≡ call_name r → IsCall rows r → ⊥
 no_wave rows name is none (call.Explain word) named given = differs (codes "wave") (codes "explain") refl (sym is ∙ named)
@@ -171,6 +173,7 @@ no_wave rows name is none (call.Diff d) named given = differs (codes "wave") (co
 no_wave rows name is none (call.Draw d types) named given = differs (codes "wave") (codes "draw") refl (sym is ∙ named)
 no_wave rows name is none (call.Inspect x types) named given = differs (codes "wave") (codes "inspect") refl (sym is ∙ named)
 no_wave rows name is none (call.Coverage x types) named given = differs (codes "wave") (codes "coverage") refl (sym is ∙ named)
+no_wave rows name is none (call.Session x types) named given = differs (codes "wave") (codes "session") refl (sym is ∙ named)
 
 pub no_expect : (rows : List Row) (name : Text) → name ≡ codes "expect" → ((x : Expect) → AsksExpect rows x → ⊥) → (r : Call) → name ≡ call_name r → IsCall rows r → ⊥
 no_expect rows name is none (call.Explain word) named given = differs (codes "expect") (codes "explain") refl (sym is ∙ named)
@@ -181,6 +184,7 @@ no_expect rows name is none (call.Diff d) named given = differs (codes "expect")
 no_expect rows name is none (call.Draw d types) named given = differs (codes "expect") (codes "draw") refl (sym is ∙ named)
 no_expect rows name is none (call.Inspect x types) named given = differs (codes "expect") (codes "inspect") refl (sym is ∙ named)
 no_expect rows name is none (call.Coverage x types) named given = differs (codes "expect") (codes "coverage") refl (sym is ∙ named)
+no_expect rows name is none (call.Session x types) named given = differs (codes "expect") (codes "session") refl (sym is ∙ named)
 
 pub no_diff : (rows : List Row) (name : Text) → name ≡ codes "diff" → ((d : Diff) → AsksDiff rows d → ⊥) → (r : Call) → name ≡ call_name r → IsCall rows r → ⊥
 no_diff rows name is none (call.Explain word) named given = differs (codes "diff") (codes "explain") refl (sym is ∙ named)
@@ -191,6 +195,7 @@ no_diff rows name is none (call.Diff d) named given = none d given
 no_diff rows name is none (call.Draw d types) named given = differs (codes "diff") (codes "draw") refl (sym is ∙ named)
 no_diff rows name is none (call.Inspect x types) named given = differs (codes "diff") (codes "inspect") refl (sym is ∙ named)
 no_diff rows name is none (call.Coverage x types) named given = differs (codes "diff") (codes "coverage") refl (sym is ∙ named)
+no_diff rows name is none (call.Session x types) named given = differs (codes "diff") (codes "session") refl (sym is ∙ named)
 
 pub no_draw : (rows : List Row) (name : Text) → name ≡ codes "draw" → ((d : Draw) → AsksDraw rows d → ⊥) → (r : Call) → name ≡ call_name r → IsCall rows r → ⊥
 no_draw rows name is none (call.Explain word) named given = differs (codes "draw") (codes "explain") refl (sym is ∙ named)
@@ -201,6 +206,7 @@ no_draw rows name is none (call.Diff d) named given = differs (codes "draw") (co
 no_draw rows name is none (call.Draw d types) named given = none d given.0
 no_draw rows name is none (call.Inspect x types) named given = differs (codes "draw") (codes "inspect") refl (sym is ∙ named)
 no_draw rows name is none (call.Coverage x types) named given = differs (codes "draw") (codes "coverage") refl (sym is ∙ named)
+no_draw rows name is none (call.Session x types) named given = differs (codes "draw") (codes "session") refl (sym is ∙ named)
 
 pub no_inspect : (rows : List Row) (name : Text) → name ≡ codes "inspect" → ((x : Inspect) → AsksInspect rows x → ⊥) → (r : Call) → name ≡ call_name r → IsCall rows r → ⊥
 no_inspect rows name is none (call.Explain word) named given = differs (codes "inspect") (codes "explain") refl (sym is ∙ named)
@@ -211,6 +217,7 @@ no_inspect rows name is none (call.Diff d) named given = differs (codes "inspect
 no_inspect rows name is none (call.Draw d types) named given = differs (codes "inspect") (codes "draw") refl (sym is ∙ named)
 no_inspect rows name is none (call.Inspect x types) named given = none x given.0
 no_inspect rows name is none (call.Coverage x types) named given = differs (codes "inspect") (codes "coverage") refl (sym is ∙ named)
+no_inspect rows name is none (call.Session x types) named given = differs (codes "inspect") (codes "session") refl (sym is ∙ named)
 
 pub no_coverage : (rows : List Row) (name : Text) → name ≡ codes "coverage" → ((x : Coverage) → AsksCoverage rows x → ⊥) → (r : Call) → name ≡ call_name r → IsCall rows r → ⊥
 no_coverage rows name is none (call.Explain word) named given = differs (codes "coverage") (codes "explain") refl (sym is ∙ named)
@@ -221,18 +228,31 @@ no_coverage rows name is none (call.Diff d) named given = differs (codes "covera
 no_coverage rows name is none (call.Draw d types) named given = differs (codes "coverage") (codes "draw") refl (sym is ∙ named)
 no_coverage rows name is none (call.Inspect x types) named given = differs (codes "coverage") (codes "inspect") refl (sym is ∙ named)
 no_coverage rows name is none (call.Coverage x types) named given = none x given.0
+no_coverage rows name is none (call.Session x types) named given = differs (codes "coverage") (codes "session") refl (sym is ∙ named)
+
+pub no_session : (rows : List Row) (name : Text) → name ≡ codes "session" → ((x : SessionCall) → AsksSession rows x → ⊥) → (r : Call) → name ≡ call_name r → IsCall rows r → ⊥
+no_session rows name is none (call.Explain word) named given = differs (codes "session") (codes "explain") refl (sym is ∙ named)
+no_session rows name is none (call.Task c types levels) named given = no_task c.action name (codes "session") is (λ e. cc) (λ e. cc) named
+no_session rows name is none (call.Wave w types) named given = differs (codes "session") (codes "wave") refl (sym is ∙ named)
+no_session rows name is none (call.Expect x) named given = differs (codes "session") (codes "expect") refl (sym is ∙ named)
+no_session rows name is none (call.Diff d) named given = differs (codes "session") (codes "diff") refl (sym is ∙ named)
+no_session rows name is none (call.Draw d types) named given = differs (codes "session") (codes "draw") refl (sym is ∙ named)
+no_session rows name is none (call.Inspect x types) named given = differs (codes "session") (codes "inspect") refl (sym is ∙ named)
+no_session rows name is none (call.Coverage x types) named given = differs (codes "session") (codes "coverage") refl (sym is ∙ named)
+no_session rows name is none (call.Session x types) named given = none x given.0
 
 pub no_other_call :
     (rows : List Row) (name : Text) → (name ≡ codes "explain" → ⊥) → (name ≡ codes "wave" → ⊥) → (name ≡ codes "expect" → ⊥) → (name ≡ codes "diff" → ⊥) → (name ≡ codes "draw" → ⊥)
-    → (name ≡ codes "inspect" → ⊥) → (name ≡ codes "coverage" → ⊥) → IsNoTask rows name → (r : Call) → name ≡ call_name r → IsCall rows r → ⊥
-no_other_call rows name no_explain no_wave no_expect no_diff no_draw no_inspect no_coverage none (call.Explain word) named given = no_explain named
-no_other_call rows name no_explain no_wave no_expect no_diff no_draw no_inspect no_coverage none (call.Task c types levels) named given = none c levels named given.0 given.2
-no_other_call rows name no_explain no_wave no_expect no_diff no_draw no_inspect no_coverage none (call.Wave w types) named given = no_wave named
-no_other_call rows name no_explain no_wave no_expect no_diff no_draw no_inspect no_coverage none (call.Expect x) named given = no_expect named
-no_other_call rows name no_explain no_wave no_expect no_diff no_draw no_inspect no_coverage none (call.Diff d) named given = no_diff named
-no_other_call rows name no_explain no_wave no_expect no_diff no_draw no_inspect no_coverage none (call.Draw d types) named given = no_draw named
-no_other_call rows name no_explain no_wave no_expect no_diff no_draw no_inspect no_coverage none (call.Inspect x types) named given = no_inspect named
-no_other_call rows name no_explain no_wave no_expect no_diff no_draw no_inspect no_coverage none (call.Coverage x types) named given = no_coverage named
+    → (name ≡ codes "inspect" → ⊥) → (name ≡ codes "coverage" → ⊥) → (name ≡ codes "session" → ⊥) → IsNoTask rows name → (r : Call) → name ≡ call_name r → IsCall rows r → ⊥
+no_other_call rows name no_explain no_wave no_expect no_diff no_draw no_inspect no_coverage no_session none (call.Explain word) named given = no_explain named
+no_other_call rows name no_explain no_wave no_expect no_diff no_draw no_inspect no_coverage no_session none (call.Task c types levels) named given = none c levels named given.0 given.2
+no_other_call rows name no_explain no_wave no_expect no_diff no_draw no_inspect no_coverage no_session none (call.Wave w types) named given = no_wave named
+no_other_call rows name no_explain no_wave no_expect no_diff no_draw no_inspect no_coverage no_session none (call.Expect x) named given = no_expect named
+no_other_call rows name no_explain no_wave no_expect no_diff no_draw no_inspect no_coverage no_session none (call.Diff d) named given = no_diff named
+no_other_call rows name no_explain no_wave no_expect no_diff no_draw no_inspect no_coverage no_session none (call.Draw d types) named given = no_draw named
+no_other_call rows name no_explain no_wave no_expect no_diff no_draw no_inspect no_coverage no_session none (call.Inspect x types) named given = no_inspect named
+no_other_call rows name no_explain no_wave no_expect no_diff no_draw no_inspect no_coverage no_session none (call.Coverage x types) named given = no_coverage named
+no_other_call rows name no_explain no_wave no_expect no_diff no_draw no_inspect no_coverage no_session none (call.Session x types) named given = no_session named
 
 -- ---- Rules and traces
 
@@ -307,6 +327,17 @@ no_covered_traces rows none x is = let given = is.traces in absurd cc
 
 pub no_covered_limit : (rows : List Row) → ((n : ℕ) → IsNumber rows (codes "steps") n → ⊥) → (x : Coverage) → AsksCoverage rows x → ⊥
 no_covered_limit rows none x is = none x.steps is.steps
+
+-- ---- A session
+
+pub no_spoken : (rows : List Row) → first_of (codes "DECL") rows ≡ None → (x : SessionCall) → AsksSession rows x → ⊥
+no_spoken rows none x is = let given = is.declaration in absurd cc
+
+pub no_spoken_limit : (rows : List Row) → ((n : ℕ) → IsNumber rows (codes "steps") n → ⊥) → (x : SessionCall) → AsksSession rows x → ⊥
+no_spoken_limit rows none x is = none x.steps is.steps
+
+pub no_spoken_form : (rows : List Row) → ((f : Form) → IsForm rows f → ⊥) → (x : SessionCall) → AsksSession rows x → ⊥
+no_spoken_form rows none x is = none x.form is.form
 
 -- ---- The words, by what the parser says of them
 

@@ -27,6 +27,7 @@ use Rattle.fbsim_line.specs.declared.line.Subcommand.{Subcommand}
 use Rattle.fbsim_line.specs.declared.line.Subcommand.TheVariants as sub
 use Rattle.fbsim_line.specs.declared.line.Wave.{Wave}
 use Rattle.fbsim_line.specs.declared.line.LineFault.{LineFault}
+use Rattle.fbsim_line.specs.declared.session_line.SessionCall.{SessionCall}
 use Rattle.fbsim_line.specs.declared.line.LineFault.TheVariants.{Memory, Help, Fault}
 
 -- ---- The commands
@@ -193,6 +194,15 @@ coverage = with_why (
     (limited (codes "least") (parser.Unsigned 0 100)))
     (flag (codes "cut")))
 
+-- a command with the names of a declaration, of its deployment and of its first stimuli, with the limit of the run and the form of
+-- its trace
+abbrev pub session_with : ValueParser → App
+session_with values =
+    with_rule (with_rule (with_rule (deployed (codes "session"))
+    (file (codes "stim")))
+    (record (limited (codes "steps") (up_to 10000000)) { defaults = codes "10000" ∷ [] }))
+    (record (limited (codes "trace") values) { defaults = word_of One ∷ [] })
+
 -- a command with the name of a refusal
 abbrev pub explain : App
 explain = begun (codes "explain") (codes "NAME")
@@ -205,6 +215,7 @@ program = record { top = record (new_app (codes "fbsim")).top { has_version = tr
 abbrev pub command_for : ValueParser → Subcommand → App
 command_for values sub.Run = with_run_options values (files (codes "run"))
 command_for values sub.Check = check
+command_for values sub.Session = session_with values
 command_for values sub.Wave = wave
 command_for values sub.Expect = expect
 command_for values sub.Diff = diff
@@ -215,7 +226,7 @@ command_for values sub.Explain = explain
 
 -- the subcommands in the order in which the help lists them
 abbrev pub kinds : List Subcommand
-kinds = sub.Run ∷ sub.Check ∷ sub.Wave ∷ sub.Expect ∷ sub.Diff ∷ sub.Draw ∷ sub.Inspect ∷ sub.Coverage ∷ sub.Explain ∷ []
+kinds = sub.Run ∷ sub.Check ∷ sub.Session ∷ sub.Wave ∷ sub.Expect ∷ sub.Diff ∷ sub.Draw ∷ sub.Inspect ∷ sub.Coverage ∷ sub.Explain ∷ []
 
 -- a command with the subcommands of a list of names
 abbrev pub with_kinds : ValueParser → App → List Subcommand → App
@@ -244,6 +255,7 @@ call_name (call.Diff d) = codes "diff"
 call_name (call.Draw d types) = codes "draw"
 call_name (call.Inspect x types) = codes "inspect"
 call_name (call.Coverage x types) = codes "coverage"
+call_name (call.Session x types) = codes "session"
 
 -- the option has one text, a decimal numeral that may begin with a plus, and this is its number
 pub record IsNumber (rows : List Row) (id : Text) (n : ℕ) : Type 0 where
@@ -390,6 +402,14 @@ pub record AsksInspect (rows : List Row) (x : Inspect) : Type 0 where
   pub cut : IsFlag rows (codes "cut") x.is_cut
   pub why : IsAsked rows x.why
 
+-- a session of this application is asked for
+pub record AsksSession (rows : List Row) (x : SessionCall) : Type 0 where
+  pub declaration : first_of (codes "DECL") rows ≡ Some x.declaration.now
+  pub deploy : first_of (codes "deploy") rows ≡ option_map (λ n. n.now) x.deploy
+  pub stimuli : first_of (codes "stim") rows ≡ option_map (λ n. n.now) x.stimuli
+  pub steps : IsNumber rows (codes "steps") x.steps
+  pub form : IsForm rows x.form
+
 abbrev pub IsCall : List Row → Call → Type 0
 IsCall rows (call.Explain name) = first_of (codes "NAME") rows ≡ Some name.now
 IsCall rows (call.Task c types levels) = IsTask rows c × AreTypes rows types.items × AreLevels rows (warns c.action) levels
@@ -399,6 +419,7 @@ IsCall rows (call.Diff d) = AsksDiff rows d
 IsCall rows (call.Draw d types) = AsksDraw rows d × AreTypes rows types.items
 IsCall rows (call.Inspect x types) = AsksInspect rows x × AreTypes rows types.items
 IsCall rows (call.Coverage x types) = AsksCoverage rows x × AreTypes rows types.items
+IsCall rows (call.Session x types) = AsksSession rows x × AreTypes rows types.items
 
 -- a command's name and its rows ask for this
 pub record IsCallOf (found : Option (Text × List Row)) (r : Call) : Type 0 where

@@ -6,8 +6,9 @@
 //! It is a library of its own, so that it is proved while the simulation is. `fbsim_command` does what a call asks for.
 //!
 //! Read in this order: `line`, the calls and how their words are read; `bench_line`, `draw_line`, `inspect_line` and
-//! `coverage_line`, the words of `expect`, `diff`, `draw`, `inspect` and `coverage`; `levels`, those about warnings;
-//! `terminal`, the words of a call whose standard error is a terminal; `arguments`, of which all commands are made.
+//! `coverage_line`, the words of `expect`, `diff`, `draw`, `inspect` and `coverage`; `session_line`, those of `session`;
+//! `levels`, those about warnings; `terminal`, the words of a call whose standard error is a terminal; `arguments`, of
+//! which all commands are made.
 #![tactic(auto)]
 
 mod arguments;
@@ -17,6 +18,7 @@ mod draw_line;
 mod inspect_line;
 mod levels;
 pub mod line;
+mod session_line;
 mod terminal;
 
 pub use bench_line::{Diff, Expect};
@@ -25,4 +27,5 @@ pub use draw_line::Draw;
 pub use inspect_line::Inspect;
 pub use levels::Levels;
 pub use line::{Action, Call, LineFault, Task, Wave, parse};
+pub use session_line::SessionCall;
 pub use terminal::words_on_terminal;

@@ -18,6 +18,7 @@ use crate::coverage_line::{COVERAGE_COMMAND, Coverage, coverage_of};
 use crate::draw_line::{DRAW_COMMAND, Draw, draw_of};
 use crate::inspect_line::{INSPECT_COMMAND, Inspect, inspect_of};
 use crate::levels::{ALLOW_HELP, DENY_HELP, Levels, levels_of};
+use crate::session_line::{SessionCall, session, session_of};
 use clap::builder::ValueParser;
 use clap::error::ErrorKind;
 use clap::{ArgMatches, Command, Error};
@@ -44,6 +45,8 @@ pub enum Call<'a> {
     Inspect(Inspect<'a>, Vec<&'a str>),
     /// Reports what traces cover.
     Coverage(Coverage<'a>, Vec<&'a str>),
+    /// Runs an application by commands.
+    Session(SessionCall<'a>, Vec<&'a str>),
 }
 
 /// A trace that is shown as waveforms, with its declaration and deployment.
@@ -169,12 +172,12 @@ const TRACE_FILE_HELP: &str =
 const CUT_TRACE_HELP: &str =
     "Accepts a trace that is cut off, without a last line or within a line; the dump says so at its end.";
 
-const STIMULI_HELP: &str =
+pub(crate) const STIMULI_HELP: &str =
     "The file with the stimuli, in CSV, at most 16 MiB; without it there are none.";
 
 const HORIZON_HELP: &str = "The tick, in milliseconds, at which the run ends, 1 to 1000000000000.";
 
-const STEPS_HELP: &str =
+pub(crate) const STEPS_HELP: &str =
     "The greatest number of steps of a resource in one tick, 1 to 10000000; at the next step it stops.";
 
 const WORKERS_HELP: &str = "How many threads run resources, 1 to 64; the trace is the same.";
@@ -185,7 +188,7 @@ const SERIAL_HELP: &str =
 const PROGRESS_HELP: &str =
     "Reports each hundredth of the horizon on standard error, with the count of lines; not with --serial.";
 
-const TRACE_HELP: &str =
+pub(crate) const TRACE_HELP: &str =
     "The form of the trace; in form 2 each line except the last begins with the class, a and b of its event.";
 
 pub(crate) const WHY_HELP: &str =
@@ -274,6 +277,7 @@ const EXPLAIN_COMMAND: Outline<'static, 'static> = Outline {
 pub(crate) enum Subcommand {
     Run,
     Check,
+    Session,
     Wave,
     Expect,
     Diff,
@@ -287,6 +291,7 @@ pub(crate) enum Subcommand {
 const SUBCOMMANDS: &[Subcommand] = &[
     Subcommand::Run,
     Subcommand::Check,
+    Subcommand::Session,
     Subcommand::Wave,
     Subcommand::Expect,
     Subcommand::Diff,
@@ -308,6 +313,7 @@ fn command_for<'a>(
     match kind {
         Subcommand::Run => run(alloc, forms),
         Subcommand::Check => deployed(alloc, CHECK_COMMAND),
+        Subcommand::Session => session(alloc, forms),
         Subcommand::Wave => deployed(alloc, WAVE_COMMAND),
         Subcommand::Expect => made(alloc, EXPECT_COMMAND),
         Subcommand::Diff => made(alloc, DIFF_COMMAND),
@@ -363,7 +369,7 @@ pub(crate) fn asks_why(found: &ArgMatches<'_>) -> bool
 }
 
 /// The form of the trace that is asked for.
-fn form_of(found: &ArgMatches<'_>) -> Option<Form>
+pub(crate) fn form_of(found: &ArgMatches<'_>) -> Option<Form>
     ensures form { IfSome result (IsForm (rows_of (found_of found.now))) }
     ensures none { IfNone result ((f : Form) → IsForm (rows_of (found_of found.now)) f → ⊥) }
 {
@@ -506,6 +512,7 @@ fn call_of<'a>(
         "draw" => draw_of(alloc, found),
         "inspect" => inspect_of(alloc, found),
         "coverage" => coverage_of(alloc, found),
+        "session" => session_of(alloc, found),
         _ => task_of(alloc, name, found),
     }
 }

@@ -1,7 +1,7 @@
 use Rattle.std.proofs.Common.{◌≡◌, ◌∙◌, None, sym, subst, codes}
 use Rattle.std.specs.Prelude.{IfSome}
 use Rattle.clap.specs.Words.{Text, first_of, found_of, rows_of}
-use Rattle.fbsim_line.specs.Line.{AsksCoverage, AsksDiff, AsksDraw, AsksExpect, AsksInspect, AsksWave, IsCall, IsNoTask, call_name}
+use Rattle.fbsim_line.specs.Line.{AsksCoverage, AsksDiff, AsksDraw, AsksExpect, AsksInspect, AsksSession, AsksWave, IsCall, IsNoTask, call_name}
 use Rattle.fbsim_line.specs.declared.bench_line.Diff.{Diff}
 use Rattle.fbsim_line.specs.declared.bench_line.Expect.{Expect}
 use Rattle.fbsim_line.specs.declared.coverage_line.Coverage.{Coverage}
@@ -9,7 +9,8 @@ use Rattle.fbsim_line.specs.declared.draw_line.Draw.{Draw}
 use Rattle.fbsim_line.specs.declared.inspect_line.Inspect.{Inspect}
 use Rattle.fbsim_line.specs.declared.line.Call.{Call}
 use Rattle.fbsim_line.specs.declared.line.Wave.{Wave}
-use Rattle.fbsim_line.proofs.LineLaws.{no_coverage, no_diff, no_draw, no_expect, no_inspect, no_name, no_other_call, no_wave, ok_some, ok_none, when_none}
+use Rattle.fbsim_line.specs.declared.session_line.SessionCall.{SessionCall}
+use Rattle.fbsim_line.proofs.LineLaws.{no_coverage, no_diff, no_draw, no_expect, no_inspect, no_name, no_other_call, no_session, no_wave, ok_some, ok_none, when_none}
 use Rattle.fbsim_line.proofs.line.call_of.Goals as goal
 
 pub returns-in-explain-clause-name : goal.returns-in-explain-clause-name
@@ -101,6 +102,21 @@ returns-in-inspect-clause-none c =
     ok_none c.inspect_of.result ((x : Inspect) → AsksInspect rows x → ⊥) ((r : Call) → c.args.name.now ≡ call_name r → IsCall rows r → ⊥) (no_inspect rows c.args.name.now named)
     c.inspect_of.ensures.none
 
+pub returns-in-session-clause-name : goal.returns-in-session-clause-name
+returns-in-session-clause-name c =
+    let named : c.args.name.now ≡ codes "session" = c.in-session.is in
+    ok_some c.session_of.result (λ r. codes "session" ≡ call_name r) (λ r. c.args.name.now ≡ call_name r) (λ r is. named ∙ is) c.session_of.ensures.name
+
+pub returns-in-session-clause-rows : goal.returns-in-session-clause-rows
+returns-in-session-clause-rows c = c.session_of.ensures.rows
+
+pub returns-in-session-clause-none : goal.returns-in-session-clause-none
+returns-in-session-clause-none c =
+    let named : c.args.name.now ≡ codes "session" = c.in-session.is in
+    let rows = rows_of (found_of c.args.found.now) in
+    ok_none c.session_of.result ((x : SessionCall) → AsksSession rows x → ⊥) ((r : Call) → c.args.name.now ≡ call_name r → IsCall rows r → ⊥) (no_session rows c.args.name.now named)
+    c.session_of.ensures.none
+
 pub returns-in-expect-clause-name : goal.returns-in-expect-clause-name
 returns-in-expect-clause-name c =
     let named : c.args.name.now ≡ codes "expect" = c.in-expect.is in
@@ -127,5 +143,5 @@ returns-in_default-clause-none c =
     let rows = rows_of (found_of c.args.found.now) in
     ok_none c.task_of.result (IsNoTask rows c.args.name.now) ((r : Call) → c.args.name.now ≡ call_name r → IsCall rows r → ⊥)
     (no_other_call rows c.args.name.now c.in_default.not-explain c.in_default.not-wave c.in_default.not-expect c.in_default.not-diff
-    c.in_default.not-draw c.in_default.not-inspect c.in_default.not-coverage)
+    c.in_default.not-draw c.in_default.not-inspect c.in_default.not-coverage c.in_default.not-session)
     c.task_of.ensures.none

@@ -17,6 +17,12 @@ returns-in-Check-clause-app c = subst (λ (k : Subcommand). IfOk c.deployed.resu
 pub returns-in-Check-clause-globals : goal.returns-in-Check-clause-globals
 returns-in-Check-clause-globals c = c.deployed.ensures.globals
 
+pub returns-in-Session-clause-app : goal.returns-in-Session-clause-app
+returns-in-Session-clause-app c = subst (λ (k : Subcommand). IfOk c.session.result (λ r. app_of r ≡ command_for c.args.forms k)) (sym c.in-Session.is) c.session.ensures.app
+
+pub returns-in-Session-clause-globals : goal.returns-in-Session-clause-globals
+returns-in-Session-clause-globals c = c.session.ensures.globals
+
 pub returns-in-Wave-clause-app : goal.returns-in-Wave-clause-app
 returns-in-Wave-clause-app c = subst (λ (k : Subcommand). IfOk c.deployed-in-Wave.result (λ r. app_of r ≡ command_for c.args.forms k)) (sym c.in-Wave.is) c.deployed-in-Wave.ensures.app
 

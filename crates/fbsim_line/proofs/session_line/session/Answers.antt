@@ -1,0 +1,7 @@
+use Rattle.fbsim_line.proofs.session_line.session.Goals as goal
+
+pub returns-clause-app : goal.returns-clause-app
+returns-clause-app c = c.deployed.ensures.app
+
+pub returns-clause-globals : goal.returns-clause-globals
+returns-clause-globals c = c.deployed.ensures.globals
