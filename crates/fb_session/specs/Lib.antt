@@ -3,4 +3,3 @@ pub mod Breaking
 pub mod Giving
 pub mod Running
 pub mod Going
-pub mod Shown
