@@ -1,0 +1,16 @@
+use Rattle.std.proofs.Common.{◌≡◌, sym, subst}
+use Rattle.fbsim_session.proofs.Telling.{failed, gone_next, leads_same}
+use Rattle.fbsim_session.proofs.talking.Console.next.Goals as goal
+
+pub next-requires : goal.next-requires
+next-requires g c = let h = c.requires.told.1 in (h.past, h.stands)
+
+pub returns-in_default : goal.returns-in_default
+returns-in_default g c = λ x h. leads_same x _ _ h _ c.error.ensures c.error.result
+
+pub returns-in-Ok : goal.returns-in-Ok
+returns-in-Ok g c = λ x h.
+    leads_same x _ _ (gone_next x _ _ h (sym c.in-Running.ensures) _ _ _ c.in-Ok.ensures) _ c.say_next.ensures c.say_next.result
+
+pub returns-in-Err : goal.returns-in-Err
+returns-in-Err g c = λ x h. failed x _ _ h (sym c.in-Running.ensures) _ _ _ _ c.in-Err.ensures c.failed.ensures
