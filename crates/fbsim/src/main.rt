@@ -3,8 +3,9 @@
 //! The calls are those of `fbsim_command`, which is a library, since no crate can use a program.
 #![tactic(auto)]
 
-use fbsim_command::{Failure, Files, command_with_clock};
+use fbsim_command::{Failure, Files, command_with_clock, words_on_terminal};
 pub use fbsim_command::{Call, LineFault, Source, SourceFault, Streams, command, parse};
+use std::io::IsTerminal;
 use std::process::ExitCode;
 use std::sync::Wait;
 use std::thread::Threads;
@@ -17,6 +18,11 @@ fn call<R: Threads + Wait + Sync>(rt: &R, host: &HostRuntime) -> io::Result<u8> 
     let words: Vec<String> = env::args(host)?.collect(alloc)?;
     let texts: Vec<&str> = words.iter().map(|word| word.as_str()).collect(alloc)?;
     let mut files = Files::new(host);
+    let texts = if host.stderr().is_terminal() {
+        words_on_terminal(alloc, texts.as_slice())?
+    } else {
+        texts
+    };
     let exit = command_with_clock(
         rt,
         host,

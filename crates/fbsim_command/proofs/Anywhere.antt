@@ -11,7 +11,7 @@ use Rattle.fb_types.specs.declared.library.Variable.{Variable}
 use Rattle.fb_expect.specs.Patterns as patterns
 use Rattle.fb_expect.specs.declared.pattern.Condition.{Condition}
 use Rattle.fb_expect.specs.declared.pattern.Pattern.{Pattern}
-use Rattle.fbsim_command.specs.Known.{any_below, any_event, any_port, are_named, event_there, events_of, has_port, is_of, names_with, numbered, ports_of, variables_of}
+use Rattle.fbsim_command.specs.Known.{any_below, any_event, any_port, are_possible, event_there, events_of, has_port, is_of, names_with, numbered, ports_of, variables_of}
 
 or-right : (a : Bool) → (a || true) ≡ true
 or-right true = refl
@@ -62,13 +62,14 @@ index-passed f vs ks i v all lt within is so-far off =
 pub of-there :
     (sys : System) (p : Pattern) (i : ℕ) (taken : Bool) (event : ℕ) (vs : List Variable) (ks : List ℕ) (cs : List Condition) (there b : Bool) → vs ≡ variables_of (ports_of sys i) taken
     → cs ≡ p.conditions → there ≡ patterns.is_at p (event_there sys i taken event) → there ≡ true
-    → AreIndexes (variables_of (ports_of sys i) taken) (names_with (ports_of sys i) taken event) ks → b ≡ are_named cs (map (variable_at vs) ks) → b ≡ is_of sys p i taken event
+    → AreIndexes (variables_of (ports_of sys i) taken) (names_with (ports_of sys i) taken event) ks → b ≡ are_possible vs cs (map (variable_at vs) ks) → b ≡ is_of sys p i taken event
 unfolding is_of
 of-there sys p i taken event vs ks cs there b same-variables same-conditions at on stand is =
     let names = names_with (ports_of sys i) taken event in
-    is ∙ ap (λ (xs : List Condition). are_named xs (map (variable_at vs) ks)) same-conditions
-    ∙ ap (λ (us : List Variable). are_named p.conditions (map (variable_at us) ks)) same-variables ∙ ap (are_named p.conditions) stand.named
-    ∙ ap (λ (t : Bool). t && are_named p.conditions names) (sym (sym at ∙ on))
+    let its = variables_of (ports_of sys i) taken in
+    is ∙ ap (λ (xs : List Condition). are_possible vs xs (map (variable_at vs) ks)) same-conditions
+    ∙ ap (λ (us : List Variable). are_possible us p.conditions (map (variable_at us) ks)) same-variables ∙ ap (are_possible its p.conditions) stand.named
+    ∙ ap (λ (t : Bool). t && are_possible its p.conditions names) (sym (sym at ∙ on))
 
 pub port-there : (sys : System) (p : Pattern) (n k : ℕ) → n ≡ length sys.paths → k < n → any_port sys p k ≡ true → true ≡ has_port sys p
 unfolding has_port

@@ -1,6 +1,7 @@
 -- Traces that are gone through one after the other, and how the report of what they cover ends.
-use Rattle.std.proofs.Common.{◌≡◌, ◌<◌, ◌≤◌, ◌+◌, ◌⊎◌, ℕ, Bool, true, false, Bor, List, [], ◌∷◌, ◌++◌, drop, get_or, length, map, option_map, take, Option, Some, None, Result, Ok, Err, refl, sym, ◌∙◌, ap, subst, inl, inr}
+use Rattle.std.proofs.Common.{◌≡◌, ◌<◌, ◌≤◌, ◌+◌, ◌⊎◌, ℕ, Bool, true, false, Bor, List, [], ◌∷◌, ◌++◌, drop, get_or, length, map, option_map, take, codes, Option, Some, None, Result, Ok, Err, refl, sym, ◌∙◌, ap, subst, inl, inr}
 use Rattle.std.specs.Global.{Vec}
+use Rattle.std.specs.Io.KnownBytes.{Appends}
 use Rattle.std.specs.Prelude.{IfErr, IfOk, IfSome, IsErrAnd, IsTrue}
 use Rattle.std.proofs.lemmas.List.{drop_more, map-append, take-append-drop, take_all, take_more}
 use Rattle.clap.specs.Words.{Text}
@@ -20,14 +21,16 @@ use Rattle.fb_coverage.specs.declared.marks.Marks.{Marks}
 use Rattle.fb_inspect.specs.Covering.{Covers}
 use Rattle.fb_inspect.specs.declared.walk.Extent.{Extent}
 use Rattle.fb_wave.specs.declared.truncation.Cut.{Cut}
-use Rattle.fbsim_command.specs.Covering.{AreGoneThrough, AreStopped, GoThrough, GoesThrough, IsFirst, IsReport, IsStopped, IsUnreported, MayStop, NotesTrace, RefusesAt, StopsAt, WritesReport, are_several, cut_count, coverage_text, cut_line, cut_of, files_of, names_of, note_front}
+use Rattle.fbsim_command.specs.Covering.{AreGoneThrough, AreStopped, GoThrough, GoesThrough, IsFirst, IsReport, IsStopped, IsUnreported, MayStop, NotesTrace, RefusesAt, StopsAt, WritesReport, are_several, cut_count, coverage_text, covered_by, cut_line, cut_of, files_of, is_too_little, names_of, note_front}
 use Rattle.fbsim_command.specs.Failures.{WritesPart, failure_of, failure_of_source, numbered_input}
 use Rattle.fbsim_command.specs.InsideNotes.{SaysLine}
-use Rattle.fbsim_command.specs.Notes.{NotesOf}
+use Rattle.fbsim_command.specs.Notes.{IsNoteOfName, Notes, NotesOf, rest_note}
 use Rattle.fbsim_command.specs.Outcomes.{End, Held}
+use Rattle.fbsim_command.specs.WrongLines.{IsWrongIn}
 use Rattle.fbsim_command.specs.Showing.{Opening}
 use Rattle.fbsim_line.specs.declared.coverage_line.Coverage.{Coverage}
 use Rattle.fbsim_command.specs.declared.coverage.Gleaned.{Gleaned}
+use Rattle.fbsim_command.specs.declared.statuses.Done.{Done}
 use Rattle.fbsim_command.specs.declared.failure.Failure.{Failure}
 use Rattle.fbsim_command.specs.declared.failure.Failure.TheVariants.{Refused, RefusedTrace, File, Write, Memory, Line, BadOption}
 use Rattle.fbsim_command.specs.declared.sources.SourceFault.{SourceFault}
@@ -40,37 +43,37 @@ now t = t.now
 
 -- it is not opened
 pub unopened :
-    {S : Type 0} (opens : Opening S) (is_named : Bool) (from to : S) (name : Text) (fault : SourceFault) → opens from name (Err fault) to
-    → IsStopped opens is_named name from to (failure_of_source fault)
-unopened opens is_named from to name source.File is = inl (source.File, refl, is)
-unopened opens is_named from to name source.Folder is = inl (source.Folder, refl, is)
-unopened opens is_named from to name source.Memory is = tt
+    {S : Type 0} (opens : Opening S) (wrong : Held → ℕ → Type 0) (is_named : Bool) (from to : S) (name : Text) (fault : SourceFault) → opens from name (Err fault) to
+    → IsStopped opens wrong is_named name from to (failure_of_source fault)
+unopened opens wrong is_named from to name source.File is = inl (source.File, refl, is)
+unopened opens wrong is_named from to name source.Folder is = inl (source.Folder, refl, is)
+unopened opens wrong is_named from to name source.Memory is = tt
 
 -- it is refused
 pub refused-at :
-    {S : Type 0} (opens : Opening S) (is_named : Bool) (from to : S) (name : Text) (line : ℕ) (trace : Held) (f : Failure) → opens from name (Ok trace) to → RefusesAt is_named name line f
-    → IsStopped opens is_named name from to f
-refused-at opens is_named from to name line trace (Refused refusal) is reported = record { trace = trace; opened = is; line = line; reported = reported }
-refused-at opens is_named from to name line trace (RefusedTrace text) is reported = record { trace = trace; opened = is; line = line; reported = reported }
-refused-at opens is_named from to name line trace Memory is reported = tt
-refused-at opens is_named from to name line trace File is reported = never is_named reported
+    {S : Type 0} (opens : Opening S) (wrong : Held → ℕ → Type 0) (is_named : Bool) (from to : S) (name : Text) (line : ℕ) (trace : Held) (f : Failure) → opens from name (Ok trace) to → wrong trace line → RefusesAt is_named name line f
+    → IsStopped opens wrong is_named name from to f
+refused-at opens wrong is_named from to name line trace (Refused refusal) is bad_line reported = record { trace = trace; opened = is; line = line; is_wrong = bad_line; reported = reported }
+refused-at opens wrong is_named from to name line trace (RefusedTrace text) is bad_line reported = record { trace = trace; opened = is; line = line; is_wrong = bad_line; reported = reported }
+refused-at opens wrong is_named from to name line trace Memory is bad_line reported = tt
+refused-at opens wrong is_named from to name line trace File is bad_line reported = never is_named reported
   where
-    never : (b : Bool) → RefusesAt b name line File → IsStopped opens is_named name from to File
+    never : (b : Bool) → RefusesAt b name line File → IsStopped opens wrong is_named name from to File
     never true bad = absurd bad
     never false bad = absurd bad
-refused-at opens is_named from to name line trace (Write n) is reported = never is_named reported
+refused-at opens wrong is_named from to name line trace (Write n) is bad_line reported = never is_named reported
   where
-    never : (b : Bool) → RefusesAt b name line (Write n) → IsStopped opens is_named name from to (Write n)
+    never : (b : Bool) → RefusesAt b name line (Write n) → IsStopped opens wrong is_named name from to (Write n)
     never true bad = absurd bad
     never false bad = absurd bad
-refused-at opens is_named from to name line trace (Line message) is reported = never is_named reported
+refused-at opens wrong is_named from to name line trace (Line message) is bad_line reported = never is_named reported
   where
-    never : (b : Bool) → RefusesAt b name line (Line message) → IsStopped opens is_named name from to (Line message)
+    never : (b : Bool) → RefusesAt b name line (Line message) → IsStopped opens wrong is_named name from to (Line message)
     never true bad = absurd bad
     never false bad = absurd bad
-refused-at opens is_named from to name line trace BadOption is reported = never is_named reported
+refused-at opens wrong is_named from to name line trace BadOption is bad_line reported = never is_named reported
   where
-    never : (b : Bool) → RefusesAt b name line BadOption → IsStopped opens is_named name from to BadOption
+    never : (b : Bool) → RefusesAt b name line BadOption → IsStopped opens wrong is_named name from to BadOption
     never true bad = absurd bad
     never false bad = absurd bad
 
@@ -100,9 +103,9 @@ goes-on opens i x name from to trace may old marks last extent k (Ok new) opened
     goes-through opens i x name from to trace may old marks last extent k (cut_count extent k) new opened cuts first count covers refl is.0 is.1
 
 pub stops-for-memory :
-    {S : Type 0} (opens : Opening S) (is_named : Bool) (from to : S) (name : Text) (r : Result Gleaned Failure) → IfErr r (λ f. f ≡ Memory) → IfErr r (IsStopped opens is_named name from to)
-stops-for-memory opens is_named from to name (Ok g) is = tt
-stops-for-memory opens is_named from to name (Err f) is = subst (IsStopped opens is_named name from to) (sym is) tt
+    {S : Type 0} (opens : Opening S) (wrong : Held → ℕ → Type 0) (is_named : Bool) (from to : S) (name : Text) (r : Result Gleaned Failure) → IfErr r (λ f. f ≡ Memory) → IfErr r (IsStopped opens wrong is_named name from to)
+stops-for-memory opens wrong is_named from to name (Ok g) is = tt
+stops-for-memory opens wrong is_named from to name (Err f) is = subst (IsStopped opens wrong is_named name from to) (sym is) tt
 
 -- ---- All traces
 
@@ -133,10 +136,10 @@ module _ {S : Type 0} (opens : Opening S) (i : Inputs) (x : Coverage) (first : G
   -- a trace that is not gone through
   pub stops-at :
       (k : ℕ) (d : Bor Text) (from mid to : S) (m : Gleaned) (f : Failure) → k < length own → GoThrough opens i x (map now (take k own)) from mid first m
-      → IsStopped opens (are_several x) (get_or own k d).now mid to f → AreStopped opens i x from to f
+      → IsStopped opens (IsWrongIn i x.steps) (are_several x) (get_or own k d).now mid to f → AreStopped opens i x from to f
   stops-at k d from mid to m f within gone is = by f is
     where
-      all : (g : Failure) → IsStopped opens (are_several x) (get_or own k d).now mid to g → StopsAt opens i x from to g
+      all : (g : Failure) → IsStopped opens (IsWrongIn i x.steps) (are_several x) (get_or own k d).now mid to g → StopsAt opens i x from to g
       all g stopped = record {
         before = map now (take k own);
         name = (get_or own k d).now;
@@ -152,7 +155,7 @@ module _ {S : Type 0} (opens : Opening S) (i : Inputs) (x : Coverage) (first : G
         stopped = stopped;
       }
 
-      by : (g : Failure) → IsStopped opens (are_several x) (get_or own k d).now mid to g → AreStopped opens i x from to g
+      by : (g : Failure) → IsStopped opens (IsWrongIn i x.steps) (are_several x) (get_or own k d).now mid to g → AreStopped opens i x from to g
       by (Refused refusal) is = all (Refused refusal) is
       by (RefusedTrace text) is = all (RefusedTrace text) is
       by File is = all File is
@@ -171,10 +174,10 @@ module _ {S : Type 0} (opens : Opening S) (i : Inputs) (x : Coverage) (first : G
 
   pub stops-at-of :
       (us : List (Bor Text)) (k : ℕ) (d : Bor Text) (from mid to : S) (m : Gleaned) (f : Failure) → us ≡ own → k < length us
-      → GoThrough opens i x (map now (take k own)) from mid first m → IsStopped opens (are_several x) (get_or us k d).now mid to f → AreStopped opens i x from to f
+      → GoThrough opens i x (map now (take k own)) from mid first m → IsStopped opens (IsWrongIn i x.steps) (are_several x) (get_or us k d).now mid to f → AreStopped opens i x from to f
   stops-at-of us k d from mid to m f same within gone is =
       stops-at k d from mid to m f (subst (λ (vs : List (Bor Text)). k < length vs) same within) gone
-      (subst (λ (vs : List (Bor Text)). IsStopped opens (are_several x) (get_or vs k d).now mid to f) same is)
+      (subst (λ (vs : List (Bor Text)). IsStopped opens (IsWrongIn i x.steps) (are_several x) (get_or vs k d).now mid to f) same is)
 
   -- after the last
   pub gone-all :
@@ -235,20 +238,18 @@ module _ {S : Type 0} (opens : Opening S) (given : Given) (x : Coverage) where
   may-stop i from to BadOption declared is = absurd is
 
   pub reported :
-      (i : Inputs) (from to : S) (text : Text) → Declares given i → (g : Gleaned) × AreGoneThrough opens i x from to g × (text ≡ coverage_text i x g)
-      → IsReport opens given x from to text
-  reported i from to text declared is = record { inputs = i; declared = declared; gleaned = is.0; gone = is.1; is = is.2 }
+      (i : Inputs) (from to : S) (text : Text) (less : Bool) → Declares given i
+      → (g : Gleaned) × AreGoneThrough opens i x from to g × (text ≡ coverage_text i x g) × (less ≡ is_too_little i x.least g.marks) → IsReport opens given x from to text less
+  reported i from to text less declared is = record { inputs = i; declared = declared; gleaned = is.0; gone = is.1; is = is.2; less = is.3 }
 
-  -- the same of what was answered
-  pub reported-all :
-      (i : Inputs) (from to : S) (r : Result (Vec ℕ) Failure) → Declares given i
-      → IfOk r (λ t. (g : Gleaned) × AreGoneThrough opens i x from to g × (t.items ≡ coverage_text i x g)) → IfOk r (λ t. IsReport opens given x from to t.items)
-  reported-all i from to (Ok t) declared is = reported i from to t.items declared is
-  reported-all i from to (Err f) declared is = tt
-
-  pub stopped-all : (i : Inputs) (from to : S) (r : Result (Vec ℕ) Failure) → Declares given i → IfErr r (AreStopped opens i x from to) → IfErr r (IsUnreported opens given x from to)
-  stopped-all i from to (Ok t) declared is = tt
-  stopped-all i from to (Err f) declared is = may-stop i from to f declared is
+  -- the report is written
+  pub written :
+      (from to : S) (old new : Held) (text bytes : Text) (less : Bool) (d : Done) → IsReport opens given x from to text less → bytes ≡ text → Appends old new bytes → d ≡ covered_by less
+      → WritesReport opens given x from to old new (Ok d)
+  written from to old new text bytes true d is same got by =
+      subst (λ (e : Done). WritesReport opens given x from to old new (Ok e)) (sym by) (text, is, subst (Appends old new) same got)
+  written from to old new text bytes false d is same got by =
+      subst (λ (e : Done). WritesReport opens given x from to old new (Ok e)) (sym by) (text, is, subst (Appends old new) same got)
 
   -- a failure that is passed on writes nothing
   pub unreported : (from to : S) (old : Held) (end : End) (f : Failure) → IsErrAnd end (λ g. g ≡ f) → IsUnreported opens given x from to f → WritesReport opens given x from to old old end
@@ -266,13 +267,13 @@ module _ {S : Type 0} (opens : Opening S) (given : Given) (x : Coverage) where
 
   -- a report of which a part is written
   pub unwritten :
-      (from to : S) (old new : Held) (text bytes : Text) (end : End) (f : Failure) → IsReport opens given x from to text → bytes ≡ text → IsErrAnd end (λ g. g ≡ f)
+      (from to : S) (old new : Held) (text bytes : Text) (less : Bool) (end : End) (f : Failure) → IsReport opens given x from to text less → bytes ≡ text → IsErrAnd end (λ g. g ≡ f)
       → WritesPart old new bytes f → WritesReport opens given x from to old new end
-  unwritten from to old new text bytes (Ok d) f is same bad part = absurd bad
-  unwritten from to old new text bytes (Err g) f is same passed part = by g (subst (WritesPart old new bytes) (sym passed) part)
+  unwritten from to old new text bytes less (Ok d) f is same bad part = absurd bad
+  unwritten from to old new text bytes less (Err g) f is same passed part = by g (subst (WritesPart old new bytes) (sym passed) part)
     where
       by : (g : Failure) → WritesPart old new bytes g → WritesReport opens given x from to old new (Err g)
-      by (Write n) part = (bytes, subst (IsReport opens given x from to) (sym same) is, part)
+      by (Write n) part = (bytes, less, subst (λ (z : Text). IsReport opens given x from to z less) (sym same) is, part)
       by (Refused refusal) part = absurd part
       by (RefusedTrace message) part = absurd part
       by File part = absurd part
@@ -297,4 +298,18 @@ pub trace-noted :
     → IfSome note (λ n. IsTrue x.why × SaysLine front line (bytes n)) → NotesTrace x (option_map bytes note)
 trace-noted bytes x several front name line None same is said = tt
 trace-noted bytes x several front name line (Some n) same is said =
-    (said.0, (name, line, subst (λ (f : Text). SaysLine f line (bytes n)) (is ∙ ap (λ (b : Bool). note_front b name) same) said.1))
+    (said.0, (name, inl (line, subst (λ (f : Text). SaysLine f line (bytes n)) (is ∙ ap (λ (b : Bool). note_front b name) same) said.1)))
+
+-- the note to a trace that is not opened
+pub open-noted :
+    {S : Type 0} (bytes : S → Text) (x : Coverage) (name : Text) (fault : SourceFault) (note : Option S) → Notes x.why (IsNoteOfName (codes "trace") name fault) (option_map bytes note)
+    → NotesTrace x (option_map bytes note)
+open-noted bytes x name fault None said = tt
+open-noted bytes x name fault (Some n) said = (said.0, (name, inr (inl (fault, said.1))))
+
+-- the note to a trace that can't be read to its end
+pub rest-noted :
+    {S : Type 0} (bytes : S → Text) (x : Coverage) (name : Text) (note : Option S) → x.why ≡ true → IfSome note (λ n. bytes n ≡ rest_note (codes "trace") name)
+    → NotesTrace x (option_map bytes note)
+rest-noted bytes x name None asked said = tt
+rest-noted bytes x name (Some n) asked said = (asked, (name, inr (inr said)))

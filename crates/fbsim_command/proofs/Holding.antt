@@ -1,6 +1,6 @@
 -- Rules that are held against traces, one after the other.
 use Rattle.std.proofs.Common.{◌≡◌, ℕ, suc, ◌+◌, ◌*◌, ◌<◌, Bool, true, false, Bor, List, [], ◌∷◌, ◌++◌, length, get_or, map, take, drop, Option, Some, None, Result, Ok, Err, refl, sym, ap, ap₂, ◌∙◌, subst, append_assoc, append-nil, inl, inr, arith}
-use Rattle.std.specs.Prelude.{◌&&◌, IfErr, IfSome, IsErrAnd, nat_lt}
+use Rattle.std.specs.Prelude.{◌&&◌, IfErr, IfSome, IsErrAnd, OnOk, if◌then◌else◌, is_ok, nat_lt}
 use Rattle.std.specs.Io.KnownBytes.{Appends}
 use Rattle.std.specs.List.{list_all}
 use Rattle.std.proofs.lemmas.List.{drop_more, length-map, length-take-le, map-append, take-append-drop, take_more}
@@ -8,11 +8,12 @@ use Rattle.std.proofs.lemmas.List.Folds.{list_all-append}
 use Rattle.clap.specs.Words.{Text}
 use Rattle.fb_sim.specs.Given.{Given}
 use Rattle.fb_expect.specs.Judging.{Judges}
-use Rattle.fb_expect.specs.Reports.{are_well, plan, points}
+use Rattle.fb_expect.specs.Reports.{are_well, points}
+use Rattle.fb_expect.specs.Suites.{suite, suites_tail}
 use Rattle.fb_expect.specs.declared.judging.Cut.{Cut}
 use Rattle.fb_expect.specs.declared.judging.Judged.{Judged}
 use Rattle.fb_expect.specs.declared.rule.Rule.{Rule}
-use Rattle.fbsim_command.specs.Expecting.{AreHeld, AreRules, AreUnheld, ComesTo, Holds, IsHeld, IsRefusedAt, IsUnheld, Puts, PutsOne, Reports, all_well, cut_of, names_of, points_of, report_of}
+use Rattle.fbsim_command.specs.Expecting.{AreHeld, AreRules, AreUnheld, ComesTo, Holds, IsHeld, IsRefusedAt, IsUnheld, Puts, PutsOne, Reports, all_well, cut_of, head_of, names_of, part_of, points_of, tail_of}
 use Rattle.fbsim_command.specs.Failures.{IsPartWritten, WritesPart, failure_of_source}
 use Rattle.fbsim_command.specs.Outcomes.{End, Held}
 use Rattle.fbsim_command.specs.Showing.{Opening}
@@ -58,18 +59,32 @@ pub held-one :
 held-one opens x rules old new name trace cut js same is judged =
     record { trace = trace; opened = is; judged = subst (λ (k : Cut). IfSome trace (λ text. Judges k text rules js)) same judged }
 
--- its points are put after a text
+-- a suite, or points
+pub put-suite :
+    {U E : Type 0} (x : Expect) (rules : List Rule) (before : ℕ) (t : Bor Text) (js : List Judged) (r : Result U E) (old new : Text) → x.is_junit ≡ true
+    → OnOk r (new ≡ old ++ suite x.is_strict t.now rules js) → OnOk r (new ≡ old ++ part_of x rules before t js)
+put-suite x rules before t js (Err e) old new on is = tt
+put-suite x rules before t js (Ok u) old new on is =
+    is ∙ ap (λ (b : Bool). old ++ (if b then suite x.is_strict t.now rules js else points x.is_strict (record { trace = t; is_named = nat_lt 1 (length x.traces.items) }) before rules js)) (sym on)
+
+pub put-points :
+    {U E : Type 0} (x : Expect) (rules : List Rule) (before : ℕ) (t : Bor Text) (js : List Judged) (r : Result U E) (old new : Text) (named : Bool) → x.is_junit ≡ false
+    → named ≡ nat_lt 1 (length x.traces.items) → OnOk r (new ≡ old ++ points x.is_strict (record { trace = t; is_named = named }) before rules js) → OnOk r (new ≡ old ++ part_of x rules before t js)
+put-points x rules before t js (Err e) old new named off many is = tt
+put-points x rules before t js (Ok u) old new named off many is =
+    is ∙ ap (λ (b : Bool). old ++ points x.is_strict (record { trace = t; is_named = b }) before rules js) many
+    ∙ ap (λ (b : Bool). old ++ (if b then suite x.is_strict t.now rules js else points x.is_strict (record { trace = t; is_named = nat_lt 1 (length x.traces.items) }) before rules js)) (sym off)
+
+-- what the report has of it is put after a text
 pub put-one :
-    {S : Type 0} (opens : Opening S) (x : Expect) (rules : List Rule) (i : ℕ) (t : Bor Text) (old new : S) (before text : Text) (well named : Bool) (js ks ls : List Judged)
-    → IsHeld opens x rules old new t.now js → text ≡ before ++ points x.is_strict (record { trace = t; is_named = named }) (length rules * i) rules ks
-    → named ≡ nat_lt 1 (length x.traces.items) → ks ≡ js → ls ≡ js → well ≡ are_well x.is_strict ls → PutsOne opens x rules i t old new before text well
-put-one opens x rules i t old new before text well named js ks ls held is many first second fine =
+    {S : Type 0} (opens : Opening S) (x : Expect) (rules : List Rule) (i : ℕ) (t : Bor Text) (old new : S) (before text : Text) (well : Bool) (js ks ls : List Judged)
+    → IsHeld opens x rules old new t.now js → text ≡ before ++ part_of x rules (length rules * i) t ks → ks ≡ js → ls ≡ js → well ≡ are_well x.is_strict ls
+    → PutsOne opens x rules i t old new before text well
+put-one opens x rules i t old new before text well js ks ls held is first second fine =
     record {
       judged = js;
       held = held;
-      is =
-          is ∙ ap (λ (b : Bool). before ++ points x.is_strict (record { trace = t; is_named = b }) (length rules * i) rules ks) many
-          ∙ ap (λ (js : List Judged). before ++ points x.is_strict (record { trace = t; is_named = nat_lt 1 (length x.traces.items) }) (length rules * i) rules js) first;
+      is = is ∙ ap (λ (js : List Judged). before ++ part_of x rules (length rules * i) t js) first;
       fine = fine ∙ ap (are_well x.is_strict) second;
     }
 
@@ -92,19 +107,19 @@ held-count opens x rules old new (n ∷ names) (ks ∷ all) are = ap suc (held-c
 points-more :
     (x : Expect) (rules : List Rule) (before : ℕ) (ts : List (Bor Text)) (t : Bor Text) (all : List (List Judged)) (js : List Judged) → length all ≡ length ts
     → points_of x rules before (ts ++ t ∷ []) (all ++ js ∷ [])
-    ≡ points_of x rules before ts all ++ points x.is_strict (record { trace = t; is_named = nat_lt 1 (length x.traces.items) }) (before + length rules * length ts) rules js
+    ≡ points_of x rules before ts all ++ part_of x rules (before + length rules * length ts) t js
 points-more x rules before [] t [] js same =
-    append-nil (points x.is_strict (record { trace = t; is_named = nat_lt 1 (length x.traces.items) }) before rules js)
-    ∙ ap (λ (n : ℕ). points x.is_strict (record { trace = t; is_named = nat_lt 1 (length x.traces.items) }) n rules js) (omega arith)
+    append-nil (part_of x rules before t js)
+    ∙ ap (λ (n : ℕ). part_of x rules n t js) (omega arith)
 points-more x rules before [] t (ks ∷ all) js same = absurd (omega arith)
 points-more x rules before (u ∷ ts) t [] js same = absurd (omega arith)
 points-more x rules before (u ∷ ts) t (ks ∷ all) js same =
-    let one = points x.is_strict (record { trace = u; is_named = nat_lt 1 (length x.traces.items) }) before rules ks in
+    let one = part_of x rules before u ks in
     let more = points_of x rules (before + length rules) ts all in
     ap (λ (z : Text). one ++ z)
     (points-more x rules (before + length rules) ts t all js (omega arith)
-    ∙ ap (λ (n : ℕ). more ++ points x.is_strict (record { trace = t; is_named = nat_lt 1 (length x.traces.items) }) n rules js) (one-more (length rules) before (length ts)))
-    ∙ sym (append_assoc one more (points x.is_strict (record { trace = t; is_named = nat_lt 1 (length x.traces.items) }) (before + length rules * length (u ∷ ts)) rules js))
+    ∙ ap (λ (n : ℕ). more ++ part_of x rules n t js) (one-more (length rules) before (length ts)))
+    ∙ sym (append_assoc one more (part_of x rules (before + length rules * length (u ∷ ts)) t js))
   where
     one-more : (n b k : ℕ) → b + n + n * k ≡ b + n * suc k
     one-more n b k = omega arith
@@ -131,7 +146,7 @@ puts-more opens x rules ts i d old mid new before text more well ok both lt puts
     let split : take (i + 1) ts ≡ take i ts ++ t ∷ [] = take_more ts i d lt in
     let count : length puts.all ≡ length (take i ts) = held-count opens x rules old mid (map now (take i ts)) puts.all puts.held ∙ length-map (take i ts) now in
     let long : length (take i ts) ≡ i = length-take-le i ts (omega arith) in
-    let of = λ (n : ℕ). points x.is_strict (record { trace = t; is_named = nat_lt 1 (length x.traces.items) }) n rules js in
+    let of = λ (n : ℕ). part_of x rules n t js in
     let said = points_of x rules 0 (take i ts) puts.all in
     record {
       all = puts.all ++ js ∷ [];
@@ -194,16 +209,24 @@ unheld-at opens x rules name old mid new (Write n) comes is = absurd is
 unheld-at opens x rules name old mid new (Line message) comes is = absurd is
 unheld-at opens x rules name old mid new BadOption comes is = absurd is
 
+-- what it ends with
+pub tail-put :
+    {U E : Type 0} (x : Expect) (r : Result U E) (old new : Text) → x.is_junit ≡ true → new ≡ (if is_ok r then old ++ suites_tail else old) → OnOk r (new ≡ old ++ tail_of x)
+tail-put x (Err e) old new on is = tt
+tail-put x (Ok u) old new on is = is ∙ ap (λ (b : Bool). old ++ (if b then suites_tail else [])) (sym on)
+
 -- the whole report
 pub rules_reported :
-    {S : Type 0} (opens : Opening S) (x : Expect) (rules : List Rule) (old new : S) (first text : Text) (well : Bool) → first ≡ plan (length rules * length x.traces.items)
-    → Puts opens x rules x.traces.items old new first text well → Reports opens x rules old new well text
-rules_reported opens x rules old new first text well is puts =
+    {S : Type 0} (opens : Opening S) (x : Expect) (rules : List Rule) (old new : S) (first text all : Text) (well : Bool) → first ≡ head_of x rules
+    → Puts opens x rules x.traces.items old new first text well → all ≡ text ++ tail_of x → Reports opens x rules old new well all
+rules_reported opens x rules old new first text all well is puts end =
+    let said = points_of x rules 0 x.traces.items puts.all in
     record {
       all = puts.all;
       held = puts.held;
       are_well = puts.are_well;
-      report = puts.is ∙ ap (λ (z : Text). z ++ points_of x rules 0 x.traces.items puts.all) is;
+      report =
+          end ∙ ap (λ (z : Text). z ++ tail_of x) (puts.is ∙ ap (λ (z : Text). z ++ said) is) ∙ append_assoc (head_of x rules) said (tail_of x);
     }
 
 -- ---- Ends

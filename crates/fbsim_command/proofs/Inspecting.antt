@@ -1,6 +1,9 @@
 -- How a call that inspects a trace ends.
-use Rattle.std.proofs.Common.{◌≡◌, ◌⊎◌, ℕ, Bool, List, Option, Some, None, Result, Ok, Err, codes, decimal, option_map, ◌++◌, inl, inr, refl, sym, ap, subst, ◌∙◌}
-use Rattle.std.specs.Prelude.{IfSome, IsTrue, OnErr}
+use Rattle.std.proofs.Common.{◌≡◌, ◌≤◌, ◌⊎◌, ℕ, Bool, List, Option, Some, None, Result, Ok, Err, codes, decimal, option_map, ◌++◌, inl, inr, refl, sym, ap, subst, ◌∙◌}
+use Rattle.std.specs.Prelude.{IfErr, IfSome, IsErrAnd, IsTrue, OnErr}
+use Rattle.fb_inspect.specs.Refusals.{IsWrongAt, OfRefusal}
+use Rattle.fb_inspect.specs.walk.Looks.{most}
+use Rattle.fb_wave.specs.Named.{HasNames}
 use Rattle.fb_types.specs.Headline.{Inputs, system_of}
 use Rattle.fb_read.specs.declared.error.ReadError.{ReadError}
 use Rattle.fb_read.specs.declared.error.ReadError.TheVariants as read
@@ -19,8 +22,9 @@ use Rattle.clap.specs.Words.{Text}
 use Rattle.fbsim_command.specs.Failures.{failure_of, failure_of_inspection, failure_of_source, numbered_input}
 use Rattle.fbsim_command.specs.InsideNotes.{IsOpenNote, NotesInside, SaysLine}
 use Rattle.fbsim_command.specs.Inspecting.{Inspects, ShowsInsides, files_of, selection_of}
-use Rattle.fbsim_command.specs.Notes.{IsFileNote, Notes, NotesOf}
+use Rattle.fbsim_command.specs.Notes.{IsFileNote, Notes, NotesOf, NotesRest}
 use Rattle.fbsim_command.specs.Outcomes.{End, Held}
+use Rattle.fbsim_command.specs.WrongLines.{IsWrongIn}
 use Rattle.fbsim_command.specs.OwnLines.{EndsIn}
 use Rattle.fbsim_command.specs.Reading.{Reading, AreRead, IsUnread}
 use Rattle.fbsim_command.specs.Showing.{Opening}
@@ -28,6 +32,7 @@ use Rattle.fbsim_command.specs.declared.failure.Failure.{Failure}
 use Rattle.fbsim_line.specs.declared.inspect_line.Inspect.{Inspect}
 use Rattle.fbsim_line.specs.declared.line.Task.{Task}
 use Rattle.fbsim_command.specs.declared.sources.SourceFault.{SourceFault}
+use Rattle.fbsim_command.proofs.NotedLines.{noted_so}
 use Rattle.fbsim_command.specs.declared.texts.Part.{Part}
 
 -- whatever the call answers
@@ -64,22 +69,37 @@ inspects_none given x trace old run.Failed is = absurd is
 -- a beginning is written where the trace is refused, or where reading it, writing or memory fails
 pub inspects_front :
     (given : Given) (x : Inspect) (trace old new : Held) (i : Inputs) → Declares given i → (e : InspectError) → ShowsFront (system_of i) (selection_of x) x.steps old new
-    → Inspects given x trace old new (Err (failure_of_inspection e))
-inspects_front given x trace old new i is (inspection.Refused line) front = inr (i, is, front)
-inspects_front given x trace old new i is inspection.Names front = inr (i, is, front)
-inspects_front given x trace old new i is inspection.Unknown front = inr (i, is, front)
-inspects_front given x trace old new i is inspection.Memory front = inr (i, is, front)
-inspects_front given x trace old new i is inspection.Read front = (i, is, front)
-inspects_front given x trace old new i is (inspection.Write n) front = (i, is, front)
+    → OfRefusal (IsWrongIn i x.steps trace) e → Inspects given x trace old new (Err (failure_of_inspection e))
+inspects_front given x trace old new i is (inspection.Refused line) front wrong = inr (i, is, front, wrong)
+inspects_front given x trace old new i is inspection.Names front wrong = inr (i, is, front)
+inspects_front given x trace old new i is inspection.Unknown front wrong = inr (i, is, front, refl)
+inspects_front given x trace old new i is inspection.Memory front wrong = inr (i, is, front)
+inspects_front given x trace old new i is inspection.Read front wrong = (i, is, front)
+inspects_front given x trace old new i is (inspection.Write n) front wrong = (i, is, front)
+
+-- a line that is refused is wrong, under the premises of the call below
+pub wrong_so :
+    {A : Type 0} (H L : Type 0) (W : ℕ → Type 0) (r : Result A InspectError) → (H → L → IfErr r (OfRefusal W)) → IfErr r (OfRefusal (λ n. H → L → W n))
+wrong_so H L W (Ok x) is = tt
+wrong_so H L W (Err (inspection.Refused n)) is = is
+wrong_so H L W (Err inspection.Names) is = tt
+wrong_so H L W (Err inspection.Unknown) is = tt
+wrong_so H L W (Err inspection.Memory) is = tt
+wrong_so H L W (Err inspection.Read) is = tt
+wrong_so H L W (Err (inspection.Write n)) is = tt
+
+-- the line for which a walk refuses a trace is wrong
+pub wrong-covered :
+    {A : Type 0} (i : Inputs) (steps : ℕ) (trace : Held) (r : Result A InspectError) (line : ℕ) → r ≡ Err (inspection.Refused line)
+    → (HasNames (system_of i) → steps ≤ most → IfErr r (OfRefusal (λ n. IfSome trace (IsWrongAt (system_of i) steps n)))) → IsWrongIn i steps trace line
+wrong-covered {A} i steps trace r line is wrong = λ names few. subst (λ (s : Result A InspectError). IfErr s (OfRefusal (λ n. IfSome trace (IsWrongAt (system_of i) steps n)))) is (wrong names few)
+
+-- a failure of memory is no refusal
+pub no_refusal : {A : Type 0} (r : Result A InspectError) (W : ℕ → Type 0) → IsErrAnd r (λ e. e ≡ inspection.Memory) → IfErr r (OfRefusal W)
+no_refusal (Ok x) W bad = tt
+no_refusal (Err e) W is = subst (OfRefusal W) (sym is) tt
 
 -- ---- What was read
-
--- a note of a check, or of a line
-pub noted_inside :
-    (types : List Text) (x : Inspect) (lines : List ℕ) (given : Given) (end : End) (note line : Option Text) → NotesInside x.why end line
-    → NotesOf types (files_of x) lines given end note ⊎ (note ≡ line) → NotesOf types (files_of x) lines given end note ⊎ NotesInside x.why end note
-noted_inside types x lines given end note line of_line (inl noted) = inl noted
-noted_inside types x lines given end note line of_line (inr same) = inr (subst (λ (n : Option Text). NotesInside x.why end n) (sym same) of_line)
 
 -- the note has the number of the line
 pub says_line :
@@ -113,10 +133,10 @@ none_noted_inside {U = U} bytes why gone end u (Some n) is noted =
 pub read_and_inspected :
     {S : Type 0} (reads : Reading S) (opens : Opening S) (from between to : S) (types : List Text) (x : Inspect) (old new : Held) (lines : List ℕ) (given : Given) (task : Task)
     (trace : Held) (own : Given) (inner end : End) (note : Option Text) → task ≡ files_of x → own ≡ given → AreRead reads types task from between lines given
-    → opens between x.trace.now (Ok trace) to → Inspects own x trace old new inner → (line : Option Text) → NotesInside x.why inner line
-    → NotesOf types task lines given inner note ⊎ (note ≡ line) → EndsIn types x.declaration.now lines inner end
+    → opens between x.trace.now (Ok trace) to → Inspects own x trace old new inner → (line first : Option Text) → NotesInside x.why inner first
+    → (line ≡ first) ⊎ NotesRest x.why x.trace.now inner line → NotesOf types task lines given inner note ⊎ (note ≡ line) → EndsIn types x.declaration.now lines inner end
     → ShowsInsides reads opens from to types x old new end note
-read_and_inspected reads opens from between to types x old new lines given task trace own inner end note as_task as_given was_read opened done line of_line noted ends =
+read_and_inspected reads opens from between to types x old new lines given task trace own inner end note as_task as_given was_read opened done line first of_line last noted ends =
     inl
     (record {
       lines = lines;
@@ -127,7 +147,8 @@ read_and_inspected reads opens from between to types x old new lines given task 
       opened = opened;
       inner = inner;
       done = subst (λ (z : Given). Inspects z x trace old new inner) as_given done;
-      noted = noted_inside types x lines given inner note line of_line (subst (λ (k : Task). NotesOf types k lines given inner note ⊎ (note ≡ line)) as_task noted);
+      noted = noted_so (NotesOf types (files_of x) lines given inner) (NotesInside x.why inner) (NotesRest x.why x.trace.now inner) note line first of_line last
+          (subst (λ (k : Task). NotesOf types k lines given inner note ⊎ (note ≡ line)) as_task noted);
       ends = ends;
     })
 

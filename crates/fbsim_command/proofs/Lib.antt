@@ -17,7 +17,10 @@ mod Noting
 mod Reporting
 pub mod Warning
 pub mod PlacedLines
+mod LeftOut
 pub mod StateDumped
 pub mod Inspecting
 pub mod Located
 pub mod Gleaning
+mod TypeOf
+mod Selected

@@ -14,18 +14,16 @@ use Rattle.fb_inspect.specs.refused.LineFaults.{Applies}
 use Rattle.fb_inspect.specs.declared.refused.line_fault.LineFault.{LineFault}
 use Rattle.fbsim_command.specs.Failures.{failure_of_wave}
 use Rattle.fbsim_command.specs.LineNotes.{NotesLine, SaysFault}
-use Rattle.fbsim_command.specs.Notes.{NotesOf}
 use Rattle.fbsim_command.specs.Outcomes.{End, Held}
-use Rattle.fbsim_command.specs.Showing.{NotesAs, files_of}
 use Rattle.fbsim_command.specs.declared.failure.Failure.{Failure}
 use Rattle.fbsim_line.specs.declared.line.Wave.{Wave}
 
--- a note of a check, or of a line
-pub noted_in :
-    (types : List Text) (w : Wave) (lines : List ℕ) (given : Given) (trace : Held) (end : End) (note line : Option Text) → NotesAs w.has_states w.why given trace end line
-    → NotesOf types (files_of w) lines given end note ⊎ (note ≡ line) → NotesOf types (files_of w) lines given end note ⊎ NotesAs w.has_states w.why given trace end note
-noted_in types w lines given trace end note line of_line (inl noted) = inl noted
-noted_in types w lines given trace end note line of_line (inr same) = inr (subst (λ (n : Option Text). NotesAs w.has_states w.why given trace end n) (sym same) of_line)
+-- a note of a check, of a line, or of a trace that can't be read to its end
+pub noted_so :
+    (P Q R : Option Text → Type 0) (note line first : Option Text) → Q first → (line ≡ first) ⊎ R line → P note ⊎ (note ≡ line) → P note ⊎ Q note ⊎ R note
+noted_so P Q R note line first of_line last (inl noted) = inl noted
+noted_so P Q R note line first of_line (inl same) (inr is) = inr (inl (subst Q (sym (is ∙ same)) of_line))
+noted_so P Q R note line first of_line (inr rest) (inr is) = inr (inr (subst R (sym is) rest))
 
 -- the note that says what is wrong with a line
 pub says :

@@ -30,9 +30,9 @@ unread d first second old line_fault.Read = refl
 
 -- what is reported of two lines
 pub reported-of :
-    (d : Diff) (first second : Held) (o : Option Difference) (x : Difference) (text : Text) → o ≡ Some x → MayPart first second o → ShowsDifference d.first.now d.second.now x text
+    (d : Diff) (first second : Held) (o : Option Difference) (x : Difference) (text : Text) → o ≡ Some x → MayPart d.is_without_ticks first second o → ShowsDifference d.first.now d.second.now d.is_without_ticks x text
     → IsReported d first second text
-reported-of d first second o x text is part shows = record { difference = x; part = subst (λ (p : Option Difference). MayPart first second p) is part; shows = shows }
+reported-of d first second o x text is part shows = record { difference = x; part = subst (λ (p : Option Difference). MayPart d.is_without_ticks first second p) is part; shows = shows }
 
 -- it is written
 pub wrote : (d : Diff) (first second a b : Held) (text bytes : Text) → bytes ≡ text → IsReported d first second text → Appends a b bytes → Differs d first second a b (Ok Different)
@@ -50,7 +50,6 @@ not_reported d first second a b text bytes same reported BadOption part = absurd
 
 -- a file is not opened
 pub unopened :
-    {S : Type 0} (opens : Opening S) (from to : S) (d : Diff) (a : Held) (fault : SourceFault) (r : End) → AreUnopened opens from to d fault → IsErrAnd r (λ g. g ≡ failure_of_source fault)
-    → Compares opens from to d a a r
-unopened opens from to d a fault (Ok x) is bad = absurd bad
-unopened opens from to d a fault (Err g) is same = inr (fault, is, ap (λ (f : Failure). Err f) same, refl)
+    {S : Type 0} (opens : Opening S) (from to : S) (d : Diff) (a : Held) (fault : SourceFault) (f : Failure) (note : Option Text) → AreUnopened opens from to d fault note → f ≡ failure_of_source fault
+    → Compares opens from to d a a (Err f) note
+unopened opens from to d a fault f note is same = inr (fault, is, ap (λ (g : Failure). Err g) same, refl)

@@ -56,7 +56,7 @@ module _ (n : Naming) (given : Given) (library : Library) where
   as_many_places ws os all = AllZip-long (IsPlaceFor given.declaration library) (map position_of ws) os all ∙ length-map ws position_of
 
   -- one line more
-  lines_push :
+  pub lines_push :
       (ws : List Warning) (w : Warning) (text line : List ℕ) → AreLines n given library ws text → IsPlacedLine n given library w line
       → AreLines n given library (ws ++ w ∷ []) (text ++ line)
   lines_push [] w text line are is = (line, [], is, refl, ap (λ (t : List ℕ). t ++ line) are ∙ sym (append-nil line))

@@ -23,13 +23,13 @@ use Rattle.fbsim_line.specs.declared.line.Wave.{Wave}
 use Rattle.fbsim_command.specs.Failures.{failure_of, failure_of_source, failure_of_wave, numbered_input}
 use Rattle.fbsim_command.specs.declared.failure.Failure.{Failure}
 use Rattle.fbsim_command.specs.Outcomes.{End, Held}
-use Rattle.fbsim_command.specs.Notes.{IsFileNote, Notes, NotesOf}
+use Rattle.fbsim_command.specs.Notes.{IsFileNote, Notes, NotesOf, NotesRest}
 use Rattle.fbsim_command.specs.OwnLines.{EndsIn}
 use Rattle.fbsim_command.specs.Reading.{Reading, AreRead, IsUnread}
 use Rattle.fbsim_command.specs.Showing.{Dumps, DumpsAs, IsTraceFileNote, NotesAs, Opening, Shows, cut_of, files_of}
 use Rattle.fbsim_command.specs.declared.sources.SourceFault.{SourceFault}
 use Rattle.fbsim_command.specs.declared.texts.Part.{Part}
-use Rattle.fbsim_command.proofs.NotedLines.{noted_in}
+use Rattle.fbsim_command.proofs.NotedLines.{noted_so}
 
 -- nothing is written where the inputs are refused
 pub dumps_none : (may : Cut) (given : Given) (trace old : Held) (error : RunError) → IsRefusal given error → Dumps may given trace old old (Err (failure_of error))
@@ -81,10 +81,10 @@ dumps_front may given trace old new i is wave.Names fails blames = inr (i, is, f
 pub read_and_shown :
     {S : Type 0} (reads : Reading S) (opens : Opening S) (from between to : S) (types : List Text) (w : Wave) (old new : Held) (lines : List ℕ) (given : Given) (task : Task) (may : Cut)
     (trace : Held) (x : Given) (inner end : End) (note : Option Text) → task ≡ files_of w → may ≡ cut_of w → x ≡ given → AreRead reads types task from between lines given
-    → opens between w.trace.now (Ok trace) to → DumpsAs w.has_states w.steps may x trace old new inner → (line : Option Text) → NotesAs w.has_states w.why x trace inner line
-    → NotesOf types task lines given inner note ⊎ (note ≡ line) → EndsIn types w.declaration.now lines inner end
+    → opens between w.trace.now (Ok trace) to → DumpsAs w.has_states w.steps may x trace old new inner → (line first : Option Text) → NotesAs w.has_states w.why x trace inner first
+    → (line ≡ first) ⊎ NotesRest w.why w.trace.now inner line → NotesOf types task lines given inner note ⊎ (note ≡ line) → EndsIn types w.declaration.now lines inner end
     → Shows reads opens from to types w old new end note
-read_and_shown reads opens from between to types w old new lines given task may trace x inner end note as_task as_cut as_given was_read opened done line of_line noted ends =
+read_and_shown reads opens from between to types w old new lines given task may trace x inner end note as_task as_cut as_given was_read opened done line first of_line last noted ends =
     inl
     (record {
       lines = lines;
@@ -95,8 +95,8 @@ read_and_shown reads opens from between to types w old new lines given task may 
       opened = opened;
       inner = inner;
       done = subst (λ (m : Cut). DumpsAs w.has_states w.steps m given trace old new inner) as_cut (subst (λ (z : Given). DumpsAs w.has_states w.steps may z trace old new inner) as_given done);
-      noted = noted_in types w lines given trace inner note line (subst (λ (z : Given). NotesAs w.has_states w.why z trace inner line) as_given of_line)
-          (subst (λ (k : Task). NotesOf types k lines given inner note ⊎ (note ≡ line)) as_task noted);
+      noted = noted_so (NotesOf types (files_of w) lines given inner) (NotesAs w.has_states w.why given trace inner) (NotesRest w.why w.trace.now inner) note line first
+          (subst (λ (z : Given). NotesAs w.has_states w.why z trace inner first) as_given of_line) last (subst (λ (k : Task). NotesOf types k lines given inner note ⊎ (note ≡ line)) as_task noted);
       ends = ends;
     })
 

@@ -17,7 +17,9 @@ use Rattle.fb_wave.specs.declared.truncation.Cut.{Cut}
 use Rattle.fb_inspect.specs.StateWaves.{WritesFront}
 use Rattle.fbsim_command.specs.Failures.{failure_of, failure_of_inspection, numbered_input}
 use Rattle.fbsim_command.specs.Outcomes.{Held}
+use Rattle.fb_inspect.specs.Refusals.{OfRefusal}
 use Rattle.fbsim_command.specs.StateDumping.{DumpsStates}
+use Rattle.fbsim_command.specs.WrongLines.{IsWrongIn}
 
 -- nothing is written where the inputs are refused
 pub states_none : (may : Cut) (steps : ℕ) (given : Given) (trace old : Held) (error : RunError) → IsRefusal given error → DumpsStates may steps given trace old old (Err (failure_of error))
@@ -48,10 +50,10 @@ states_none may steps given trace old run.Failed is = absurd is
 -- a beginning is written where the trace is refused, or where reading it, writing or memory fails
 pub states_front :
     (may : Cut) (steps : ℕ) (given : Given) (trace old new : Held) (i : Inputs) → Declares given i → (e : InspectError) → WritesFront (system_of i) steps old new
-    → DumpsStates may steps given trace old new (Err (failure_of_inspection e))
-states_front may steps given trace old new i is (inspection.Refused line) front = inr (i, is, front)
-states_front may steps given trace old new i is inspection.Names front = inr (i, is, front)
-states_front may steps given trace old new i is inspection.Unknown front = inr (i, is, front)
-states_front may steps given trace old new i is inspection.Memory front = inr (i, is, front)
-states_front may steps given trace old new i is inspection.Read front = (i, is, front)
-states_front may steps given trace old new i is (inspection.Write n) front = (i, is, front)
+    → OfRefusal (IsWrongIn i steps trace) e → DumpsStates may steps given trace old new (Err (failure_of_inspection e))
+states_front may steps given trace old new i is (inspection.Refused line) front wrong = inr (i, is, front, wrong)
+states_front may steps given trace old new i is inspection.Names front wrong = inr (i, is, front)
+states_front may steps given trace old new i is inspection.Unknown front wrong = inr (i, is, front, refl)
+states_front may steps given trace old new i is inspection.Memory front wrong = inr (i, is, front)
+states_front may steps given trace old new i is inspection.Read front wrong = (i, is, front)
+states_front may steps given trace old new i is (inspection.Write n) front wrong = (i, is, front)

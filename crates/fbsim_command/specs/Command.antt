@@ -38,6 +38,10 @@ use Rattle.fbsim_line.specs.declared.bench_line.Expect.{Expect}
 use Rattle.fbsim_line.specs.declared.coverage_line.Coverage.{Coverage}
 use Rattle.fbsim_line.specs.declared.draw_line.Draw.{Draw}
 use Rattle.fbsim_line.specs.declared.inspect_line.Inspect.{Inspect}
+use Rattle.fbsim_line.specs.declared.levels.Levels.{Levels}
+use Rattle.fbsim_command.specs.Selecting.{IsSorting, IsUnsorted}
+use Rattle.fbsim_command.specs.declared.failure.Failure.{Failure}
+use Rattle.fbsim_command.specs.declared.selectors.Sorting.{Sorting}
 use Rattle.fbsim_command.specs.declared.failure.Failure.TheVariants.{Refused, RefusedTrace, File, Write, Memory, Line, BadOption}
 use Rattle.fbsim_line.specs.declared.line.Task.{Task}
 use Rattle.fbsim_line.specs.declared.line.Action.{Action}
@@ -49,25 +53,31 @@ use Rattle.fbsim_command.specs.declared.statuses.Done.{Done}
 use Rattle.fbsim_command.specs.declared.statuses.Done.TheVariants.{Helped, Explained, Accepted, Shown, Ended, Stopped, Met, Unmet, Same, Different}
 use Rattle.fbsim_command.specs.declared.texts.Part.{Part}
 
--- the inputs are checked
-abbrev pub Checks : Given → (old new : Held) → End → Type 0
-Checks given old new (Ok Accepted) = IsDeclared given × Appends old new (codes "accepted\n")
-Checks given old new (Ok Helped) = ⊥
-Checks given old new (Ok Explained) = ⊥
-Checks given old new (Ok Ended) = ⊥
-Checks given old new (Ok Shown) = ⊥
-Checks given old new (Ok Stopped) = ⊥
-Checks given old new (Ok Met) = ⊥
-Checks given old new (Ok Unmet) = ⊥
-Checks given old new (Ok Same) = ⊥
-Checks given old new (Ok Different) = ⊥
-Checks given old new (Err (Refused refusal)) = IsRefused given refusal × (new ≡ old)
-Checks given old new (Err (Write n)) = IsDeclared given × IsPartWritten old new (codes "accepted\n") n
-Checks given old new (Err Memory) = new ≡ old
-Checks given old new (Err File) = ⊥
-Checks given old new (Err (Line message)) = ⊥
-Checks given old new (Err BadOption) = ⊥
-Checks given old new (Err (RefusedTrace text)) = ⊥
+-- How a check of accepted inputs ends, by whether one of the warnings about them is denied.
+abbrev pub checked_by : Bool → Done
+checked_by true = Unmet
+checked_by false = Accepted
+
+-- the inputs are checked, and warnings about them asked for, or not
+abbrev pub Checks : (lint : Bool) → Given → (old new : Held) → End → Type 0
+Checks lint given old new (Ok Accepted) = IsDeclared given × Appends old new (codes "accepted\n")
+Checks lint given old new (Ok Helped) = ⊥
+Checks lint given old new (Ok Explained) = ⊥
+Checks lint given old new (Ok Ended) = ⊥
+Checks lint given old new (Ok Shown) = ⊥
+Checks lint given old new (Ok Stopped) = ⊥
+Checks lint given old new (Ok Met) = ⊥
+Checks true given old new (Ok Unmet) = IsDeclared given × Appends old new (codes "accepted\n")
+Checks false given old new (Ok Unmet) = ⊥
+Checks lint given old new (Ok Same) = ⊥
+Checks lint given old new (Ok Different) = ⊥
+Checks lint given old new (Err (Refused refusal)) = IsRefused given refusal × (new ≡ old)
+Checks lint given old new (Err (Write n)) = IsDeclared given × IsPartWritten old new (codes "accepted\n") n
+Checks lint given old new (Err Memory) = new ≡ old
+Checks lint given old new (Err File) = ⊥
+Checks lint given old new (Err (Line message)) = ⊥
+Checks lint given old new (Err BadOption) = ⊥
+Checks lint given old new (Err (RefusedTrace text)) = ⊥
 
 abbrev pub IsDoneOf : Outcome → Done → Type 0
 IsDoneOf (sim_end.End h) done = done ≡ Ended
@@ -99,7 +109,7 @@ Runs serial given o old new (Err (Line message)) = ⊥
 
 -- what a task asks for is done with the inputs
 abbrev pub Meets : Given → Action → (old new : Held) → End → Type 0
-Meets given (Check lint) old new end = Checks given old new end
+Meets given (Check lint) old new end = Checks lint given old new end
 Meets given (Run horizon steps workers serial form progress) old new end =
     Runs serial given (record { horizon = horizon; steps = steps; workers = workers; form = form }) old new end
 
@@ -114,28 +124,29 @@ ReportsOn false true given o old new end reports = (run : Result Outcome RunErro
 ReportsOn true true given o old new end reports = reports ≡ []
 ReportsOn serial false given o old new end reports = reports ≡ []
 
--- what is reported of a check: of inputs that are accepted the warnings, if they are asked for, and else nothing
-abbrev pub Warns : (lint : Bool) → Naming → Given → End → (reports : Text) → Type 0
-Warns true n given (Ok done) reports = AreWarnings n given reports
-Warns true n given (Err failure) reports = reports ≡ []
-Warns false n given end reports = reports ≡ []
+-- What is reported of a check: of inputs that are accepted the warnings, if they are asked for, and else nothing. It ends by
+-- whether one of these is denied.
+abbrev pub Warns : (lint : Bool) → Naming → Given → Sorting → End → (reports : Text) → Type 0
+Warns true n given s (Ok done) reports = (denied : Bool) × AreWarnings n given s reports denied × (done ≡ checked_by denied)
+Warns true n given s (Err failure) reports = reports ≡ []
+Warns false n given s end reports = reports ≡ []
 
-abbrev pub Reports : Naming → Given → Action → (old new : Held) → End → (reports : Text) → Type 0
-Reports n given (Check lint) old new end reports = Warns lint n given end reports
-Reports n given (Run horizon steps workers serial form progress) old new end reports =
+abbrev pub Reports : Naming → Given → Action → Sorting → (old new : Held) → End → (reports : Text) → Type 0
+Reports n given (Check lint) s old new end reports = Warns lint n given s end reports
+Reports n given (Run horizon steps workers serial form progress) s old new end reports =
     ReportsOn serial progress given (record { horizon = horizon; steps = steps; workers = workers; form = form }) old new end reports
 
 -- ---- The call
 
 -- The files are read, and what the task asks for is done with them; then it is reported where a run stopped. A syntax fault is one of the file that has it.
-pub record AreReadAndDone {S : Type 0} (reads : Reading S) (from to : S) (types : List Text) (c : Task) (old new : Held) (end : End) (reports : Text) (note : Option Text) : Type 0 where
+pub record AreReadAndDone {S : Type 0} (reads : Reading S) (from to : S) (types : List Text) (c : Task) (s : Sorting) (old new : Held) (end : End) (reports : Text) (note : Option Text) : Type 0 where
   pub lines : List ℕ
   pub given : Given
   pub read : AreRead reads types c from to lines given
   pub inner : End
   pub done : Meets given c.action old new inner
   pub first : Text
-  pub reported : Reports (naming_in types c lines) given c.action old new inner first
+  pub reported : Reports (naming_in types c lines) given c.action s old new inner first
   pub last : Text
   pub located : ReportsStop types c lines given inner last
   pub reports_are : reports ≡ first ++ last
@@ -152,9 +163,19 @@ pub record IsFileFault {S : Type 0} (reads : Reading S) (from to : S) (types : L
   pub reported : reports ≡ []
   pub noted : Notes c.why (IsFileNote types c part fault) note
 
-abbrev pub Performs : {S : Type 0} → Reading S → (from to : S) → (types : List Text) → Task → (old new : Held) → End → (reports : Text) → (note : Option Text) → Type 0
-Performs reads from to types c old new end reports note =
-    AreReadAndDone reads from to types c old new end reports note ⊎ IsFileFault reads from to types c old new end reports note
+abbrev pub Performs : {S : Type 0} → Reading S → (from to : S) → (types : List Text) → Task → Sorting → (old new : Held) → End → (reports : Text) → (note : Option Text) → Type 0
+Performs reads from to types c s old new end reports note =
+    AreReadAndDone reads from to types c s old new end reports note ⊎ IsFileFault reads from to types c old new end reports note
+
+-- nothing is read, and only the end is reported
+abbrev pub ReportsNoMore : {S : Type 0} → (from to : S) → (reports : Text) → (note : Option Text) → Type 0
+ReportsNoMore from to reports note = (to ≡ from) × (reports ≡ []) × (note ≡ None)
+
+-- What is said of warnings names some that there are, and the task is performed; or it doesn't, and nothing is read.
+abbrev pub SortsAndPerforms : {S : Type 0} → Reading S → (from to : S) → (types : List Text) → Task → Levels → (old new : Held) → End → (reports : Text) → (note : Option Text) → Type 0
+SortsAndPerforms reads from to types c l old new end reports note =
+    ((s : Sorting) × IsSorting l s × Performs reads from to types c s old new end reports note)
+    ⊎ ((failure : Failure) × IsUnsorted l failure × (end ≡ Err failure) × (new ≡ old) × ReportsNoMore from to reports note)
 
 -- whether a refusal or a reason has this name, in any letter case
 abbrev pub is_explained : (name : Text) → Bool
@@ -206,10 +227,6 @@ Explains words old new (Err File) = ⊥
 Explains words old new (Err BadOption) = ⊥
 Explains words old new (Err (RefusedTrace text)) = ⊥
 
--- nothing is read, and only the end is reported
-abbrev pub ReportsNoMore : {S : Type 0} → (from to : S) → (reports : Text) → (note : Option Text) → Type 0
-ReportsNoMore from to reports note = (to ≡ from) × (reports ≡ []) × (note ≡ None)
-
 -- the names of a list of files
 abbrev pub names_of : Vec (Bor Text) → List Text
 names_of v = map (λ n. n.now) v.items
@@ -218,11 +235,11 @@ names_of v = map (λ n. n.now) v.items
 -- `coverage`. Or they name no call.
 abbrev pub Does : {S : Type 0} → Reading S → Opening S → (from to : S) → List Text → (old new : Held) → End → (reports : Text) → (note : Option Text) → Type 0
 Does reads opens from to words old new end reports note =
-    ((c : Task) × (types : Vec (Bor Text)) × AreCall words (call.Task c types) × IsTaken words × Performs reads from to (names_of types) c old new end reports note)
+    ((c : Task) × (types : Vec (Bor Text)) × (l : Levels) × AreCall words (call.Task c types l) × IsTaken words × SortsAndPerforms reads from to (names_of types) c l old new end reports note)
     ⊎ ((w : Wave) × (types : Vec (Bor Text)) × AreCall words (call.Wave w types) × IsTaken words × Shows reads opens from to (names_of types) w old new end note × (reports ≡ []))
     ⊎ ((name : Bor Text) × AreCall words (call.Explain name) × IsTaken words × ExplainsRefusal name.now old new end × ReportsNoMore from to reports note)
     ⊎ ((x : Expect) × AreCall words (call.Expect x) × IsTaken words × Expects reads opens from to x old new end note × (reports ≡ []))
-    ⊎ ((d : Diff) × AreCall words (call.Diff d) × IsTaken words × Compares opens from to d old new end × (reports ≡ []) × (note ≡ None))
+    ⊎ ((d : Diff) × AreCall words (call.Diff d) × IsTaken words × Compares opens from to d old new end note × (reports ≡ []))
     ⊎ ((d : Draw) × (types : Vec (Bor Text)) × AreCall words (call.Draw d types) × IsTaken words × Draws reads from to (names_of types) d old new end × (reports ≡ []) × (note ≡ None))
     ⊎ ((x : Inspect) × (types : Vec (Bor Text)) × AreCall words (call.Inspect x types) × IsTaken words × ShowsInsides reads opens from to (names_of types) x old new end note × (reports ≡ []))
     ⊎ ((x : Coverage) × (types : Vec (Bor Text)) × AreCall words (call.Coverage x types) × IsTaken words × ReportsCoverage reads opens from to (names_of types) x old new end note × (reports ≡ []))

@@ -1,11 +1,12 @@
 -- What a call that compares two traces does (docs/FORMATS.md, "Where two traces differ"; this project's own).
-use Rattle.std.specs.Prelude.{◌≡◌, ◌⊎◌, ℕ, Some, None, Ok, Err}
+use Rattle.std.specs.Prelude.{◌≡◌, ◌⊎◌, ◌++◌, ℕ, IsTrue, Option, Some, None, Ok, Err, codes}
 use Rattle.std.specs.Io.KnownBytes.{Appends}
 use Rattle.clap.specs.Words.{Text}
 use Rattle.fb_expect.specs.Parting.{MayPart}
 use Rattle.fb_expect.specs.DifferenceReport.{ShowsDifference}
 use Rattle.fb_expect.specs.declared.parting.Difference.{Difference}
 use Rattle.fbsim_command.specs.Failures.{IsPartWritten, failure_of_source}
+use Rattle.fbsim_command.specs.Notes.{IsNoteOfName, Notes}
 use Rattle.fbsim_command.specs.Outcomes.{End, Held}
 use Rattle.fbsim_command.specs.Showing.{Opening}
 use Rattle.fbsim_line.specs.declared.bench_line.Diff.{Diff}
@@ -16,12 +17,12 @@ use Rattle.fbsim_command.specs.declared.statuses.Done.TheVariants.{Helped, Expla
 -- Two texts part first at two lines, and the text says in what these differ.
 pub record IsReported (d : Diff) (first second : Held) (text : Text) : Type 0 where
   pub difference : Difference
-  pub part : MayPart first second (Some difference)
-  pub shows : ShowsDifference d.first.now d.second.now difference text
+  pub part : MayPart d.is_without_ticks first second (Some difference)
+  pub shows : ShowsDifference d.first.now d.second.now d.is_without_ticks difference text
 
 -- two files, of which these bytes are known, are compared
 abbrev pub Differs : Diff → (first second : Held) → (old new : Held) → End → Type 0
-Differs d first second old new (Ok Same) = MayPart first second None × (new ≡ old)
+Differs d first second old new (Ok Same) = MayPart d.is_without_ticks first second None × (new ≡ old)
 Differs d first second old new (Ok Different) = (text : Text) × IsReported d first second text × Appends old new text
 Differs d first second old new (Ok Helped) = ⊥
 Differs d first second old new (Ok Explained) = ⊥
@@ -55,10 +56,22 @@ pub record IsSecondUnopened {S : Type 0} (opens : Opening S) (from to : S) (d : 
   pub first_opened : opens from d.first.now (Ok first) between
   pub unopened : opens between d.second.now (Err fault) to
 
-abbrev pub AreUnopened : {S : Type 0} → Opening S → (from to : S) → Diff → SourceFault → Type 0
-AreUnopened opens from to d fault = opens from d.first.now (Err fault) to ⊎ IsSecondUnopened opens from to d fault
+-- The note to the file of this name, which is not opened.
+abbrev pub NotesFile : Diff → (name : Text) → SourceFault → Option Text → Type 0
+NotesFile d name fault note = Notes d.why (IsNoteOfName (codes "trace") name fault) note
 
--- What a call that compares two traces does, from one state of the source to the next.
-abbrev pub Compares : {S : Type 0} → Opening S → (from to : S) → Diff → (old new : Held) → End → Type 0
-Compares opens from to d old new end =
-    AreCompared opens from to d old new end ⊎ ((fault : SourceFault) × AreUnopened opens from to d fault × (end ≡ Err (failure_of_source fault)) × (new ≡ old))
+abbrev pub AreUnopened : {S : Type 0} → Opening S → (from to : S) → Diff → SourceFault → Option Text → Type 0
+AreUnopened opens from to d fault note =
+    (opens from d.first.now (Err fault) to × NotesFile d d.first.now fault note) ⊎ (IsSecondUnopened opens from to d fault × NotesFile d d.second.now fault note)
+
+-- One of the two can't be read to its end, and the note says so.
+abbrev pub NotesEither : Diff → End → Option Text → Type 0
+NotesEither d end None = Unit {0}
+NotesEither d end (Some note) =
+    IsTrue d.why × (end ≡ Err File) × (note ≡ codes "trace " ++ (d.first.now ++ (codes " or " ++ (d.second.now ++ codes ": this file can't be read to its end"))))
+
+-- What a call that compares two traces does, from one state of the source to the next, and its note.
+abbrev pub Compares : {S : Type 0} → Opening S → (from to : S) → Diff → (old new : Held) → End → Option Text → Type 0
+Compares opens from to d old new end note =
+    (AreCompared opens from to d old new end × NotesEither d end note)
+    ⊎ ((fault : SourceFault) × AreUnopened opens from to d fault note × (end ≡ Err (failure_of_source fault)) × (new ≡ old))

@@ -4,7 +4,9 @@ use Rattle.std.specs.Io.KnownBytes.{Appends}
 use Rattle.clap.specs.Words.{Text}
 use Rattle.fb_types.specs.Headline.{Inputs, system_of}
 use Rattle.fb_coverage.specs.Openings.{opening_marks}
+use Rattle.fb_coverage.specs.OfSystem.{is_below}
 use Rattle.fb_coverage.specs.Reports.{report_text}
+use Rattle.fb_coverage.specs.declared.marks.Marks.{Marks}
 use Rattle.fb_inspect.specs.Covering.{Covers}
 use Rattle.fb_inspect.specs.declared.walk.Extent.{Extent}
 use Rattle.fb_inspect.specs.declared.walk.Extent.TheVariants.{Whole, CutOff}
@@ -14,12 +16,13 @@ use Rattle.fb_sim.specs.Serial.{Declares}
 use Rattle.fbsim_command.specs.Expecting.{IsNoTrace}
 use Rattle.fbsim_command.specs.Failures.{IsPartWritten, failure_of_source, refused_trace}
 use Rattle.fbsim_command.specs.InsideNotes.{SaysLine}
-use Rattle.fbsim_command.specs.Notes.{IsFileNote, Notes, NotesOf}
+use Rattle.fbsim_command.specs.Notes.{IsFileNote, IsNoteOfName, Notes, NotesOf, rest_note}
 use Rattle.fbsim_command.specs.Outcomes.{End, Held, IsRefused}
 use Rattle.fbsim_command.specs.OwnLines.{EndsIn}
 use Rattle.fbsim_command.specs.Reading.{Reading, AreRead, IsUnread, checked}
 use Rattle.fbsim_command.specs.Showing.{Opening}
 use Rattle.fbsim_command.specs.Texts.{may_be_cut}
+use Rattle.fbsim_command.specs.WrongLines.{IsWrongIn}
 use Rattle.fbsim_line.specs.declared.coverage_line.Coverage.{Coverage}
 use Rattle.fbsim_command.specs.declared.coverage.Gleaned.{Gleaned}
 use Rattle.fbsim_command.specs.declared.failure.Failure.{Failure}
@@ -28,6 +31,7 @@ use Rattle.fbsim_command.specs.declared.failure.RefusalLine.{RefusalLine}
 use Rattle.fbsim_command.specs.declared.failure.RefusalLine.TheVariants.{Trace}
 use Rattle.fbsim_line.specs.declared.line.Task.{Task}
 use Rattle.fbsim_command.specs.declared.sources.SourceFault.{SourceFault}
+use Rattle.fbsim_command.specs.declared.statuses.Done.{Done}
 use Rattle.fbsim_command.specs.declared.statuses.Done.TheVariants.{Helped, Explained, Accepted, Shown, Ended, Stopped, Met, Unmet, Same, Different}
 use Rattle.fbsim_command.specs.declared.texts.Part.{Part}
 
@@ -83,13 +87,19 @@ cut_line k n = if nat_eq k 0 then [] else codes "traces cut " ++ (decimal k ++ (
 abbrev pub coverage_text : Inputs → Coverage → Gleaned → Text
 coverage_text i x g = report_text i.library (system_of i) g.marks ++ cut_line g.cut (length x.traces.items)
 
--- The inputs are accepted, all traces are gone through, and this is the report of what they cover.
-pub record IsReport {S : Type 0} (opens : Opening S) (given : Given) (x : Coverage) (from to : S) (text : Text) : Type 0 where
+-- traces cover less than is asked for
+abbrev pub is_too_little : Inputs → (least : Option ℕ) → Marks → Bool
+is_too_little i None marks = false
+is_too_little i (Some least) marks = is_below i least marks
+
+-- The inputs are accepted, all traces are gone through, and this is the report of what they cover, and whether that is too little.
+pub record IsReport {S : Type 0} (opens : Opening S) (given : Given) (x : Coverage) (from to : S) (text : Text) (too_little : Bool) : Type 0 where
   pub inputs : Inputs
   pub declared : Declares given inputs
   pub gleaned : Gleaned
   pub gone : AreGoneThrough opens inputs x from to gleaned
   pub is : text ≡ coverage_text inputs x gleaned
+  pub less : too_little ≡ is_too_little inputs x.least gleaned.marks
 
 -- ---- Traces that are not gone through
 
@@ -101,22 +111,23 @@ RefusesAt true name line _ = ⊥
 RefusesAt false name line (Refused refusal) = refusal ≡ Trace line
 RefusesAt false name line _ = ⊥
 
--- A trace is opened, and refused.
-pub record RefusesOne {S : Type 0} (opens : Opening S) (is_named : Bool) (name : Text) (from to : S) (failure : Failure) : Type 0 where
+-- A trace is opened, and refused for a line that is wrong.
+pub record RefusesOne {S : Type 0} (opens : Opening S) (wrong : Held → ℕ → Type 0) (is_named : Bool) (name : Text) (from to : S) (failure : Failure) : Type 0 where
   pub trace : Held
   pub opened : opens from name (Ok trace) to
   pub line : ℕ
+  pub is_wrong : wrong trace line
   pub reported : RefusesAt is_named name line failure
 
 -- a trace is not gone through, by the failure
-abbrev pub IsStopped : {S : Type 0} → Opening S → (is_named : Bool) → (name : Text) → (from to : S) → Failure → Type 0
-IsStopped opens is_named name from to (Refused refusal) = RefusesOne opens is_named name from to (Refused refusal)
-IsStopped opens is_named name from to (RefusedTrace text) = RefusesOne opens is_named name from to (RefusedTrace text)
-IsStopped opens is_named name from to File = IsNoTrace opens from to name
-IsStopped opens is_named name from to Memory = Unit {0}
-IsStopped opens is_named name from to (Write n) = ⊥
-IsStopped opens is_named name from to (Line message) = ⊥
-IsStopped opens is_named name from to BadOption = ⊥
+abbrev pub IsStopped : {S : Type 0} → Opening S → (wrong : Held → ℕ → Type 0) → (is_named : Bool) → (name : Text) → (from to : S) → Failure → Type 0
+IsStopped opens wrong is_named name from to (Refused refusal) = RefusesOne opens wrong is_named name from to (Refused refusal)
+IsStopped opens wrong is_named name from to (RefusedTrace text) = RefusesOne opens wrong is_named name from to (RefusedTrace text)
+IsStopped opens wrong is_named name from to File = IsNoTrace opens from to name
+IsStopped opens wrong is_named name from to Memory = Unit {0}
+IsStopped opens wrong is_named name from to (Write n) = ⊥
+IsStopped opens wrong is_named name from to (Line message) = ⊥
+IsStopped opens wrong is_named name from to BadOption = ⊥
 
 -- Those before a trace are gone through, and it is not.
 pub record StopsAt {S : Type 0} (opens : Opening S) (i : Inputs) (x : Coverage) (from to : S) (failure : Failure) : Type 0 where
@@ -129,7 +140,7 @@ pub record StopsAt {S : Type 0} (opens : Opening S) (i : Inputs) (x : Coverage) 
   pub is_first : IsFirst i first
   pub gleaned : Gleaned
   pub gone : GoThrough opens i x before from between first gleaned
-  pub stopped : IsStopped opens (are_several x) name between to failure
+  pub stopped : IsStopped opens (IsWrongIn i x.steps) (are_several x) name between to failure
 
 -- one of the traces is not, by the failure
 abbrev pub AreStopped : {S : Type 0} → Opening S → Inputs → Coverage → (from to : S) → Failure → Type 0
@@ -157,18 +168,23 @@ IsUnreported opens given x from to BadOption = ⊥
 
 -- ---- What is written
 
+-- how a call ends, by whether traces cover too little
+abbrev pub covered_by : Bool → Done
+covered_by true = Unmet
+covered_by false = Shown
+
 abbrev pub WritesReport : {S : Type 0} → Opening S → Given → Coverage → (from to : S) → (old new : Held) → End → Type 0
-WritesReport opens given x from to old new (Ok Shown) = (text : Text) × IsReport opens given x from to text × Appends old new text
+WritesReport opens given x from to old new (Ok Shown) = (text : Text) × IsReport opens given x from to text false × Appends old new text
 WritesReport opens given x from to old new (Ok Helped) = ⊥
 WritesReport opens given x from to old new (Ok Explained) = ⊥
 WritesReport opens given x from to old new (Ok Accepted) = ⊥
 WritesReport opens given x from to old new (Ok Ended) = ⊥
 WritesReport opens given x from to old new (Ok Stopped) = ⊥
 WritesReport opens given x from to old new (Ok Met) = ⊥
-WritesReport opens given x from to old new (Ok Unmet) = ⊥
+WritesReport opens given x from to old new (Ok Unmet) = (text : Text) × IsReport opens given x from to text true × Appends old new text
 WritesReport opens given x from to old new (Ok Same) = ⊥
 WritesReport opens given x from to old new (Ok Different) = ⊥
-WritesReport opens given x from to old new (Err (Write n)) = (text : Text) × IsReport opens given x from to text × IsPartWritten old new text n
+WritesReport opens given x from to old new (Err (Write n)) = (text : Text) × (less : Bool) × IsReport opens given x from to text less × IsPartWritten old new text n
 WritesReport opens given x from to old new (Err (Refused refusal)) = IsUnreported opens given x from to (Refused refusal) × (new ≡ old)
 WritesReport opens given x from to old new (Err (RefusedTrace text)) = IsUnreported opens given x from to (RefusedTrace text) × (new ≡ old)
 WritesReport opens given x from to old new (Err File) = IsUnreported opens given x from to File × (new ≡ old)
@@ -183,15 +199,20 @@ abbrev pub note_front : (is_named : Bool) → (name : Text) → Text
 note_front true name = codes "trace " ++ name
 note_front false name = codes "trace"
 
--- A note is given only where one is asked for, and then it is one to a line of a trace.
+-- the note of a trace that is refused at a line, that is not opened, or that can't be read to its end
+abbrev pub IsTraceNote : Coverage → (name note : Text) → Type 0
+IsTraceNote x name note =
+    ((line : ℕ) × SaysLine (note_front (are_several x) name) line note) ⊎ ((fault : SourceFault) × IsNoteOfName (codes "trace") name fault note) ⊎ (note ≡ rest_note (codes "trace") name)
+
+-- A note is given only where one is asked for, and then it is one to a trace.
 abbrev pub NotesTrace : Coverage → Option Text → Type 0
 NotesTrace x None = Unit {0}
-NotesTrace x (Some note) = IsTrue x.why × ((name : Text) × (line : ℕ) × SaysLine (note_front (are_several x) name) line note)
+NotesTrace x (Some note) = IsTrue x.why × ((name : Text) × IsTraceNote x name note)
 
 -- ---- What is read
 
 -- All is read that traces are of, and what they cover is reported. A syntax fault is one of the file that has it.
--- A note is that of a check, or of the line at which a trace is refused.
+-- A note is that of a check, or of a trace.
 pub record IsReadAndReported {S : Type 0} (reads : Reading S) (opens : Opening S) (from to : S) (types : List Text) (x : Coverage) (old new : Held) (end : End) (note : Option Text) : Type 0 where
   pub lines : List ℕ
   pub given : Given

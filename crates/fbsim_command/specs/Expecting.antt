@@ -11,6 +11,7 @@ use Rattle.fb_expect.specs.Judging.{Judges}
 use Rattle.fb_expect.specs.Locations.{IsLocation, number_at}
 use Rattle.fb_expect.specs.Reading.{most_bytes, rules_of}
 use Rattle.fb_expect.specs.Reports.{are_well, plan, points}
+use Rattle.fb_expect.specs.Suites.{suite, suites_head, suites_tail}
 use Rattle.fb_expect.specs.declared.judging.Cut.{Cut}
 use Rattle.fb_expect.specs.declared.judging.Cut.TheVariants as cut
 use Rattle.fb_expect.specs.declared.judging.Judged.{Judged}
@@ -22,7 +23,7 @@ use Rattle.fbsim_command.specs.Known.{IsUnknownAt, has_names}
 use Rattle.fbsim_command.specs.InputNotes.{FileNames}
 use Rattle.fbsim_command.specs.Notes.{IsFileNote, IsNoteOfName, IsNoteOfNumber, Notes, number_of}
 use Rattle.fbsim_command.specs.Outcomes.{End, Held, IsRefused}
-use Rattle.fbsim_command.specs.OwnLines.{EndsIn}
+use Rattle.fbsim_command.specs.OwnLines.{EndsIn, IsPlacedText}
 use Rattle.fbsim_command.specs.Reading.{Reading, AreRead, IsUnread, checked}
 use Rattle.fbsim_command.specs.Showing.{Opening}
 use Rattle.fbsim_line.specs.declared.bench_line.Expect.{Expect}
@@ -179,16 +180,27 @@ AreHeld {S} opens x rules old new (name ∷ names) (js ∷ all) = (between : S) 
 abbrev pub names_of : Expect → List Text
 names_of x = map (λ t. t.now) x.traces.items
 
--- the points of all traces, numbered after those before
+-- what the report has of one trace: its points, which are numbered after those before, or its suite
+abbrev pub part_of : Expect → List Rule → (before : ℕ) → Bor Text → List Judged → Text
+part_of x rules before t js =
+    if x.is_junit then suite x.is_strict t.now rules js
+    else points x.is_strict (record { trace = t; is_named = nat_lt 1 (length x.traces.items) }) before rules js
+
 abbrev pub points_of : Expect → List Rule → (before : ℕ) → List (Bor Text) → List (List Judged) → Text
 points_of x rules before [] all = []
 points_of x rules before (t ∷ ts) [] = []
-points_of x rules before (t ∷ ts) (js ∷ all) =
-    points x.is_strict (record { trace = t; is_named = nat_lt 1 (length x.traces.items) }) before rules js ++ points_of x rules (before + length rules) ts all
+points_of x rules before (t ∷ ts) (js ∷ all) = part_of x rules before t js ++ points_of x rules (before + length rules) ts all
 
--- The report: how many points there are, and the points trace by trace.
+-- what the report begins with: how many points there are, or the head of the suites; and what it ends with
+abbrev pub head_of : Expect → List Rule → Text
+head_of x rules = if x.is_junit then suites_head else plan (length rules * length x.traces.items)
+
+abbrev pub tail_of : Expect → Text
+tail_of x = if x.is_junit then suites_tail else []
+
+-- The report, trace by trace.
 abbrev pub report_of : Expect → List Rule → List (List Judged) → Text
-report_of x rules all = plan (length rules * length x.traces.items) ++ points_of x rules 0 x.traces.items all
+report_of x rules all = head_of x rules ++ (points_of x rules 0 x.traces.items all ++ tail_of x)
 
 abbrev pub all_well : Expect → List (List Judged) → Bool
 all_well x all = list_all (are_well x.is_strict) all
@@ -261,7 +273,7 @@ AreUnheld opens x rules old new BadOption = ⊥
 pub record PutsOne {S : Type 0} (opens : Opening S) (x : Expect) (rules : List Rule) (index : ℕ) (trace : Bor Text) (old new : S) (before text : Text) (well : Bool) : Type 0 where
   pub judged : List Judged
   pub held : IsHeld opens x rules old new trace.now judged
-  pub is : text ≡ before ++ points x.is_strict (record { trace = trace; is_named = nat_lt 1 (length x.traces.items) }) (length rules * index) rules judged
+  pub is : text ≡ before ++ part_of x rules (length rules * index) trace judged
   pub fine : well ≡ are_well x.is_strict judged
 
 -- These traces were held against the rules, and their points come after a text.
@@ -307,6 +319,10 @@ pub record IsLocationOf (bytes : Text) (number : ℕ) : Type 0 where
   pub location : RulesLocation
   pub is : IsLocation bytes location
   pub number_is : number_at location ≡ number
+
+-- The note begins with a place in the file of the rules.
+abbrev pub IsPlacedNote : (rules : Text) → (note : Text) → Type 0
+IsPlacedNote rules note = (line : ℕ) × (column : ℕ) × IsPlacedText rules line column note
 
 -- The bytes are rules, and what is declared is refused with this number, as the note of a check says.
 pub record IsPlanNote (x : Expect) (lines : List ℕ) (declared : Option Given) (number : ℕ) (note : Text) : Type 0 where

@@ -1,21 +1,24 @@
 -- What a call that inspects a trace does (docs/FORMATS.md, "Inside a trace"; this project's own).
-use Rattle.std.specs.Prelude.{◌≡◌, ◌⊎◌, ℕ, List, map, Option, IfSome, Ok, Err}
+use Rattle.std.specs.Prelude.{◌≡◌, ◌⊎◌, ℕ, List, map, Option, Some, None, IfSome, Ok, Err}
 use Rattle.std.specs.Char.{to_ascii_uppercase}
 use Rattle.clap.specs.Words.{Text}
 use Rattle.fb_types.specs.Headline.{Inputs, system_of}
 use Rattle.fb_inspect.specs.Inspections.{IsShownBy, ShowsFront}
-use Rattle.fb_inspect.specs.Selections.{Selection, all_events}
+use Rattle.fb_inspect.specs.Selections.{Selection}
+use Rattle.fb_inspect.specs.declared.filter.EventFilter.{EventFilter}
 use Rattle.fb_wave.specs.declared.truncation.Cut.{Cut}
 use Rattle.fb_sim.specs.Given.{Given}
 use Rattle.fb_sim.specs.Serial.{Declares}
 use Rattle.fbsim_command.specs.Failures.{failure_of_source}
 use Rattle.fbsim_command.specs.InsideNotes.{IsOpenNote, NotesInside}
-use Rattle.fbsim_command.specs.Notes.{IsFileNote, Notes, NotesOf}
+use Rattle.fbsim_command.specs.Notes.{IsFileNote, Notes, NotesOf, NotesRest}
 use Rattle.fbsim_command.specs.Outcomes.{End, Held, IsRefused}
 use Rattle.fbsim_command.specs.OwnLines.{EndsIn}
 use Rattle.fbsim_command.specs.Reading.{Reading, AreRead, IsUnread, checked}
 use Rattle.fbsim_command.specs.Showing.{Opening}
 use Rattle.fbsim_command.specs.Texts.{may_be_cut}
+use Rattle.fbsim_command.specs.WrongLines.{IsRefusalIn}
+use Rattle.fbsim_command.specs.declared.failure.RefusalLine.{RefusalLine}
 use Rattle.fbsim_command.specs.declared.failure.Failure.TheVariants.{Refused, RefusedTrace, File, Write, Memory, Line, BadOption}
 use Rattle.fbsim_line.specs.declared.inspect_line.Inspect.{Inspect}
 use Rattle.fbsim_line.specs.declared.line.Task.{Task}
@@ -38,15 +41,29 @@ upper text = map to_ascii_uppercase text
 abbrev pub paths_of : Inspect → List Text
 paths_of x = map (λ t. upper t.now) x.only.items
 
--- what is shown of the trace: all events of these instances
+-- without a first tick, all events up to the end are shown
+abbrev pub first_tick : Option ℕ → ℕ
+first_tick None = 0
+first_tick (Some tick) = tick
+
+-- the events that are shown, by their ticks and by what they do
+abbrev pub events_of : Inspect → EventFilter
+events_of x = record { from = first_tick x.from; to = x.to; are_lost = x.lost }
+
+-- what is shown of the trace: these events of these instances
 abbrev pub selection_of : Inspect → Selection
-selection_of x = record { only = paths_of x; events = all_events }
+selection_of x = record { only = paths_of x; events = events_of x }
 
 -- ---- What is written
 
 -- The inputs are accepted, and the writer got the first bytes of what is shown of takings of their system.
 abbrev pub InspectsFront : Given → Inspect → (old new : Held) → Type 0
 InspectsFront given x old new = (i : Inputs) × Declares given i × ShowsFront (system_of i) (selection_of x) x.steps old new
+
+-- The inputs are accepted, the writer got such bytes, and the refusal is that of a line that is wrong, or of an unknown instance.
+abbrev pub RefusesInside : Given → Inspect → (trace : Held) → (old new : Held) → RefusalLine → Type 0
+RefusesInside given x trace old new refusal =
+    (i : Inputs) × Declares given i × ShowsFront (system_of i) (selection_of x) x.steps old new × IsRefusalIn i x.steps trace refusal
 
 -- a trace of what the inputs declare is read, of which these bytes are known, and it is written with what happens inside the blocks
 abbrev pub Inspects : Given → Inspect → (trace : Held) → (old new : Held) → End → Type 0
@@ -60,7 +77,7 @@ Inspects given x trace old new (Ok Met) = ⊥
 Inspects given x trace old new (Ok Unmet) = ⊥
 Inspects given x trace old new (Ok Same) = ⊥
 Inspects given x trace old new (Ok Different) = ⊥
-Inspects given x trace old new (Err (Refused refusal)) = (IsRefused given refusal × (new ≡ old)) ⊎ InspectsFront given x old new
+Inspects given x trace old new (Err (Refused refusal)) = (IsRefused given refusal × (new ≡ old)) ⊎ RefusesInside given x trace old new refusal
 Inspects given x trace old new (Err File) = InspectsFront given x old new
 Inspects given x trace old new (Err (Write n)) = InspectsFront given x old new
 Inspects given x trace old new (Err Memory) = (new ≡ old) ⊎ InspectsFront given x old new
@@ -71,7 +88,7 @@ Inspects given x trace old new (Err (RefusedTrace text)) = ⊥
 -- ---- What is read
 
 -- All is read that the trace is of, the trace is opened, and it is inspected. A syntax fault is one of the file that has it.
--- A note is that of a check, or of the line at which the trace is refused.
+-- A note is that of a check, or of the line at which the trace is refused, or says that it can't be read to its end.
 pub record IsReadAndInspected {S : Type 0} (reads : Reading S) (opens : Opening S) (from to : S) (types : List Text) (x : Inspect) (old new : Held) (end : End) (note : Option Text) : Type 0 where
   pub lines : List ℕ
   pub given : Given
@@ -81,7 +98,7 @@ pub record IsReadAndInspected {S : Type 0} (reads : Reading S) (opens : Opening 
   pub opened : opens between x.trace.now (Ok trace) to
   pub inner : End
   pub done : Inspects given x trace old new inner
-  pub noted : NotesOf types (files_of x) lines given inner note ⊎ NotesInside x.why inner note
+  pub noted : NotesOf types (files_of x) lines given inner note ⊎ NotesInside x.why inner note ⊎ NotesRest x.why x.trace.now inner note
   pub ends : EndsIn types x.declaration.now lines inner end
 
 -- All is read that the trace is of, and the trace is not opened.

@@ -1,8 +1,8 @@
 -- Whether a system has the names of rules (docs/FORMATS.md, "Rules over traces"; this project's own).
 use Rattle.std.specs.Prelude.{◌≡◌, ◌⊎◌, ℕ, ◌+◌, ◌^◌, zero, suc, Bool, true, false, ◌&&◌, ◌||◌, List, [], ◌++◌, length, map, min, Option, Some, None, if◌then◌else◌, slice_get, slice_index_or, codes}
-use Rattle.std.specs.List.{list_all, list_any}
+use Rattle.std.specs.List.{list_all}
 use Rattle.fb_types.specs.Blocks.{inputs_with, outputs_with}
-use Rattle.fb_types.specs.Names.{Name, same_name}
+use Rattle.fb_types.specs.Names.{Name}
 use Rattle.fb_types.specs.Numbers.{event_at, path_at, ports_at}
 use Rattle.fb_types.specs.Systems.{System}
 use Rattle.fb_types.specs.Text.{path_text}
@@ -14,6 +14,7 @@ use Rattle.fb_expect.specs.Patterns as patterns
 use Rattle.fb_expect.specs.declared.pattern.Condition.{Condition}
 use Rattle.fb_expect.specs.declared.pattern.Pattern.{Pattern}
 use Rattle.fb_expect.specs.Locations.{pattern_keys}
+use Rattle.fbsim_command.specs.Possible.{is_possible}
 use Rattle.fb_expect.specs.declared.location.RuleKey.{RuleKey}
 use Rattle.fb_expect.specs.declared.location.RuleKey.TheVariants.{To}
 use Rattle.fb_expect.specs.declared.rule.Rule.{Rule}
@@ -47,12 +48,15 @@ event_there sys i taken event =
 
 -- ---- Patterns
 
-abbrev pub are_named : List Condition → List Name → Bool
-are_named conditions names = list_all (λ c. list_any (λ n. same_name n c.variable) names) conditions
+-- whether some values of an event meet each condition, where it has these variables of an interface
+abbrev pub are_possible : List Variable → List Condition → List Name → Bool
+are_possible vs conditions names = list_all (is_possible vs names) conditions
 
--- whether a port is of a pattern, and has all variables of its conditions
+-- whether a port is of a pattern, and some values of its event meet each of its conditions
 unfoldable pub is_of : System → Pattern → (instance : ℕ) → (taken : Bool) → (event : ℕ) → Bool
-is_of sys p i taken event = patterns.is_at p (event_there sys i taken event) && are_named p.conditions (names_with (ports_of sys i) taken event)
+is_of sys p i taken event =
+    patterns.is_at p (event_there sys i taken event)
+    && are_possible (variables_of (ports_of sys i) taken) p.conditions (names_with (ports_of sys i) taken event)
 
 -- whether a test holds for some number below another
 abbrev pub any_below : (ℕ → Bool) → ℕ → Bool

@@ -15,10 +15,10 @@ use Rattle.fbsim_command.specs.Texts.{given_of, lines_of}
 use Rattle.fbsim_command.specs.declared.input_notes.RefusedInputs.{RefusedInputs}
 use Rattle.fbsim_command.specs.OwnLines.{IsPlaced}
 use Rattle.fbsim_command.specs.declared.failure.Failure.{Failure}
-use Rattle.fbsim_command.specs.declared.failure.Failure.TheVariants.{Refused}
+use Rattle.fbsim_command.specs.declared.failure.Failure.TheVariants.{Refused, File}
 use Rattle.fbsim_command.specs.declared.failure.RefusalLine.TheVariants.{Numbered, Syntax}
 use Rattle.fbsim_command.specs.declared.sources.SourceFault.{SourceFault}
-use Rattle.fbsim_command.specs.declared.sources.SourceFault.TheVariants.{File, Folder, Memory}
+use Rattle.fbsim_command.specs.declared.sources.SourceFault.TheVariants as source
 use Rattle.fbsim_command.specs.declared.texts.Part.{Part}
 use Rattle.fbsim_command.specs.Outcomes.{End}
 use Rattle.fbsim_command.specs.declared.texts.Part.TheVariants.{BlockTypes, Declaration, Deployment, Stimuli}
@@ -45,9 +45,9 @@ pub record IsUnreadable (name matter : List ℕ) : Type 0 where
 
 -- what is the matter with a file of this name, which is not read; nothing is said where memory ran out
 abbrev pub IsMatter : SourceFault → (name matter : List ℕ) → Type 0
-IsMatter File name matter = IsUnreadable name matter
-IsMatter Folder name matter = matter ≡ codes "this is a folder, not a file"
-IsMatter Memory name matter = ⊥
+IsMatter source.File name matter = IsUnreadable name matter
+IsMatter source.Folder name matter = matter ≡ codes "this is a folder, not a file"
+IsMatter source.Memory name matter = ⊥
 
 -- the note of a file of this name, which is called so and is not read
 pub record IsNoteOfName (word name : List ℕ) (fault : SourceFault) (note : List ℕ) : Type 0 where
@@ -60,6 +60,15 @@ pub record IsFileNote (types : List (List ℕ)) (c : Task) (part : Part) (fault 
   pub name : List ℕ
   pub named : name_of types c part ≡ Some name
   pub is : IsNoteOfName (file_word part) name fault note
+
+-- the note of a file of this name, which is called so and can't be read to its end
+abbrev pub rest_note : (word name : List ℕ) → List ℕ
+rest_note word name = word ++ codes " " ++ name ++ codes ": this file can't be read to its end"
+
+-- A trace of this name can't be read to its end, and the note says so.
+abbrev pub NotesRest : (why : Bool) → (name : List ℕ) → End → Option (List ℕ) → Type 0
+NotesRest why name end None = Unit {0}
+NotesRest why name end (Some note) = IsTrue why × (end ≡ Err File) × (note ≡ rest_note (codes "trace") name)
 
 -- ---- Refusals
 

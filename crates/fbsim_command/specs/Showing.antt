@@ -13,7 +13,7 @@ use Rattle.fbsim_line.specs.declared.line.Wave.{Wave}
 use Rattle.fbsim_command.specs.Failures.{failure_of_source}
 use Rattle.fbsim_command.specs.InsideNotes.{NotesInside}
 use Rattle.fbsim_command.specs.LineNotes.{NotesLine}
-use Rattle.fbsim_command.specs.Notes.{IsFileNote, IsNoteOfName, Notes, NotesOf}
+use Rattle.fbsim_command.specs.Notes.{IsFileNote, IsNoteOfName, Notes, NotesOf, NotesRest}
 use Rattle.fbsim_command.specs.Outcomes.{End, Held, IsRefused}
 use Rattle.fbsim_command.specs.OwnLines.{EndsIn}
 use Rattle.fbsim_command.specs.Reading.{Reading, AreRead, IsUnread, checked}
@@ -96,7 +96,7 @@ abbrev pub IsTraceFileNote : Wave → SourceFault → (note : Text) → Type 0
 IsTraceFileNote w fault note = IsNoteOfName (codes "trace") w.trace.now fault note
 
 -- All is read that the trace is of, the trace is opened, and its dump is written. A syntax fault is one of the file that has it.
--- A note is that of a check, or says what is wrong with the line at which the trace is refused.
+-- A note is that of a check, or says what is wrong with the line at which the trace is refused, or that it can't be read to its end.
 pub record IsReadAndShown {S : Type 0} (reads : Reading S) (opens : Opening S) (from to : S) (types : List Text) (w : Wave) (old new : Held) (end : End) (note : Option Text) : Type 0 where
   pub lines : List ℕ
   pub given : Given
@@ -106,7 +106,7 @@ pub record IsReadAndShown {S : Type 0} (reads : Reading S) (opens : Opening S) (
   pub opened : opens between w.trace.now (Ok trace) to
   pub inner : End
   pub done : DumpsAs w.has_states w.steps (cut_of w) given trace old new inner
-  pub noted : NotesOf types (files_of w) lines given inner note ⊎ NotesAs w.has_states w.why given trace inner note
+  pub noted : NotesOf types (files_of w) lines given inner note ⊎ NotesAs w.has_states w.why given trace inner note ⊎ NotesRest w.why w.trace.now inner note
   pub ends : EndsIn types w.declaration.now lines inner end
 
 -- All is read that the trace is of, and the trace is not opened.

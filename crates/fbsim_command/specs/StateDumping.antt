@@ -6,12 +6,18 @@ use Rattle.fb_sim.specs.Serial.{Declares}
 use Rattle.fb_wave.specs.declared.truncation.Cut.{Cut}
 use Rattle.fb_inspect.specs.StateWaves.{IsShownWith, WritesFront}
 use Rattle.fbsim_command.specs.Outcomes.{End, Held, IsRefused}
+use Rattle.fbsim_command.specs.WrongLines.{IsRefusalIn}
+use Rattle.fbsim_command.specs.declared.failure.RefusalLine.{RefusalLine}
 use Rattle.fbsim_command.specs.declared.failure.Failure.TheVariants.{Refused, RefusedTrace, File, Write, Memory, Line, BadOption}
 use Rattle.fbsim_command.specs.declared.statuses.Done.TheVariants.{Helped, Explained, Accepted, Shown, Ended, Stopped, Met, Unmet, Same, Different}
 
 -- The inputs are accepted, and the writer got the first bytes of the dump of takings of their system.
 abbrev pub StatesFront : Given → (steps : ℕ) → (old new : Held) → Type 0
 StatesFront given steps old new = (i : Inputs) × Declares given i × WritesFront (system_of i) steps old new
+
+-- The inputs are accepted, the writer got such bytes, and the refusal is that of a line that is wrong.
+abbrev pub RefusesStates : Given → (steps : ℕ) → (trace : Held) → (old new : Held) → RefusalLine → Type 0
+RefusesStates given steps trace old new refusal = (i : Inputs) × Declares given i × WritesFront (system_of i) steps old new × IsRefusalIn i steps trace refusal
 
 -- a trace of what the inputs declare is read, of which these bytes are known, and its dump is written with the inside of basic blocks
 abbrev pub DumpsStates : Cut → (steps : ℕ) → Given → (trace : Held) → (old new : Held) → End → Type 0
@@ -25,7 +31,7 @@ DumpsStates may steps given trace old new (Ok Met) = ⊥
 DumpsStates may steps given trace old new (Ok Unmet) = ⊥
 DumpsStates may steps given trace old new (Ok Same) = ⊥
 DumpsStates may steps given trace old new (Ok Different) = ⊥
-DumpsStates may steps given trace old new (Err (Refused refusal)) = (IsRefused given refusal × (new ≡ old)) ⊎ StatesFront given steps old new
+DumpsStates may steps given trace old new (Err (Refused refusal)) = (IsRefused given refusal × (new ≡ old)) ⊎ RefusesStates given steps trace old new refusal
 DumpsStates may steps given trace old new (Err File) = StatesFront given steps old new
 DumpsStates may steps given trace old new (Err (Write n)) = StatesFront given steps old new
 DumpsStates may steps given trace old new (Err Memory) = (new ≡ old) ⊎ StatesFront given steps old new

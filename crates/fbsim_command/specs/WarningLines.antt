@@ -1,23 +1,27 @@
 -- The lines of warnings with their places (docs/FORMATS.md, "Warnings"; this project's own).
-use Rattle.std.specs.Prelude.{◌≡◌, ◌⊎◌, ℕ, List, [], ◌∷◌, ◌++◌, map, Option, Some, None, option_map, codes, decimal}
+use Rattle.std.specs.Prelude.{◌≡◌, ◌⊎◌, ◌&&◌, ◌||◌, ℕ, nat_le, nat_lt, Bool, false, List, [], ◌∷◌, ◌++◌, length, map, sum, take, Option, Some, None, option_map, if◌then◌else◌, codes, decimal}
+use Rattle.std.specs.List.{list_any}
 use Rattle.clap.specs.Words.{Text}
 use Rattle.fb_types.specs.Headline.{Inputs}
+use Rattle.fb_types.specs.declared.deploy.Stimulus.{Stimulus}
 use Rattle.fb_types.specs.declared.library.Library.{Library}
 use Rattle.fb_lint.specs.Lines.{IsLine}
 use Rattle.fb_lint.specs.Positions.{position_of}
 use Rattle.fb_lint.specs.Warnings.{warnings}
 use Rattle.fb_lint.specs.declared.warning.Warning.{Warning}
-use Rattle.fb_lint.specs.declared.warning.Warning.TheVariants.{UnusedLink}
+use Rattle.fb_lint.specs.declared.warning.Warning.TheVariants.{UnusedLink, UnusedType}
 use Rattle.fb_inputs.specs.declared.deploy_location.TableLocation.TheVariants as table
 use Rattle.fb_inputs.specs.declared.position.DeployPosition.TheVariants as position
 use Rattle.fb_read_positions.specs.declared.position.Position.{Position}
-use Rattle.fb_read_positions.specs.Places.{IsPlaceAt}
+use Rattle.fb_read_positions.specs.Places.{IsPlaceAt, IsPlaceFor}
 use Rattle.fb_why.specs.InputStretches.{IsDeployPlace}
 use Rattle.fb_read_positions.specs.declared.places.Place.{Place}
 use Rattle.fb_sim.specs.Given.{Given}
 use Rattle.fb_sim.specs.Serial.{Declares}
 use Rattle.fbsim_command.specs.Joining.{IsLineOf, name_at}
 use Rattle.fbsim_command.specs.OwnLines.{IsInNone}
+use Rattle.fbsim_command.specs.Selecting.{is_selected}
+use Rattle.fbsim_command.specs.declared.selectors.Sorting.{Sorting}
 use Rattle.fbsim_command.specs.Outcomes.{End}
 use Rattle.fbsim_line.specs.declared.line.Task.{Task}
 use Rattle.fbsim_command.specs.declared.call_names.Naming as code
@@ -84,6 +88,22 @@ pub record IsPlacedLine (n : Naming) (given : Given) (library : Library) (w : Wa
   pub is_line : IsLine w words
   pub is : line ≡ place ++ words
 
+-- ---- Those that are left out
+
+-- this line of the whole declaration is in a file of block types
+abbrev pub is_in_types : Naming → (whole : ℕ) → Bool
+is_in_types n whole = nat_lt 0 whole && nat_le whole (sum (take (length n.types) n.lines))
+
+-- the warning is about a type without instances whose place is in a file of block types, which other declarations may use
+abbrev pub is_of_types : Naming → Warning → Option Place → Bool
+is_of_types n (UnusedType block) (Some at) = is_in_types n at.line
+is_of_types n (UnusedType block) None = false
+is_of_types n _ at = false
+
+-- the warning is left out: it is allowed, or the fault of no declaration
+abbrev pub is_left_out : Naming → Sorting → Library → List Stimulus → Warning → Option Place → Bool
+is_left_out n s library stimuli w at = is_selected s.allowed.items library stimuli w || is_of_types n w at
+
 -- this line is added
 abbrev pub IsAdded : Naming → Given → Library → Warning → (old new : Text) → Type 0
 IsAdded n given library w old new = (line : Text) × IsPlacedLine n given library w line × (new ≡ old ++ line)
@@ -94,8 +114,26 @@ AreLines n given library [] text = text ≡ []
 AreLines n given library (w ∷ ws) text =
     (line : Text) × (rest : Text) × IsPlacedLine n given library w line × AreLines n given library ws rest × (text ≡ line ++ rest)
 
--- The inputs are accepted, and these are the lines of the warnings about them.
-pub record AreWarnings (n : Naming) (given : Given) (reports : Text) : Type 0 where
+-- These of the warnings are not left out, in their order. A place is that at which the text of the declaration has the warning.
+abbrev pub AreKept : Naming → Given → Sorting → Library → List Stimulus → List Warning → (kept : List Warning) → Type 0
+AreKept n given s library stimuli [] kept = kept ≡ []
+AreKept n given s library stimuli (w ∷ ws) kept =
+    (at : Option Place) × (rest : List Warning) × IsPlaceFor given.declaration library (position_of w) at × AreKept n given s library stimuli ws rest
+    × (kept ≡ (if is_left_out n s library stimuli w at then rest else w ∷ rest))
+
+-- a warning is denied
+abbrev pub are_denied : Sorting → Library → List Stimulus → List Warning → Bool
+are_denied s library stimuli kept = list_any (is_selected s.denied.items library stimuli) kept
+
+-- These are the lines of the warnings that are not left out, and whether one of them is denied.
+pub record AreSorted (n : Naming) (given : Given) (s : Sorting) (library : Library) (stimuli : List Stimulus) (ws : List Warning) (reports : Text) (denied : Bool) : Type 0 where
+  pub kept : List Warning
+  pub are_kept : AreKept n given s library stimuli ws kept
+  pub lines : AreLines n given library kept reports
+  pub is_denied : denied ≡ are_denied s library stimuli kept
+
+-- The inputs are accepted, and these are the lines of the warnings about them that are not left out, and whether one is denied.
+pub record AreWarnings (n : Naming) (given : Given) (s : Sorting) (reports : Text) (denied : Bool) : Type 0 where
   pub inputs : Inputs
   pub declared : Declares given inputs
-  pub lines : AreLines n given inputs.library (warnings inputs.library inputs.plan inputs.stimuli) reports
+  pub sorted : AreSorted n given s inputs.library inputs.stimuli (warnings inputs.library inputs.plan inputs.stimuli) reports denied

@@ -3,19 +3,20 @@
 ghost use Rattle.std.specs.Prelude.{◌≡◌, ◌++◌, IfErr, IfOk, IfSome, OnOk, codes, decimal, map, option_map, string_bytes};
 ghost use Rattle.fbsim_command.specs.declared.coverage.Gleaned.{Gleaned};
 ghost use Rattle.fbsim_command.specs.Covering as spec;
+ghost use Rattle.fbsim_command.specs.WrongLines.{IsWrongIn};
 ghost use Rattle.fbsim_command.specs.Covering.{AreGoneThrough, AreStopped, GoesThrough, IsStopped, NotesTrace, RefusesAt, ReportsCoverage, WritesReport, are_several, coverage_text, cut_line, note_front};
 
 use crate::expect::refused_trace;
 use crate::failure::{Failure, RefusalLine};
-use crate::inside_notes::note_of_inside;
+use crate::inside_notes::{note_of_inside, note_of_open};
 use crate::line_notes::note_of_wave;
-use crate::notes::note_of_file;
+use crate::notes::{note_of_file, note_of_rest};
 use crate::output::write_text;
 use crate::own_lines::end_with;
 use crate::sources::{Source, Streams};
 use crate::statuses::Done;
 use crate::texts::{cut_of, files_of, read_files};
-use fb_coverage::{Marks, report_of};
+use fb_coverage::{Marks, is_below, report_of};
 use fb_inspect::{Covered, Extent, InspectError, RefusedLine, Terms, cover};
 use fb_sim::{Inputs, discard, open};
 use fb_system::System;
@@ -97,6 +98,16 @@ fn note_of_refusal(
     note_of_inside(alloc, coverage.why, front.as_str(), system, line, refused)
 }
 
+/// The note to a trace that can't be read to its end, where one is asked for.
+fn note_of_unread(alloc: Global, coverage: &Coverage<'_>, name: &str) -> Option<String>
+    ensures { NotesTrace coverage.now (option_map string_bytes result) }
+{
+    if !coverage.why {
+        return None;
+    }
+    note_of_rest(alloc, "trace", name)
+}
+
 /// One more trace that is cut off, or not. No call names more traces than can be counted.
 fn cut_count(extent: Extent, cut: u64) -> Result<u64, Failure>
     ensures count { IfOk result (λ n. n ≡ spec.cut_count extent cut) }
@@ -134,10 +145,16 @@ fn cover_one<S: Streams>(
     source: &mut S,
 ) -> Result<Gleaned, Failure>
     ensures covered { IfOk result (GoesThrough S.opens system.now coverage.now name.now source.old source.new gleaned) }
-    ensures stopped { IfErr result (IsStopped S.opens (are_several coverage.now) name.now source.old source.new) }
+    ensures stopped { IfErr result (IsStopped S.opens (IsWrongIn system.now coverage.now.steps) (are_several coverage.now) name.now source.old source.new) }
     ensures noted { NotesTrace coverage.now (option_map string_bytes note.old) → NotesTrace coverage.now (option_map string_bytes note.new) }
 {
-    let mut trace = source.open(alloc, name)?;
+    let mut trace = match source.open(alloc, name) {
+        Ok(trace) => trace,
+        Err(fault) => {
+            *note = note_of_open(alloc, coverage.why, name, fault);
+            return Err(Failure::from(fault));
+        }
+    };
     let mut refused = RefusedLine::new(alloc);
     let terms = Terms {
         cut: cut_of(coverage.is_cut),
@@ -150,7 +167,10 @@ fn cover_one<S: Streams>(
             *note = note_of_refusal(alloc, coverage, name, system, line, &refused);
             Err(refusal_of(alloc, are_several(coverage), name, line))
         }
-        Err(InspectError::Read) => Err(Failure::File),
+        Err(InspectError::Read) => {
+            *note = note_of_unread(alloc, coverage, name);
+            Err(Failure::File)
+        }
         // No path is given, nothing is written, and no text gives ports that are written alike.
         Err(_) => Err(Failure::Memory),
     }
@@ -196,23 +216,50 @@ fn put_cut(alloc: Global, text: &mut Vec<u8>, cut: u64, traces: usize) -> Result
     text.extend_from_slice(line.as_bytes())
 }
 
-/// The report of what the traces of a system cover.
+/// Whether traces cover less than a call asks for.
+fn is_too_little(
+    alloc: Global,
+    system: &System,
+    coverage: &Coverage<'_>,
+    marks: &Marks,
+) -> Result<bool, AllocError>
+    ensures { IfOk result (λ b. b ≡ spec.is_too_little system.now coverage.now.least marks.now) }
+{
+    match coverage.least {
+        Some(least) => is_below(alloc, system, marks, least),
+        None => Ok(false),
+    }
+}
+
+/// The report of what the traces of a system cover, and whether that is less than a call asks for.
 fn report<S: Streams>(
     alloc: Global,
     system: &System,
     coverage: &Coverage<'_>,
     note: &mut Option<String>,
     source: &mut S,
-) -> Result<Vec<u8>, Failure>
-    ensures report { IfOk result (λ text. (gleaned : Gleaned) × AreGoneThrough S.opens system.now coverage.now source.old source.new gleaned
-        × (text.items ≡ coverage_text system.now coverage.now gleaned)) }
+) -> Result<(Vec<u8>, bool), Failure>
+    ensures report { IfOk result (λ r. (gleaned : Gleaned) × AreGoneThrough S.opens system.now coverage.now source.old source.new gleaned
+        × (r.0.items ≡ coverage_text system.now coverage.now gleaned) × (r.1 ≡ spec.is_too_little system.now coverage.now.least gleaned.marks)) }
     ensures stopped { IfErr result (AreStopped S.opens system.now coverage.now source.old source.new) }
     ensures noted { NotesTrace coverage.now (option_map string_bytes note.old) → NotesTrace coverage.now (option_map string_bytes note.new) }
 {
     let gleaned = cover_all(alloc, system, coverage, note, source)?;
     let mut text = report_of(alloc, system, &gleaned.marks)?;
     put_cut(alloc, &mut text, gleaned.cut, coverage.traces.len())?;
-    Ok(text)
+    let is_too_little = is_too_little(alloc, system, coverage, &gleaned.marks)?;
+    Ok((text, is_too_little))
+}
+
+/// How a call ends that has written a report: by whether traces cover less than it asks for.
+fn end_by(is_too_little: bool) -> Done
+    ensures { result ≡ spec.covered_by is_too_little }
+{
+    if is_too_little {
+        Done::Unmet
+    } else {
+        Done::Shown
+    }
 }
 
 /// Writes the report of what traces of what the inputs declare cover.
@@ -228,12 +275,12 @@ fn write_report<S: Streams, W: Write>(
     ensures noted { NotesTrace coverage.now (option_map string_bytes note.old) → NotesTrace coverage.now (option_map string_bytes note.new) }
 {
     let system = open(alloc, inputs)?;
-    let text = report(alloc, &system, coverage, note, source);
+    let reported = report(alloc, &system, coverage, note, source);
     // Dropped by one call: the end of its scope would prove the drop part by part.
     discard(system);
-    let text = text?;
+    let (text, is_too_little) = reported?;
     write_text(out, text.as_slice())?;
-    Ok(Done::Shown)
+    Ok(end_by(is_too_little))
 }
 
 /// Reads the files of a call and its traces, and writes what they cover. It says how that ends, and what is reported

@@ -1,27 +1,29 @@
 //! Traces against rules, and against one another.
 
-ghost use Rattle.std.specs.Prelude.{◌≡◌, ◌&&◌, IfErr, IfOk, length, nat_lt, option_map, string_bytes, true};
-ghost use Rattle.fbsim_command.specs.Comparing.{Compares, Differs};
-ghost use Rattle.fbsim_command.specs.Expecting.{AreRules, AreUnheld, Expects, Holds, IsHeld, IsRefusedAt, IsUndeclared, IsUnheld, MayDeclare, PutsAll, PutsOne, RefusesFor, Reports, cut_of, own_of, types_of};
+ghost use Rattle.std.specs.Prelude.{◌≡◌, ◌&&◌, IfErr, IfOk, OnOk, ◌*◌, ◌++◌, codes, length, nat_lt, option_map, string_bytes, true};
+ghost use Rattle.fbsim_command.specs.Comparing.{Compares, Differs, NotesEither};
+ghost use Rattle.fbsim_command.specs.Expecting.{AreRules, AreUnheld, Expects, Holds, IsHeld, IsRefusedAt, IsUndeclared, IsUnheld, MayDeclare, PutsAll, PutsOne, RefusesFor, Reports, cut_of, head_of, own_of, part_of, tail_of, types_of};
+ghost use Rattle.fbsim_command.specs.Notes.{IsNoteOfName, Notes};
 ghost use Rattle.fbsim_command.specs.OwnLines.{EndsIn};
 ghost use Rattle.fbsim_command.specs.Texts.{given_of, may_lines_of};
 
 use crate::failure::{Failure, RefusalLine};
 use crate::known::has_names;
+use crate::notes::note_of_name;
 use crate::output::write_text;
 use crate::own_lines::end_in;
 use crate::rules_notes::{note_of_names, note_of_rules, note_to_rules};
-use crate::sources::{Source, Streams};
+use crate::sources::{Source, SourceFault, Streams};
 use crate::statuses::Done;
 use crate::texts::{Texts, Unread, files_of, lines_in, read_files};
 use fb_expect::{
-    Cut, Judged, Of, Rule, TraceError, UNKNOWN_NAME, are_well, difference_text, judge, part, plan,
-    put_points, read_rules,
+    Cut, Judged, Of, Rule, SUITES_HEAD, SUITES_TAIL, TraceError, UNKNOWN_NAME, are_well,
+    difference_text, judge, part, plan, put_points, put_suite, read_rules,
 };
 use fb_sim::{discard, open};
 use fb_types::Items;
 use fbsim_line::{Diff, Expect};
-use std::alloc::Global;
+use std::alloc::{AllocError, Global};
 use std::io::{BufRead, Write};
 
 /// One byte more than rules may have, so that some that are too long show.
@@ -82,6 +84,28 @@ fn are_named(expect: &Expect<'_>) -> bool
     expect.traces.len() > 1
 }
 
+/// Puts what the report has of one trace after a text: its points, or its suite. The trace has its place in the call.
+fn put_part(
+    alloc: Global,
+    expect: &Expect<'_>,
+    rules: &[Rule],
+    at: (usize, &str),
+    text: &mut Vec<u8>,
+    judged: &[Judged],
+) -> Result<(), AllocError>
+    ensures { OnOk result (text.new.items ≡ text.old.items ++ part_of expect.now rules.now (length rules.now * at.entry.0) at.entry.1 judged.now) }
+{
+    let (index, trace) = at;
+    if expect.is_junit {
+        return put_suite(alloc, text, expect.is_strict, trace, rules, judged);
+    }
+    let of = Of {
+        trace,
+        is_named: are_named(expect),
+    };
+    put_points(alloc, text, expect.is_strict, of, index, rules, judged)
+}
+
 /// Holds all rules against the trace at this place of a call, and puts their points after a text. It says whether all
 /// are well.
 fn put_one<S: Streams>(
@@ -97,17 +121,12 @@ fn put_one<S: Streams>(
     ensures unheld { IfErr result (IsUnheld S.opens source.old source.new trace.now) }
 {
     let judged = hold(alloc, expect, rules, trace, source)?;
-    let of = Of {
-        trace,
-        is_named: are_named(expect),
-    };
-    put_points(
+    put_part(
         alloc,
-        text,
-        expect.is_strict,
-        of,
-        index,
+        expect,
         rules,
+        (index, trace),
+        text,
         judged.as_slice(),
     )?;
     Ok(are_well(expect.is_strict, judged.as_slice()))
@@ -132,6 +151,26 @@ fn put_all<S: Streams>(
     Ok(is_well)
 }
 
+/// What the report begins with.
+fn head(alloc: Global, expect: &Expect<'_>, rules: &[Rule]) -> Result<Vec<u8>, AllocError>
+    ensures { IfOk result (λ t. t.items ≡ head_of expect.now rules.now) }
+{
+    if expect.is_junit {
+        return Vec::from_slice(alloc, SUITES_HEAD);
+    }
+    plan(alloc, rules, expect.traces.len())
+}
+
+/// Puts what the report ends with after a text.
+fn put_tail(expect: &Expect<'_>, text: &mut Vec<u8>) -> Result<(), AllocError>
+    ensures { OnOk result (text.new.items ≡ text.old.items ++ tail_of expect.now) }
+{
+    if expect.is_junit {
+        return text.extend_from_slice(SUITES_TAIL);
+    }
+    Ok(())
+}
+
 /// The report of all rules at all traces of a call. It says whether all are well.
 fn report<S: Streams>(
     alloc: Global,
@@ -142,8 +181,9 @@ fn report<S: Streams>(
     ensures reported { IfOk result (λ p. Reports S.opens expect.now rules.now source.old source.new p.1 p.0.items) }
     ensures unheld { IfErr result (AreUnheld S.opens expect.now rules.now source.old source.new) }
 {
-    let mut text = plan(alloc, rules, expect.traces.len())?;
+    let mut text = head(alloc, expect, rules)?;
     let is_well = put_all(alloc, expect, rules, &mut text, source)?;
+    put_tail(expect, &mut text)?;
     Ok((text, is_well))
 }
 
@@ -281,25 +321,71 @@ fn compare<R: BufRead, T: BufRead, W: Write>(
 ) -> Result<Done, Failure>
     ensures { Differs diff.now (R.remaining first.old) (T.remaining second.old) (W.contents out.old) (W.contents out.new) result }
 {
-    let found = part(alloc, first, second)?;
+    let found = part(alloc, diff.is_without_ticks, first, second)?;
     let Some(difference) = found else {
         return Ok(Done::Same);
     };
-    let text = difference_text(alloc, diff.first, diff.second, &difference)?;
+    let text = difference_text(
+        alloc,
+        diff.first,
+        diff.second,
+        diff.is_without_ticks,
+        &difference,
+    )?;
     write_text(out, text.as_slice())?;
     Ok(Done::Different)
 }
 
-/// Reads two traces, and writes where they part first, if they do.
+/// The note to a file that is not read, where one is asked for.
+fn note_of_trace(alloc: Global, diff: &Diff<'_>, name: &str, fault: SourceFault) -> Option<String>
+    ensures { Notes diff.now.why (IsNoteOfName (codes "trace") name.now fault) (option_map string_bytes result) }
+{
+    if !diff.why {
+        return None;
+    }
+    note_of_name(alloc, "trace", name, fault)
+}
+
+/// The note to two traces one of which can't be read to its end, where one is asked for.
+fn note_of_either(alloc: Global, diff: &Diff<'_>, end: &Result<Done, Failure>) -> Option<String>
+    ensures { NotesEither diff.now end.now (option_map string_bytes result) }
+{
+    match end {
+        Err(Failure::File) if diff.why => {}
+        _ => return None,
+    }
+    let (first, second) = (diff.first, diff.second);
+    match format!(in alloc; "trace {first} or {second}: this file can't be read to its end") {
+        Ok(note) => Some(note),
+        Err(_) => None,
+    }
+}
+
+/// Reads two traces, and writes where they part first, if they do. It says how that ends, and what is reported after
+/// the line of a file fault.
 pub(crate) fn diff<S: Streams, W: Write>(
     alloc: Global,
     diff: &Diff<'_>,
     source: &mut S,
     out: &mut W,
-) -> Result<Done, Failure>
-    ensures { Compares S.opens source.old source.new diff.now (W.contents out.old) (W.contents out.new) result }
+) -> (Result<Done, Failure>, Option<String>)
+    ensures { Compares S.opens source.old source.new diff.now (W.contents out.old) (W.contents out.new) result.0 (option_map string_bytes result.1) }
 {
-    let mut first = source.open(alloc, diff.first)?;
-    let mut second = source.open(alloc, diff.second)?;
-    compare(alloc, diff, &mut first, &mut second, out)
+    let mut first = match source.open(alloc, diff.first) {
+        Ok(first) => first,
+        Err(fault) => {
+            let note = note_of_trace(alloc, diff, diff.first, fault);
+            return (Err(Failure::from(fault)), note);
+        }
+    };
+    let mut second = match source.open(alloc, diff.second) {
+        Ok(second) => second,
+        Err(fault) => {
+            let note = note_of_trace(alloc, diff, diff.second, fault);
+            return (Err(Failure::from(fault)), note);
+        }
+    };
+    let end = compare(alloc, diff, &mut first, &mut second, out);
+    let note = note_of_either(alloc, diff, &end);
+    (end, note)
 }

@@ -1,14 +1,16 @@
 //! What happens inside the blocks of a trace.
 
-ghost use Rattle.std.specs.Prelude.{◌≡◌, IfOk, IfSome, OnErr, OnOk, map, option_map, string_bytes};
+ghost use Rattle.std.specs.Prelude.{◌≡◌, IfErr, IfOk, IfSome, OnErr, OnOk, map, option_map, string_bytes};
 ghost use Rattle.fb_inspect.specs.OfSystem.{IsShownBy, ShowsFront};
+ghost use Rattle.fb_inspect.specs.Refusals.{OfRefusal};
+ghost use Rattle.fbsim_command.specs.WrongLines.{IsWrongIn};
 ghost use Rattle.fbsim_command.specs.InsideNotes.{NotesInside};
-ghost use Rattle.fbsim_command.specs.Inspecting.{Inspects, ShowsInsides, cut_of, selection_of, upper};
+ghost use Rattle.fbsim_command.specs.Inspecting.{Inspects, ShowsInsides, cut_of, events_of, selection_of, upper};
 
 use crate::failure::Failure;
 use crate::inside_notes::{note_of_gone, note_of_open};
 use crate::line_notes::note_of_wave;
-use crate::notes::note_of_file;
+use crate::notes::{note_of_file, note_of_trace_end};
 use crate::own_lines::end_with;
 use crate::sources::{Source, Streams};
 use crate::statuses::Done;
@@ -22,10 +24,9 @@ use std::alloc::{AllocError, Global};
 use std::io::{BufRead, Write};
 
 /// A path in upper case.
-fn path_of(alloc: Global, text: &str) -> Result<Name, AllocError>
-    ensures { IfOk result (λ path. path ≡ upper text.now) }
+pub(crate) fn path_of(alloc: Global, bytes: &[u8]) -> Result<Name, AllocError>
+    ensures { IfOk result (λ path. path ≡ upper bytes.now) }
 {
-    let bytes = text.as_bytes();
     let mut path = Vec::with_capacity(alloc, bytes.len())?;
     for byte in bytes {
         path.push_reserved(byte.to_ascii_uppercase());
@@ -38,9 +39,20 @@ fn paths_of(alloc: Global, texts: &[&str]) -> Result<Vec<Name>, AllocError>
 {
     let mut names = Vec::with_capacity(alloc, texts.len())?;
     for text in texts {
-        names.push_reserved(path_of(alloc, text)?);
+        names.push_reserved(path_of(alloc, text.as_bytes())?);
     }
     Ok(names)
+}
+
+/// The events that a call shows.
+fn filter_of(inspect: &Inspect<'_>) -> EventFilter
+    ensures { result ≡ events_of inspect.now }
+{
+    EventFilter {
+        from: inspect.from.unwrap_or(0),
+        to: inspect.to,
+        are_lost: inspect.lost,
+    }
 }
 
 /// Goes through a trace of a system.
@@ -54,11 +66,12 @@ fn go<R: BufRead, W: Write>(
 ) -> Result<(), InspectError>
     ensures whole { OnOk result (IfSome (R.remaining trace.old) (λ text. IsShownBy (cut_of inspect.now) system.now (selection_of inspect.now) inspect.now.steps text (W.contents out.old) (W.contents out.new))) }
     ensures fault { OnErr result (ShowsFront system.now (selection_of inspect.now) inspect.now.steps (W.contents out.old) (W.contents out.new)) }
+    ensures refused { IfErr result (OfRefusal (IsWrongIn system.now inspect.now.steps (R.remaining trace.old))) }
 {
     let only = paths_of(alloc, inspect.only.as_slice())?;
     let inspection = Inspection {
         only: only.as_slice(),
-        events: EventFilter::all(),
+        events: filter_of(inspect),
         terms: Terms {
             cut: cut_of(inspect.is_cut),
             steps: inspect.steps,
@@ -121,6 +134,7 @@ pub(crate) fn show_insides<S: Source + Streams, W: Write>(
         }
     };
     let (end, line) = write_inspected(alloc, &texts.inputs(), inspect, &mut trace, out);
+    let line = note_of_trace_end(alloc, inspect.why, inspect.trace, &end, line);
     let note = note_of_wave(alloc, types, &task, &end, &texts, line);
     let end = end_with(alloc, types, inspect.declaration, &texts, end);
     (end, note)

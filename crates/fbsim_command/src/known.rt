@@ -1,24 +1,23 @@
 //! Whether a declared system has the names of rules.
 
 ghost use Rattle.std.specs.Prelude.{◌≡◌, ◌<◌, ◌++◌, All, IfOk, IfSome, codes, length, map};
-ghost use Rattle.std.specs.List.{list_any};
 ghost use Rattle.fb_system.specs.IndexLists.{AreIndexes, variable_at};
-ghost use Rattle.fb_types.specs.Names.{same_name};
 ghost use Rattle.fb_types.specs.Numbers.{event_at};
 ghost use Rattle.fb_types.specs.OfSystem.{IsInstance};
 ghost use Rattle.fbsim_command.specs.Known as spec;
 ghost use Rattle.fbsim_command.specs.OfSystem.{IsUnknownAt, IsUnknownKey, any_event, has_names, has_port, is_of, may_have_port, ports_of};
 
+use crate::possible::is_possible;
 use fb_expect::{Condition, Entry, Pattern, Rule, RuleKey, is_at, pattern_keys};
 use fb_system::System;
 use fb_types::{EventPort, Ports, Variable};
 use std::alloc::{AllocError, Global};
 
 /// How many events of one interface have numbers.
-const MOST_EVENTS: usize = 1 << 32;
+pub(crate) const MOST_EVENTS: usize = 1 << 32;
 
 /// The event inputs of an interface, or its event outputs.
-fn events_of(ports: &Ports, taken: bool) -> &[EventPort]
+pub(crate) fn events_of(ports: &Ports, taken: bool) -> &[EventPort]
     ensures { result.now ≡ spec.events_of ports.now taken }
 {
     if taken {
@@ -29,7 +28,7 @@ fn events_of(ports: &Ports, taken: bool) -> &[EventPort]
 }
 
 /// The data inputs of an interface, or its data outputs.
-fn variables_of(ports: &Ports, taken: bool) -> &[Variable]
+pub(crate) fn variables_of(ports: &Ports, taken: bool) -> &[Variable]
     ensures { result.now ≡ spec.variables_of ports.now taken }
 {
     if taken {
@@ -40,7 +39,7 @@ fn variables_of(ports: &Ports, taken: bool) -> &[Variable]
 }
 
 /// The name of one of these events.
-fn event_name(ports: &Ports, taken: bool, event: u32) -> &[u8]
+pub(crate) fn event_name(ports: &Ports, taken: bool, event: u32) -> &[u8]
     requires { event < length (spec.events_of ports.now taken) }
     ensures { result.now ≡ event_at (spec.events_of ports.now taken) event }
 {
@@ -48,7 +47,7 @@ fn event_name(ports: &Ports, taken: bool, event: u32) -> &[u8]
 }
 
 /// The indexes of the variables WITH an event of an instance.
-fn indexes_with(system: &System, instance: u32, taken: bool, event: u32) -> &[u32]
+pub(crate) fn indexes_with(system: &System, instance: u32, taken: bool, event: u32) -> &[u32]
     requires instance { IsInstance system.now instance }
     requires event { event < length (spec.events_of (ports_of system.now instance) taken) }
     ensures { let its = ports_of system.now instance in AreIndexes (spec.variables_of its taken) (spec.names_with its taken event) result.now }
@@ -60,26 +59,13 @@ fn indexes_with(system: &System, instance: u32, taken: bool, event: u32) -> &[u3
     }
 }
 
-/// Whether the variable of a condition is among those at some indexes.
-fn is_named(condition: &Condition, variables: &[Variable], indexes: &[u32]) -> bool
+/// Whether some values of the variables of an event meet each condition. Its variables are those at some indexes.
+fn are_possible(conditions: &[Condition], variables: &[Variable], indexes: &[u32]) -> bool
     requires { All (λ k. k < length variables.now) indexes.now }
-    ensures { result ≡ list_any (λ n. same_name n condition.now.variable) (map (variable_at variables.now) indexes.now) }
-{
-    for index in indexes {
-        if variables[*index as usize].name.is(&condition.variable) {
-            return true;
-        }
-    }
-    false
-}
-
-/// Whether the variables of all conditions are.
-fn are_named(conditions: &[Condition], variables: &[Variable], indexes: &[u32]) -> bool
-    requires { All (λ k. k < length variables.now) indexes.now }
-    ensures { result ≡ spec.are_named conditions.now (map (variable_at variables.now) indexes.now) }
+    ensures { result ≡ spec.are_possible variables.now conditions.now (map (variable_at variables.now) indexes.now) }
 {
     for condition in conditions {
-        if !is_named(condition, variables, indexes) {
+        if !is_possible(condition, variables, indexes) {
             return false;
         }
     }
@@ -87,7 +73,7 @@ fn are_named(conditions: &[Condition], variables: &[Variable], indexes: &[u32]) 
 }
 
 /// The path of an instance, a full stop, and the name of an event.
-fn port_text(alloc: Global, path: &[u8], event: &[u8]) -> Result<Vec<u8>, AllocError>
+pub(crate) fn port_text(alloc: Global, path: &[u8], event: &[u8]) -> Result<Vec<u8>, AllocError>
     ensures { IfOk result (λ t. t.items ≡ path.now ++ codes "." ++ event.now) }
 {
     let mut text = Vec::new(alloc);
@@ -97,7 +83,7 @@ fn port_text(alloc: Global, path: &[u8], event: &[u8]) -> Result<Vec<u8>, AllocE
     Ok(text)
 }
 
-/// Whether a port is of a pattern, and has all variables of its conditions.
+/// Whether a port is of a pattern, and its event has values that meet each of its conditions.
 #[tactic(auto, unfolding(crate::specs::Known::is_of))]
 fn is_of(
     alloc: Global,
@@ -125,7 +111,7 @@ fn is_of(
     drop(port);
     let variables = variables_of(ports, taken);
     let indexes = indexes_with(system, instance, taken, event);
-    Ok(is_there && are_named(pattern.conditions.as_slice(), variables, indexes))
+    Ok(is_there && are_possible(pattern.conditions.as_slice(), variables, indexes))
 }
 
 /// Whether one of the event inputs of an instance, or of its event outputs, is of a pattern.
@@ -182,7 +168,7 @@ fn may_have_port(
     }
 }
 
-/// Whether a system has a port with all variables for each pattern of the rules.
+/// Whether a system has a port for each pattern of the rules, with values that meet its conditions.
 pub(crate) fn has_names(alloc: Global, system: &System, rules: &[Rule]) -> Result<bool, AllocError>
     ensures { IfOk result (λ b. b ≡ has_names system.now rules.now) }
 {

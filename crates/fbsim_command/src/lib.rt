@@ -6,9 +6,10 @@
 //!
 //! Read in this order: `sources`, where files come from; `files`, those of the machine; `program`, the call;
 //! `texts`, what is read, with `join`, a declaration in several files, and `own_lines`, how its refusals name a file
-//! and a line, which agree by `laws`; `lint`, with `call_names` and `warning_lines`, the lines of warnings;
+//! and a line, which agree by `laws`; `lint`, with `call_names`, `selectors` and `warning_lines`, the lines of warnings;
 //! `located_stop`, where a run stops; `wave`, with `state_dump` and `line_notes`; `draw`; `inspect` and `coverage`,
-//! with `inside_notes`; `expect` and `known`, rules and traces; `output`; `failure`, `notes`, `input_notes`,
+//! with `inside_notes`; `expect`, rules and traces, with `known` and `possible`, whether what is declared has an event
+//! for a pattern, and `unknown_pattern` and `near`, why it has none; `output`; `failure`, `notes`, `input_notes`,
 //! `rules_notes` and `statuses`, how it ends.
 #![tactic(auto)]
 
@@ -27,21 +28,26 @@ pub mod laws;
 mod line_notes;
 mod lint;
 mod located_stop;
+mod near;
 mod notes;
 pub mod output;
 mod own_lines;
+mod possible;
 pub mod program;
 mod rules_notes;
+pub mod selectors;
 pub mod sources;
 mod state_dump;
 pub mod statuses;
 mod texts;
+mod unknown_pattern;
 pub mod warning_lines;
 mod wave;
 
 pub use failure::{Failure, RefusalLine};
 pub use fbsim_line::{
-    Action, Call, Coverage, Diff, Draw, Expect, Inspect, LineFault, Task, Wave, parse,
+    Action, Call, Coverage, Diff, Draw, Expect, Inspect, Levels, LineFault, Task, Wave, parse,
+    words_on_terminal,
 };
 pub use files::{Files, Opened};
 pub use program::{command, command_exit, command_with_clock};

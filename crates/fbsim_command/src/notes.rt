@@ -1,7 +1,7 @@
 //! What is reported after the line of a failure: its place.
 
-ghost use Rattle.std.specs.Prelude.{◌≡◌, ◌++◌, IfOk, IfSome, map, option_map, string_bytes};
-ghost use Rattle.fbsim_command.specs.Notes.{AreNotesOfAll, IsFileNote, IsMatter, IsNote, IsNoteOfName, IsNoteOfNumber, IsNoteOfOne, IsNoteOfShown, IsPlaceIn, Notes, file_word, input_names, name_of, number_of, on_line, IsUnreadable};
+ghost use Rattle.std.specs.Prelude.{◌≡◌, ◌⊎◌, ◌++◌, IfOk, IfSome, map, option_map, string_bytes};
+ghost use Rattle.fbsim_command.specs.Notes.{AreNotesOfAll, IsFileNote, IsMatter, IsNote, IsNoteOfName, IsNoteOfNumber, IsNoteOfOne, IsNoteOfShown, IsPlaceIn, Notes, file_word, input_names, name_of, number_of, on_line, IsUnreadable, NotesRest, rest_note};
 ghost use Rattle.std.specs.List.{AllZip};
 ghost use Rattle.fbsim_command.specs.InputNotes.{IsNoteThere, names_of, types_in};
 ghost use Rattle.fbsim_command.specs.OwnLines.{IsPlaced};
@@ -11,6 +11,7 @@ use crate::failure::{Failure, RefusalLine};
 use crate::input_notes::{InputNames, RefusedInputs, note_there};
 use crate::own_lines::note_at;
 use crate::sources::SourceFault;
+use crate::statuses::Done;
 use crate::texts::{Part, Texts, Unread};
 use fb_read_positions::{Place, excerpt};
 use fb_why::{
@@ -81,6 +82,33 @@ pub(crate) fn note_of_name(
     match format!(in alloc; "{word} {name}: {matter}") {
         Ok(note) => Some(note),
         Err(_) => None,
+    }
+}
+
+/// The note to a file of this name, which is called so and can't be read to its end. Without memory there is none.
+pub(crate) fn note_of_rest(alloc: Global, word: &str, name: &str) -> Option<String>
+    ensures { IfSome result (λ note. string_bytes note ≡ rest_note word.now name.now) }
+{
+    match format!(in alloc; "{word} {name}: this file can't be read to its end") {
+        Ok(note) => Some(note),
+        Err(_) => None,
+    }
+}
+
+/// The note to the end of a call that reads a trace of this name to its end: that of the file, if that can't be read,
+/// where one is asked for, or else this one.
+pub(crate) fn note_of_trace_end(
+    alloc: Global,
+    why: bool,
+    name: &str,
+    end: &Result<Done, Failure>,
+    line: Option<String>,
+) -> Option<String>
+    ensures { (option_map string_bytes result ≡ option_map string_bytes line) ⊎ NotesRest why name.now end.now (option_map string_bytes result) }
+{
+    match end {
+        Err(Failure::File) if why => note_of_rest(alloc, "trace", name),
+        _ => line,
     }
 }
 

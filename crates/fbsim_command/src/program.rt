@@ -24,6 +24,7 @@ use crate::located_stop::report_stop_after;
 use crate::notes::{note_of, note_of_file};
 use crate::output::write_text;
 use crate::own_lines::end_with;
+use crate::selectors::{Sorting, sorting_of};
 use crate::sources::{Source, Streams};
 use crate::statuses::{Done, ExitStatus, status};
 use crate::texts::{Texts, read_files};
@@ -44,7 +45,7 @@ use std::time::{Clock, CpuClock};
 
 /// Says whether the inputs are accepted.
 fn check_inputs<W: Write>(alloc: Global, inputs: &Inputs<'_>, out: &mut W) -> Result<Done, Failure>
-    ensures { Checks inputs.now (W.contents out.old) (W.contents out.new) result }
+    ensures { Checks false inputs.now (W.contents out.old) (W.contents out.new) result }
 {
     check(alloc, inputs)?;
     write_text(out, b"accepted\n")?;
@@ -138,6 +139,15 @@ fn ended_with(ended: (Result<Done, Failure>, Option<String>)) -> Answer
     }
 }
 
+/// A task, and what the call says of its files and of warnings.
+#[derive(Clone, Copy)]
+pub struct Asked<'t, 'n, 'k> {
+    /// The names of the files of block types, in their order.
+    pub types: &'t [&'n str],
+    pub task: &'k Task<'n>,
+    pub sorting: &'k Sorting,
+}
+
 /// Does with the files what a task asks for. It says how that ends, and whether standard error took all reports
 /// meanwhile.
 fn meet<R: Threads + Wait + Sync, C: Clock + CpuClock, W: Write, E: Write>(
@@ -145,17 +155,19 @@ fn meet<R: Threads + Wait + Sync, C: Clock + CpuClock, W: Write, E: Write>(
     clock: &C,
     alloc: Global,
     naming: &Naming<'_, '_, '_>,
-    action: Action,
+    asked: &Asked<'_, '_, '_>,
     texts: &Texts,
     out: &mut W,
     err: &mut E,
 ) -> (Result<Done, Failure>, bool)
-    ensures done { Meets (given_of texts.now) action (W.contents out.old) (W.contents out.new) result.0 }
-    ensures reported { (reports : List ℕ) × Reports (naming_of naming.now) (given_of texts.now) action (W.contents out.old) (W.contents out.new) result.0 reports × Hears result.1 (E.contents err.old) (E.contents err.new) reports }
+    ensures done { Meets (given_of texts.now) asked.now.task.now.action (W.contents out.old) (W.contents out.new) result.0 }
+    ensures reported { (reports : List ℕ) × Reports (naming_of naming.now) (given_of texts.now) asked.now.task.now.action asked.now.sorting.now (W.contents out.old) (W.contents out.new) result.0 reports × Hears result.1 (E.contents err.old) (E.contents err.new) reports }
 {
     let inputs = texts.inputs();
-    match action {
-        Action::Check { lint: true } => check_and_warn(alloc, naming, &inputs, out, err),
+    match asked.task.action {
+        Action::Check { lint: true } => {
+            check_and_warn(alloc, naming, &inputs, asked.sorting, out, err)
+        }
         Action::Check { lint: false } => (check_inputs(alloc, &inputs, out), true),
         Action::Run {
             horizon,
@@ -201,15 +213,15 @@ fn perform<R: Threads + Wait + Sync, C: Clock + CpuClock, S: Source, W: Write, E
     rt: &R,
     clock: &C,
     alloc: Global,
-    types: &[&str],
-    task: &Task<'_>,
+    asked: &Asked<'_, '_, '_>,
     source: &mut S,
     out: &mut W,
     err: &mut E,
 ) -> Answer
     ensures { (reports : List ℕ) × Hears result.is_heard (E.contents err.old) (E.contents err.new) reports
-        × Performs S.gives source.old source.new (map (λ t. t.now) types.now) task.now (W.contents out.old) (W.contents out.new) result.end reports (option_map string_bytes result.note) }
+        × Performs S.gives source.old source.new (map (λ t. t.now) asked.now.types.now) asked.now.task.now asked.now.sorting.now (W.contents out.old) (W.contents out.new) result.end reports (option_map string_bytes result.note) }
 {
+    let Asked { types, task, .. } = *asked;
     match read_files(alloc, types, task, source) {
         Ok(texts) => {
             let naming = Naming {
@@ -218,7 +230,7 @@ fn perform<R: Threads + Wait + Sync, C: Clock + CpuClock, S: Source, W: Write, E
                 deploy: task.deploy,
                 lines: texts.lines.as_slice(),
             };
-            let (end, is_heard) = meet(rt, clock, alloc, &naming, task.action, &texts, out, err);
+            let (end, is_heard) = meet(rt, clock, alloc, &naming, asked, &texts, out, err);
             let is_heard = report_stop_after(alloc, types, task, &end, &texts, err, is_heard);
             let note = note_to(alloc, types, task, &end, &texts);
             let end = end_with(alloc, types, task.declaration, &texts, end);
@@ -302,13 +314,21 @@ fn answer_to<
         × Does S.gives S.opens source.old source.new words (W.contents out.old) (W.contents out.new) result.end reports (option_map string_bytes result.note) }
 {
     match call {
-        Call::Task(task, types) => {
-            perform(rt, clock, alloc, types.as_slice(), task, source, out, err)
-        }
+        Call::Task(task, types, levels) => match sorting_of(alloc, levels) {
+            Ok(sorting) => {
+                let asked = Asked {
+                    types: types.as_slice(),
+                    task,
+                    sorting: &sorting,
+                };
+                perform(rt, clock, alloc, &asked, source, out, err)
+            }
+            Err(failure) => ended(Err(failure)),
+        },
         Call::Explain(name) => ended(explain_to(alloc, *name, out)),
         Call::Wave(wave, types) => ended_with(show(alloc, types.as_slice(), wave, source, out)),
         Call::Expect(call) => ended_with(expect(alloc, call, source, out)),
-        Call::Diff(call) => ended(diff(alloc, call, source, out)),
+        Call::Diff(call) => ended_with(diff(alloc, call, source, out)),
         Call::Draw(call, types) => ended(show_graph(alloc, types.as_slice(), call, source, out)),
         Call::Inspect(call, types) => {
             ended_with(show_insides(alloc, types.as_slice(), call, source, out))

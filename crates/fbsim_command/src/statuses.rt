@@ -22,7 +22,7 @@ pub enum Done {
     Stopped,
     /// Rules were held against traces, and none breaks.
     Met,
-    /// A rule breaks.
+    /// A rule breaks, a warning is denied, or traces cover less than they must.
     Unmet,
     /// Two traces are the same.
     Same,

@@ -4,14 +4,18 @@ ghost use Rattle.std.specs.Prelude.{◌≡◌, ◌⊎◌, [], IfOk, option_map, 
 ghost use Rattle.fb_lint.specs.Positions.{position_of};
 ghost use Rattle.fb_types.specs.declared.library.Library.{Library};
 ghost use Rattle.fb_read_positions.specs.Places.{IsPlaceFor};
-ghost use Rattle.fbsim_command.specs.WarningLines.{AreLines, IsAdded, IsLinkPlace, IsPlace, IsPlaceText, naming_of, place_text};
+ghost use Rattle.fbsim_command.specs.Selecting.{is_selected};
+ghost use Rattle.fbsim_command.specs.WarningLines as spec;
+ghost use Rattle.fbsim_command.specs.WarningLines.{AreSorted, IsAdded, IsLinkPlace, IsPlace, IsPlaceText, naming_of, place_text};
 
 use crate::call_names::Naming;
 use crate::join::{file_name, line_in_file};
+use crate::selectors::{Sorting, is_selected};
 use fb_inputs::{DeployPosition, TableLocation};
 use fb_lint::{Warning, line_of, positions_of};
 use fb_read_positions::{Place, places_of};
 use fb_sim::Inputs;
+use fb_system::System;
 use fb_types::{Library, Plan};
 use fb_why::place_in_deployment;
 use std::alloc::{AllocError, Global};
@@ -99,32 +103,86 @@ fn push_line(
     Ok(())
 }
 
-/// The lines of warnings, with their places in the text of the declaration, which is read again for all of them.
+/// Whether a warning is about a type without instances in a file of block types, which other declarations may use.
+fn is_of_types(naming: &Naming<'_, '_, '_>, warning: &Warning, at: Option<Place>) -> bool
+    ensures { result ≡ spec.is_of_types (naming_of naming.now) warning.now at }
+{
+    let (Warning::UnusedType { .. }, Some(at)) = (warning, at) else {
+        return false;
+    };
+    match line_in_file(naming.lines, at.line) {
+        Some(there) => there.file < naming.types.len(),
+        None => false,
+    }
+}
+
+/// Whether a warning at this place is left out: it is allowed, or the fault of no declaration.
+fn is_left_out(
+    naming: &Naming<'_, '_, '_>,
+    sorting: &Sorting,
+    system: &System,
+    warning: &Warning,
+    at: Option<Place>,
+) -> bool
+    ensures { result ≡ spec.is_left_out (naming_of naming.now) sorting.now system.now.library system.now.stimuli warning.now at }
+{
+    let allowed = sorting.allowed.as_slice();
+    let is_allowed = is_selected(allowed, system.library(), system.stimuli(), warning);
+    is_allowed || is_of_types(naming, warning, at)
+}
+
+/// Whether a warning is denied.
+fn is_denied(sorting: &Sorting, system: &System, warning: &Warning) -> bool
+    ensures { result ≡ is_selected sorting.now.denied.items system.now.library system.now.stimuli warning.now }
+{
+    let denied = sorting.denied.as_slice();
+    is_selected(denied, system.library(), system.stimuli(), warning)
+}
+
+/// The lines of warnings, and whether one of these is denied.
+#[derive(Drop)]
+pub struct Reported {
+    pub lines: Vec<u8>,
+    pub is_denied: bool,
+}
+
+/// The lines of the warnings that are not left out, with their places in the text of the declaration, which is read
+/// again for all of them.
 pub(crate) fn all_lines(
     alloc: Global,
     naming: &Naming<'_, '_, '_>,
     inputs: &Inputs<'_>,
-    library: &Library,
-    plan: &Plan,
+    sorting: &Sorting,
+    system: &System,
     warnings: &[Warning],
-) -> Result<Vec<u8>, AllocError>
-    ensures { IfOk result (λ text. AreLines (naming_of naming.now) inputs.now library.now warnings.now text.items) }
+) -> Result<Reported, AllocError>
+    ensures { IfOk result (λ r. AreSorted (naming_of naming.now) inputs.now sorting.now system.now.library system.now.stimuli warnings.now r.lines.items r.is_denied) }
 {
+    let library = system.library();
     let positions = positions_of(alloc, warnings)?;
     let places = places_of(alloc, inputs.declaration, library, positions.as_slice())?;
     let places = places.as_slice();
-    let mut text = Vec::new(alloc);
+    let mut lines = Vec::new(alloc);
+    let mut has_denied = false;
     for index in 0..warnings.len() {
-        push_line(
-            alloc,
-            &mut text,
-            naming,
-            inputs,
-            library,
-            plan,
-            &warnings[index],
-            places[index],
-        )?;
+        let warning = &warnings[index];
+        let at = places[index];
+        if !is_left_out(naming, sorting, system, warning, at) {
+            has_denied |= is_denied(sorting, system, warning);
+            push_line(
+                alloc,
+                &mut lines,
+                naming,
+                inputs,
+                library,
+                system.plan(),
+                warning,
+                at,
+            )?;
+        }
     }
-    Ok(text)
+    Ok(Reported {
+        lines,
+        is_denied: has_denied,
+    })
 }

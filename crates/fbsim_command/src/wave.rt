@@ -6,7 +6,7 @@ ghost use Rattle.fbsim_command.specs.Showing.{DumpsAs, IsTraceFileNote, NotesAs,
 
 use crate::failure::Failure;
 use crate::line_notes::{note_of_trace_line, note_of_wave};
-use crate::notes::{note_of_file, note_of_name};
+use crate::notes::{note_of_file, note_of_name, note_of_trace_end};
 use crate::own_lines::end_with;
 use crate::sources::{Source, SourceFault, Streams};
 use crate::state_dump::dump_states;
@@ -91,6 +91,7 @@ pub fn show<S: Source + Streams, W: Write>(
         }
     };
     let (end, line) = dump(alloc, wave, &texts.inputs(), &mut trace, out);
+    let line = note_of_trace_end(alloc, wave.why, wave.trace, &end, line);
     let note = note_of_wave(alloc, types, &task, &end, &texts, line);
     let end = end_with(alloc, types, wave.declaration, &texts, end);
     (end, note)

@@ -1,27 +1,34 @@
-use Rattle.std.proofs.Common.{inr, subst, Bool}
+use Rattle.std.proofs.Common.{◌∙◌, Bool, Err, ap, inr, string_bytes, subst, sym}
+use Rattle.fb_inspect.specs.declared.error.InspectError.{InspectError}
 use Rattle.fbsim_command.specs.Covering.{IsStopped, RefusesAt, are_several}
-use Rattle.fbsim_command.proofs.Gleaning.{goes-on, refused-at, stops-for-memory, unopened}
-use Rattle.fbsim_command.proofs.Holding.{passed-on}
+use Rattle.fbsim_command.proofs.Gleaning.{goes-on, open-noted, refused-at, stops-for-memory, unopened}
+use Rattle.fbsim_command.specs.WrongLines.{IsWrongIn}
+use Rattle.fbsim_command.specs.declared.failure.Failure.{Failure}
+use Rattle.fbsim_command.proofs.Inspecting.{wrong-covered}
 use Rattle.fbsim_command.proofs.coverage.cover_one.Goals as goal
 
-pub returns-in_err-trace-clause-stopped : goal.returns-in_err-trace-clause-stopped
-returns-in_err-trace-clause-stopped g c =
-    passed-on c.from_residual.result _ (IsStopped g.S.Streams.opens (are_several c.args.coverage.now) c.args.name.now c.args.source.now c.open.new.self) c.from_residual.ensures.1
-    (unopened g.S.Streams.opens (are_several c.args.coverage.now) c.args.source.now c.open.new.self c.args.name.now c.in_err-trace.field-0.0 c.in_err-trace.ensures)
+pub returns-in-Err-clause-stopped : goal.returns-in-Err-clause-stopped
+returns-in-Err-clause-stopped g c =
+    subst (λ (f : Failure). IsStopped g.S.Streams.opens (IsWrongIn c.args.system.now c.args.coverage.now.steps) (are_several c.args.coverage.now) c.args.name.now c.args.source.now c.open.new.self f) (sym c.from.ensures)
+    (unopened g.S.Streams.opens (IsWrongIn c.args.system.now c.args.coverage.now.steps) (are_several c.args.coverage.now) c.args.source.now c.open.new.self c.args.name.now c.in-Err.fault c.in-Err.ensures)
 
-pub returns-in-Ok-clause-covered : goal.returns-in-Ok-clause-covered
-returns-in-Ok-clause-covered g c =
-    goes-on g.S.Streams.opens c.args.system.now c.args.coverage.now c.args.name.now c.args.source.now c.open.new.self _ c.cut_of.result c.args.gleaned c.parts-marks.result.0 c.in-Ok.covered.marks
-    c.in-Ok.covered.extent c.parts-marks.result.1 c.gleaned_with.result c.in_ok-trace.ensures c.cut_of.ensures c.parts-marks.ensures.marks c.parts-marks.ensures.cut c.in-Ok.ensures.covered c.gleaned_with.ensures.gleaned
+pub returns-in-Err-clause-noted : goal.returns-in-Err-clause-noted
+returns-in-Err-clause-noted g c = λ before. open-noted string_bytes c.args.coverage.now c.args.name.now c.in-Err.fault c.note_of_open.result c.note_of_open.ensures
 
-pub returns-in-Ok-clause-stopped : goal.returns-in-Ok-clause-stopped
-returns-in-Ok-clause-stopped g c =
-    stops-for-memory g.S.Streams.opens (are_several c.args.coverage.now) c.args.source.now c.open.new.self c.args.name.now c.gleaned_with.result c.gleaned_with.ensures.memory
+pub returns-in-Ok-cover-clause-covered : goal.returns-in-Ok-cover-clause-covered
+returns-in-Ok-cover-clause-covered g c =
+    goes-on g.S.Streams.opens c.args.system.now c.args.coverage.now c.args.name.now c.args.source.now c.open.new.self _ c.cut_of.result c.args.gleaned c.parts-marks.result.0 c.in-Ok-cover.covered.marks
+    c.in-Ok-cover.covered.extent c.parts-marks.result.1 c.gleaned_with.result c.in-Ok.ensures c.cut_of.ensures c.parts-marks.ensures.marks c.parts-marks.ensures.cut c.in-Ok-cover.ensures.covered c.gleaned_with.ensures.gleaned
+
+pub returns-in-Ok-cover-clause-stopped : goal.returns-in-Ok-cover-clause-stopped
+returns-in-Ok-cover-clause-stopped g c =
+    stops-for-memory g.S.Streams.opens (IsWrongIn c.args.system.now c.args.coverage.now.steps) (are_several c.args.coverage.now) c.args.source.now c.open.new.self c.args.name.now c.gleaned_with.result c.gleaned_with.ensures.memory
 
 pub returns-in-Err-Refused-clause-stopped : goal.returns-in-Err-Refused-clause-stopped
 returns-in-Err-Refused-clause-stopped g c =
-    refused-at g.S.Streams.opens (are_several c.args.coverage.now) c.args.source.now c.open.new.self c.args.name.now c.in-Err-Refused.line _ c.refusal_of.result c.in_ok-trace.ensures
+    refused-at g.S.Streams.opens (IsWrongIn c.args.system.now c.args.coverage.now.steps) (are_several c.args.coverage.now) c.args.source.now c.open.new.self c.args.name.now c.in-Err-Refused.line _ c.refusal_of.result c.in-Ok.ensures
+    (wrong-covered c.args.system.now c.args.coverage.now.steps _ c.cover.result c.in-Err-Refused.line (c.in-Err-Refused.is ∙ ap (λ (e : InspectError). Err e) c.in-Err-Refused.field-0-is) c.cover.ensures.refused)
     (subst (λ (b : Bool). RefusesAt b c.args.name.now c.in-Err-Refused.line c.refusal_of.result) c.are_several.ensures c.refusal_of.ensures)
 
 pub returns-in-Err-Read-clause-stopped : goal.returns-in-Err-Read-clause-stopped
-returns-in-Err-Read-clause-stopped g c = inr (_, c.in_ok-trace.ensures)
+returns-in-Err-Read-clause-stopped g c = inr (_, c.in-Ok.ensures)

@@ -1,6 +1,4 @@
-use Rattle.std.proofs.Common.{subst}
-use Rattle.std.specs.Io.KnownBytes.{Appends}
-use Rattle.fbsim_command.proofs.Gleaning.{may-stop, refused, reported, unreported, unwritten}
+use Rattle.fbsim_command.proofs.Gleaning.{may-stop, refused, reported, unreported, unwritten, written}
 use Rattle.fbsim_command.proofs.coverage.write_report.Goals as goal
 
 pub returns-in_err-system-clause-written : goal.returns-in_err-system-clause-written
@@ -10,23 +8,22 @@ returns-in_err-system-clause-written g c =
 
 pub returns-in_err-text-clause-written : goal.returns-in_err-text-clause-written
 returns-in_err-text-clause-written g c =
-    unreported g.S.Streams.opens c.args.inputs.now c.args.coverage.now c.args.source.now c.report-text.new.source (g.W.Write.contents c.args.out.now) c.from_residual-in_err-text.result _
+    unreported g.S.Streams.opens c.args.inputs.now c.args.coverage.now c.args.source.now c.report-reported.new.source (g.W.Write.contents c.args.out.now) c.from_residual-in_err-text.result _
     c.from_residual-in_err-text.ensures.1
-    (may-stop g.S.Streams.opens c.args.inputs.now c.args.coverage.now c.in_ok-system.system c.args.source.now c.report-text.new.source _ c.in_ok-system.ensures.system c.in_err-text.ensures.stopped)
+    (may-stop g.S.Streams.opens c.args.inputs.now c.args.coverage.now c.in_ok-system.system c.args.source.now c.report-reported.new.source _ c.in_ok-system.ensures.system c.in_err-text.ensures.stopped)
 
 pub returns-in_err-write_text-clause-written : goal.returns-in_err-write_text-clause-written
 returns-in_err-write_text-clause-written g c =
-    unwritten g.S.Streams.opens c.args.inputs.now c.args.coverage.now c.args.source.now c.report-text.new.source (g.W.Write.contents c.args.out.now) _ c.in_ok-text.text.items _
+    unwritten g.S.Streams.opens c.args.inputs.now c.args.coverage.now c.args.source.now c.report-reported.new.source (g.W.Write.contents c.args.out.now) _ c.in_ok-text.text.items _ _
     c.from_residual-in_err-write_text.result _
-    (reported g.S.Streams.opens c.args.inputs.now c.args.coverage.now c.in_ok-system.system c.args.source.now c.report-text.new.source c.in_ok-text.text.items c.in_ok-system.ensures.system
-    c.in_ok-text.ensures.report)
+    (reported g.S.Streams.opens c.args.inputs.now c.args.coverage.now c.in_ok-system.system c.args.source.now c.report-reported.new.source c.in_ok-text.text.items c.in_ok-text.is_too_little
+    c.in_ok-system.ensures.system c.in_ok-text.ensures.report)
     c.as_slice.ensures.value c.from_residual-in_err-write_text.ensures.1 c.in_err-write_text.ensures.part
 
 pub returns-clause-written : goal.returns-clause-written
 returns-clause-written g c =
-    let old = g.W.Write.contents c.args.out.now in (
-      c.in_ok-text.text.items,
-      reported g.S.Streams.opens c.args.inputs.now c.args.coverage.now c.in_ok-system.system c.args.source.now c.report-text.new.source c.in_ok-text.text.items c.in_ok-system.ensures.system
-          c.in_ok-text.ensures.report,
-      subst (Appends old (g.W.Write.contents c.write_text.new.out)) c.as_slice.ensures.value c.in_ok-write_text.ensures.whole,
-    )
+    written g.S.Streams.opens c.args.inputs.now c.args.coverage.now c.args.source.now c.report-reported.new.source (g.W.Write.contents c.args.out.now) (g.W.Write.contents c.write_text.new.out)
+    c.in_ok-text.text.items _ c.in_ok-text.is_too_little c.end_by.result
+    (reported g.S.Streams.opens c.args.inputs.now c.args.coverage.now c.in_ok-system.system c.args.source.now c.report-reported.new.source c.in_ok-text.text.items c.in_ok-text.is_too_little
+    c.in_ok-system.ensures.system c.in_ok-text.ensures.report)
+    c.as_slice.ensures.value c.in_ok-write_text.ensures.whole c.end_by.ensures

@@ -1,18 +1,17 @@
-use Rattle.std.proofs.Common.{inl, inr}
+use Rattle.std.proofs.Common.{inl, inr, option_map, string_bytes}
 use Rattle.fbsim_command.proofs.Parting.{unopened}
 use Rattle.fbsim_command.proofs.expect.diff.Goals as goal
 
-pub returns-in_err-first : goal.returns-in_err-first
-returns-in_err-first g c =
-    unopened g.S.Streams.opens c.args.source.now c.open.new.self c.args.diff.now (g.W.Write.contents c.args.out.now) c.in_err-first.field-0.0 c.from_residual.result (inl c.in_err-first.ensures)
-    c.from_residual.ensures.1
+pub returns-in-Err : goal.returns-in-Err
+returns-in-Err g c =
+    unopened g.S.Streams.opens c.args.source.now c.open.new.self c.args.diff.now (g.W.Write.contents c.args.out.now) c.in-Err.fault c.from.result (option_map string_bytes c.note_of_trace-note.result)
+    (inl (c.in-Err.ensures, c.note_of_trace-note.ensures)) c.from.ensures
 
-pub returns-in_err-second : goal.returns-in_err-second
-returns-in_err-second g c =
-    unopened g.S.Streams.opens c.args.source.now c.open-2.new.self c.args.diff.now (g.W.Write.contents c.args.out.now) c.in_err-second.field-0.0 c.from_residual-in_err-second.result
-    (inr (record { between = c.open.new.self; first = _; first_opened = c.in_ok-first.ensures; unopened = c.in_err-second.ensures }))
-    c.from_residual-in_err-second.ensures.1
+pub returns-in-Err-open : goal.returns-in-Err-open
+returns-in-Err-open g c =
+    unopened g.S.Streams.opens c.args.source.now c.open-2.new.self c.args.diff.now (g.W.Write.contents c.args.out.now) c.in-Err-open.fault c.from-in-Err-open.result (option_map string_bytes c.note_of_trace-note-in-Err-open.result)
+    (inr (record { between = c.open.new.self; first = _; first_opened = c.in-Ok.ensures; unopened = c.in-Err-open.ensures }, c.note_of_trace-note-in-Err-open.ensures)) c.from-in-Err-open.ensures
 
 pub returns : goal.returns
 returns g c =
-    inl (record { between = c.open.new.self; first = _; second = _; first_opened = c.in_ok-first.ensures; second_opened = c.in_ok-second.ensures; done = c.compare.ensures })
+    inl (record { between = c.open.new.self; first = _; second = _; first_opened = c.in-Ok.ensures; second_opened = c.in-Ok-open.ensures; done = c.compare-end.ensures }, c.note_of_either-note.ensures)

@@ -1,5 +1,3 @@
-use Rattle.std.proofs.Common.{◌*◌, ℕ, length, ap, ◌∙◌}
-use Rattle.fb_expect.specs.Reports.{plan}
 use Rattle.fbsim_command.specs.Expecting.{AreUnheld}
 use Rattle.fbsim_command.specs.declared.failure.Failure.TheVariants.{Memory}
 use Rattle.fbsim_command.proofs.Holding.{passed-on, rules_reported}
@@ -14,7 +12,12 @@ returns-in_err-is_well-clause-unheld g c =
     passed-on c.from_residual-in_err-is_well.result _ (AreUnheld g.S.Streams.opens c.args.expect.now c.args.rules.now c.args.source.now c.put_all.new.source)
     c.from_residual-in_err-is_well.ensures.1 c.in_err-is_well.ensures.unheld
 
+pub returns-in_err-put_tail-clause-unheld : goal.returns-in_err-put_tail-clause-unheld
+returns-in_err-put_tail-clause-unheld g c =
+    passed-on c.from_residual-in_err-put_tail.result Memory (AreUnheld g.S.Streams.opens c.args.expect.now c.args.rules.now c.args.source.now c.put_all.new.source)
+    c.from_residual-in_err-put_tail.ensures.1 tt
+
 pub returns-clause-reported : goal.returns-clause-reported
 returns-clause-reported g c =
-    rules_reported g.S.Streams.opens c.args.expect.now c.args.rules.now c.args.source.now c.put_all.new.source c.in_ok-text.text.items c.put_all.new.text.items c.in_ok-is_well.is_well
-    (c.in_ok-text.ensures ∙ ap (λ (n : ℕ). plan (length c.args.rules.now * n)) (c.len.ensures ∙ c.args.expect.now.traces.ok.0)) c.in_ok-is_well.ensures.put
+    rules_reported g.S.Streams.opens c.args.expect.now c.args.rules.now c.args.source.now c.put_all.new.source c.in_ok-text.text.items c.put_all.new.text.items c.put_tail.new.text.items
+    c.in_ok-is_well.is_well c.in_ok-text.ensures c.in_ok-is_well.ensures.put c.in_ok-put_tail.ensures

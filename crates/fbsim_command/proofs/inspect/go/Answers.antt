@@ -1,4 +1,4 @@
-use Rattle.std.proofs.Common.{◌≡◌, Bor, List, map, subst, ap, ◌∙◌}
+use Rattle.std.proofs.Common.{◌≡◌, ◌≤◌, Bor, List, map, subst, ap, ◌∙◌}
 use Rattle.std.specs.Prelude.{IfSome, OnErr, OnOk}
 use Rattle.clap.specs.Words.{Text}
 use Rattle.fb_types.specs.Headline.{system_of}
@@ -7,8 +7,12 @@ use Rattle.fb_inspect.specs.Selections.{Selection}
 use Rattle.fb_inspect.specs.declared.filter.EventFilter.{EventFilter}
 use Rattle.fb_inspect.proofs.lemmas.walk.Ended.{front_none}
 use Rattle.fb_wave.specs.declared.truncation.Cut.{Cut}
-use Rattle.fbsim_command.specs.Inspecting.{selection_of, upper}
-use Rattle.fbsim_command.proofs.Inspecting.{on_err_any}
+use Rattle.fbsim_command.specs.Inspecting.{cut_of, selection_of, upper}
+use Rattle.fbsim_command.proofs.Inspecting.{no_refusal, on_err_any, wrong_so}
+use Rattle.fb_inspect.specs.Refusals.{IsWrongAt}
+use Rattle.fb_inspect.specs.walk.Looks.{most}
+use Rattle.fb_wave.specs.Named.{HasNames}
+use Rattle.fbsim_command.specs.WrongLines.{IsWrongIn}
 use Rattle.fbsim_command.proofs.inspect.go.Goals as goal
 
 pub returns-in_err-only-clause-fault : goal.returns-in_err-only-clause-fault
@@ -28,7 +32,7 @@ returns-clause-whole g c =
     let new = g.W.Write.contents c.inspect.new.out in
     subst (λ (m : Cut). OnOk c.inspect.result (IfSome (g.R.Read.remaining c.args.trace.now) (λ text. IsShownBy m (system_of c.args.system.now) (selection_of x) x.steps text old new))) c.cut_of.ensures
     (subst (λ (what : Selection). OnOk c.inspect.result (IfSome (g.R.Read.remaining c.args.trace.now) (λ text. IsShownBy c.cut_of.result (system_of c.args.system.now) what x.steps text old new)))
-    (selects (c.as_slice-2.ensures.value ∙ c.in_ok-only.ensures ∙ ap uppers c.as_slice.ensures.value) c.all.ensures) c.inspect.ensures.whole)
+    (selects (c.as_slice-2.ensures.value ∙ c.in_ok-only.ensures ∙ ap uppers c.as_slice.ensures.value) c.filter_of.ensures) c.inspect.ensures.whole)
 
 pub returns-clause-fault : goal.returns-clause-fault
 returns-clause-fault g c =
@@ -36,4 +40,14 @@ returns-clause-fault g c =
     let old = g.W.Write.contents c.args.out.now in
     let new = g.W.Write.contents c.inspect.new.out in
     subst (λ (what : Selection). OnErr c.inspect.result (ShowsFront (system_of c.args.system.now) what x.steps old new))
-    (selects (c.as_slice-2.ensures.value ∙ c.in_ok-only.ensures ∙ ap uppers c.as_slice.ensures.value) c.all.ensures) c.inspect.ensures.fault
+    (selects (c.as_slice-2.ensures.value ∙ c.in_ok-only.ensures ∙ ap uppers c.as_slice.ensures.value) c.filter_of.ensures) c.inspect.ensures.fault
+
+pub returns-in_err-only-clause-refused : goal.returns-in_err-only-clause-refused
+returns-in_err-only-clause-refused g c =
+    no_refusal c.from_residual.result (IsWrongIn c.args.system.now c.args.inspect.now.steps (g.R.Read.remaining c.args.trace.now)) c.from_residual.ensures.1
+
+pub returns-clause-refused : goal.returns-clause-refused
+returns-clause-refused g c =
+    let sys = system_of c.args.system.now in
+    let steps = c.args.inspect.now.steps in
+    wrong_so (HasNames sys) (steps ≤ most) (λ n. IfSome (g.R.Read.remaining c.args.trace.now) (IsWrongAt sys steps n)) c.inspect.result c.inspect.ensures.refused

@@ -13,7 +13,7 @@ push_reserved-requires c =
 
 pub loop-byte-preserved : goal.loop-byte-preserved
 loop-byte-preserved c =
-    let text = c.as_bytes-bytes.result.now in
+    let text = c.args.bytes.now in
     let i = c.loop-byte.byte-index in
     let inv = c.loop-byte.invariant in
     let one = c.push_reserved.ensures in
@@ -29,8 +29,8 @@ loop-byte-preserved c =
 
 pub returns : goal.returns
 returns c =
-    let bytes = c.as_bytes-bytes.result.now in
+    let bytes = c.args.bytes.now in
     let i = c.loop-byte.byte-index in
     let all : take i bytes ≡ bytes = take_all i bytes (let end = c.loop-byte-test.false in omega (arith, end)) in
     subst (λ (t : List ℕ). IfOk c.from_slice.result (λ path. path ≡ t))
-    (c.as_slice.ensures.value ∙ c.loop-byte.invariant.all ∙ ap (map to_ascii_uppercase) (all ∙ c.as_bytes-bytes.ensures.value)) c.from_slice.ensures
+    (c.as_slice.ensures.value ∙ c.loop-byte.invariant.all ∙ ap (map to_ascii_uppercase) all) c.from_slice.ensures

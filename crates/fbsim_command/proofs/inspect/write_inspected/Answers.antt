@@ -1,5 +1,7 @@
 use Rattle.std.proofs.Common.{Err, string_bytes, subst, sym}
-use Rattle.std.specs.Prelude.{IfSome, OnErr, OnOk}
+use Rattle.std.specs.Prelude.{IfErr, IfSome, OnErr, OnOk}
+use Rattle.fb_inspect.specs.Refusals.{OfRefusal}
+use Rattle.fbsim_command.specs.WrongLines.{IsWrongIn}
 use Rattle.fb_types.specs.Headline.{system_of}
 use Rattle.fb_inspect.specs.Inspections.{IsShownBy, ShowsFront}
 use Rattle.fbsim_command.specs.Inspecting.{Inspects, cut_of, selection_of}
@@ -37,7 +39,8 @@ returns-clause-inspected g c =
     let e = c.in-Err-gone.error in
     subst (λ (f : Failure). Inspects c.args.inputs.now x trace old new (Err f)) (sym c.from-in-Err-gone.ensures)
     (inspects_front c.args.inputs.now x trace old new c.in-Ok.system c.in-Ok.ensures.system e
-    (subst (λ r. OnErr r (ShowsFront sys (selection_of x) x.steps old new)) c.in-Err-gone.is c.go-gone.ensures.fault))
+    (subst (λ r. OnErr r (ShowsFront sys (selection_of x) x.steps old new)) c.in-Err-gone.is c.go-gone.ensures.fault)
+    (subst (λ r. IfErr r (OfRefusal (IsWrongIn c.in-Ok.system x.steps trace))) c.in-Err-gone.is c.go-gone.ensures.refused))
 
 pub returns-clause-noted : goal.returns-clause-noted
 returns-clause-noted g c =

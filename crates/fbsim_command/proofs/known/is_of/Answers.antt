@@ -22,5 +22,5 @@ returns-then-is_there c =
     let a = c.args in
     let at : c.is_at-is_there.result ≡ is_at a.pattern.now (event_there a.system.now a.instance a.taken a.event) = search rules in
     of-there (system_of a.system.now) a.pattern.now a.instance a.taken a.event c.variables_of-variables.result.now c.indexes_with-indexes.result.now c.as_slice-then-is_there.result.now c.is_at-is_there.result
-    c.are_named.result (c.variables_of-variables.ensures ∙ ap (λ (its : Ports). variables_of its a.taken) c.ports-ports.ensures) c.as_slice-then-is_there.ensures at c.if-is_there.true
-    c.indexes_with-indexes.ensures c.are_named.ensures
+    c.are_possible.result (c.variables_of-variables.ensures ∙ ap (λ (its : Ports). variables_of its a.taken) c.ports-ports.ensures) c.as_slice-then-is_there.ensures at c.if-is_there.true
+    c.indexes_with-indexes.ensures c.are_possible.ensures

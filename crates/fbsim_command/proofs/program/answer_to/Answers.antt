@@ -1,4 +1,4 @@
-use Rattle.std.proofs.Common.{Bor, List, Option, map, option_map, string_bytes, inl, inr, refl, subst}
+use Rattle.std.proofs.Common.{Bor, Err, List, Option, map, option_map, string_bytes, inl, inr, refl, subst}
 use Rattle.clap.specs.Words.{Text}
 use Rattle.fbsim_line.specs.Line.{AreCall}
 use Rattle.fbsim_line.specs.declared.line.Call.{Call}
@@ -11,12 +11,21 @@ use Rattle.fbsim_command.specs.Outcomes.{End}
 use Rattle.fbsim_command.proofs.Reporting.{ended_so, noted_so}
 use Rattle.fbsim_command.proofs.program.answer_to.Goals as goal
 
-pub returns-in-Task : goal.returns-in-Task
-returns-in-Task g c = λ words asked taken.
+pub returns-in-Ok : goal.returns-in-Ok
+returns-in-Ok g c = λ words asked taken.
     let here = subst (λ (r : Call). AreCall words r) c.in-Task.is asked in
-    let done = subst (λ (ns : List (Bor Text)). Performs g.S.Source.gives c.args.source.now c.perform.new.source (map (λ (n : Bor Text). n.now) ns) c.in-Task.task (g.W.Write.contents c.args.out.now)
+    let done = subst (λ (ns : List (Bor Text)). Performs g.S.Source.gives c.args.source.now c.perform.new.source (map (λ (n : Bor Text). n.now) ns) c.in-Task.task c.in-Ok.sorting (g.W.Write.contents c.args.out.now)
     (g.W.Write.contents c.perform.new.out) c.perform.result.end c.perform.ensures.0 (option_map string_bytes c.perform.result.note)) c.as_slice.ensures.value c.perform.ensures.2 in
-    (c.perform.ensures.0, c.perform.ensures.1, inl (c.in-Task.task, c.in-Task.types, here, taken, done))
+    (c.perform.ensures.0, c.perform.ensures.1, inl (c.in-Task.task, c.in-Task.types, c.in-Task.levels, here, taken, inl (c.in-Ok.sorting, c.in-Ok.ensures.sorted, done)))
+
+pub returns-in-Err : goal.returns-in-Err
+returns-in-Err g c = λ words asked taken.
+    let source = c.args.source.now in
+    let out = g.W.Write.contents c.args.out.now in
+    let here = subst (λ (r : Call). AreCall words r) c.in-Task.is asked in
+    ended_so c.ended.result (Err c.in-Err.failure) c.ended.ensures (g.E.Write.contents c.args.err.now)
+    (λ (end : End) (reports : Text) (note : Option Text). Does g.S.Source.gives g.S.Streams.opens source source words out out end reports note)
+    (inl (c.in-Task.task, c.in-Task.types, c.in-Task.levels, here, taken, inr (c.in-Err.failure, c.in-Err.ensures.unknown, refl, refl, (refl, refl, refl))))
 
 pub returns-in-Explain : goal.returns-in-Explain
 returns-in-Explain g c = λ words asked taken.
@@ -24,7 +33,7 @@ returns-in-Explain g c = λ words asked taken.
     let old = g.W.Write.contents c.args.out.now in
     let new = g.W.Write.contents c.explain_to.new.out in
     let here = subst (λ (r : Call). AreCall words r) c.in-Explain.is asked in
-    ended_so c.ended.result c.explain_to.result c.ended.ensures (g.E.Write.contents c.args.err.now)
+    ended_so c.ended-in-Explain.result c.explain_to.result c.ended-in-Explain.ensures (g.E.Write.contents c.args.err.now)
     (λ (end : End) (reports : Text) (note : Option Text). Does g.S.Source.gives g.S.Streams.opens source source words old new end reports note)
     (inr (inr (inl (c.in-Explain.name, here, taken, c.explain_to.ensures, (refl, refl, refl)))))
 
@@ -46,12 +55,10 @@ returns-in-Expect g c = λ words asked taken.
 
 pub returns-in-Diff : goal.returns-in-Diff
 returns-in-Diff g c = λ words asked taken.
-    let old = g.W.Write.contents c.args.out.now in
-    let new = g.W.Write.contents c.diff.new.out in
     let here = subst (λ (r : Call). AreCall words r) c.in-Diff.is asked in
-    ended_so c.ended-in-Diff.result c.diff.result c.ended-in-Diff.ensures (g.E.Write.contents c.args.err.now)
-    (λ (end : End) (reports : Text) (note : Option Text). Does g.S.Source.gives g.S.Streams.opens c.args.source.now c.diff.new.source words old new end reports note)
-    (inr (inr (inr (inr (inl (c.in-Diff.call, here, taken, c.diff.ensures, refl, refl))))))
+    noted_so c.ended_with-in-Diff.result _ c.ended_with-in-Diff.ensures refl (g.E.Write.contents c.args.err.now)
+    (λ (end : End) (reports : Text) (note : Option Text). Does g.S.Source.gives g.S.Streams.opens c.args.source.now c.diff.new.source words (g.W.Write.contents c.args.out.now) (g.W.Write.contents c.diff.new.out) end reports note)
+    (inr (inr (inr (inr (inl (c.in-Diff.call, here, taken, c.diff.ensures, refl))))))
 
 pub returns-in-Draw : goal.returns-in-Draw
 returns-in-Draw g c = λ words asked taken.

@@ -1,16 +1,16 @@
-use Rattle.std.proofs.Common.{refl}
+use Rattle.std.proofs.Common.{false, refl}
 use Rattle.fbsim_command.proofs.Checking.{checked, checks_none, checks_part}
 use Rattle.fbsim_command.proofs.program.check_inputs.Goals as goal
 
 pub returns-in_err-check : goal.returns-in_err-check
 returns-in_err-check g c =
-    checked c.args.inputs.now _ _ c.from_residual.result _ c.from_residual.ensures.1
-    (checks_none c.args.inputs.now (g.W.Write.contents c.args.out.now) c.in_err-check.field-0.0 c.in_err-check.ensures.refused)
+    checked false c.args.inputs.now _ _ c.from_residual.result _ c.from_residual.ensures.1
+    (checks_none false c.args.inputs.now (g.W.Write.contents c.args.out.now) c.in_err-check.field-0.0 c.in_err-check.ensures.refused)
 
 pub returns-in_err-write_text : goal.returns-in_err-write_text
 returns-in_err-write_text g c =
-    checked c.args.inputs.now _ _ c.from_residual-in_err-write_text.result _ c.from_residual-in_err-write_text.ensures.1
-    (checks_part c.args.inputs.now (g.W.Write.contents c.args.out.now) (g.W.Write.contents c.write_text.new.out) c.in_err-write_text.field-0.0 c.in_ok-check.ensures.accepted
+    checked false c.args.inputs.now _ _ c.from_residual-in_err-write_text.result _ c.from_residual-in_err-write_text.ensures.1
+    (checks_part false c.args.inputs.now (g.W.Write.contents c.args.out.now) (g.W.Write.contents c.write_text.new.out) c.in_err-write_text.field-0.0 c.in_ok-check.ensures.accepted
     c.in_err-write_text.ensures.part)
 
 pub returns : goal.returns

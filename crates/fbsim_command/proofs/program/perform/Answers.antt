@@ -17,7 +17,7 @@ returns-in-Ok g c = (
     first = c.meet-end.ensures.reported.0;
     reported =
         subst
-        (λ (ls : List ℕ). Reports (record { types = map (λ t. t.now) c.args.types.now; own = c.args.task.now.declaration.now; deploy = option_map (λ d. d.now) c.args.task.now.deploy; lines = ls }) (given_of c.in-Ok.texts) c.args.task.now.action (g.W.Write.contents c.args.out.now) (g.W.Write.contents c.meet-end.new.out) c.meet-end.result.0 c.meet-end.ensures.reported.0)
+        (λ (ls : List ℕ). Reports (record { types = map (λ t. t.now) c.args.asked.now.types.now; own = c.args.asked.now.task.now.declaration.now; deploy = option_map (λ d. d.now) c.args.asked.now.task.now.deploy; lines = ls }) (given_of c.in-Ok.texts) c.args.asked.now.task.now.action c.args.asked.now.sorting.now (g.W.Write.contents c.args.out.now) (g.W.Write.contents c.meet-end.new.out) c.meet-end.result.0 c.meet-end.ensures.reported.0)
         c.as_slice.ensures.value c.meet-end.ensures.reported.1;
     last = c.report_stop_after-is_heard.ensures.0;
     located = c.report_stop_after-is_heard.ensures.1;

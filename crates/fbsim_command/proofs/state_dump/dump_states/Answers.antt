@@ -1,10 +1,14 @@
 use Rattle.std.proofs.Common.{Err, string_bytes, subst, sym}
-use Rattle.std.specs.Prelude.{IfSome, OnErr, OnOk}
+use Rattle.std.specs.Prelude.{◌≤◌, IfErr, IfSome, OnErr, OnOk}
+use Rattle.fb_wave.specs.Named.{HasNames}
+use Rattle.fb_inspect.specs.Refusals.{IsWrongAt, OfRefusal}
+use Rattle.fb_inspect.specs.walk.Looks.{most}
+use Rattle.fbsim_command.specs.WrongLines.{IsWrongIn}
 use Rattle.fb_types.specs.Headline.{system_of}
 use Rattle.fb_inspect.specs.StateWaves.{IsShownWith, WritesFront}
 use Rattle.fbsim_command.specs.StateDumping.{DumpsStates}
 use Rattle.fbsim_command.specs.declared.failure.Failure.{Failure}
-use Rattle.fbsim_command.proofs.Inspecting.{line_noted_inside, none_noted_inside}
+use Rattle.fbsim_command.proofs.Inspecting.{line_noted_inside, none_noted_inside, wrong_so}
 use Rattle.fbsim_command.proofs.StateDumped.{states_front, states_none}
 use Rattle.fbsim_command.proofs.state_dump.dump_states.Goals as goal
 
@@ -39,7 +43,9 @@ returns-clause-dumped g c =
     let e = c.in-Err-gone.error in
     subst (λ (f : Failure). DumpsStates t.cut t.steps c.args.inputs.now trace old new (Err f)) (sym c.from-in-Err-gone.ensures)
     (states_front t.cut t.steps c.args.inputs.now trace old new c.in-Ok.system c.in-Ok.ensures.system e
-    (subst (λ r. OnErr r (WritesFront sys t.steps old new)) c.in-Err-gone.is c.write_states-gone.ensures.fault))
+    (subst (λ r. OnErr r (WritesFront sys t.steps old new)) c.in-Err-gone.is c.write_states-gone.ensures.fault)
+    (subst (λ r. IfErr r (OfRefusal (IsWrongIn c.in-Ok.system t.steps trace))) c.in-Err-gone.is
+    (wrong_so (HasNames sys) (t.steps ≤ most) (λ n. IfSome trace (IsWrongAt sys t.steps n)) c.write_states-gone.result c.write_states-gone.ensures.refused)))
 
 pub returns-clause-noted : goal.returns-clause-noted
 returns-clause-noted g c =

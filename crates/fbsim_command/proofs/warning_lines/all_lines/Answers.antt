@@ -1,33 +1,57 @@
-use Rattle.std.proofs.Common.{ℕ, ◌<◌, List, ap, map, subst, sym}
+use Rattle.std.proofs.Common.{ℕ, ◌<◌, ◌∙◌, ◌||◌, Bool, List, ap, map, refl, subst, sym}
 use Rattle.std.specs.List.{AllZip}
 use Rattle.fb_lint.specs.Positions.{position_of}
 use Rattle.fb_read_positions.specs.Places.{IsPlaceFor}
 use Rattle.fb_sim.specs.Given.{Given}
+use Rattle.fb_types.specs.declared.library.Library.{Library}
 use Rattle.fbsim_command.specs.WarningLines.{naming_of}
-use Rattle.fbsim_command.proofs.PlacedLines.{as_many_places, lines_all, lines_next, place_at_index}
+use Rattle.fbsim_command.proofs.LeftOut.{sorted-all, sorted-left, sorted-next, sorted-none}
+use Rattle.fbsim_command.proofs.PlacedLines.{as_many_places, place_at_index}
+use Rattle.fbsim_command.proofs.warning_lines.all_lines.Goals.{else-not-is_left_out, then-not-is_left_out+in_ok-push_line}
 use Rattle.fbsim_command.proofs.warning_lines.all_lines.Goals as goal
 
 pub bounds-places-index : goal.bounds-places-index
 bounds-places-index c =
-    let all : AllZip (IsPlaceFor c.args.inputs.now.declaration c.args.library.now) (map position_of c.args.warnings.now) c.as_slice-places.result.now =
+    let library = c.library-library.result.now in
+    let all : AllZip (IsPlaceFor c.args.inputs.now.declaration library) (map position_of c.args.warnings.now) c.as_slice-places.result.now =
     rw c.as_slice-places.ensures.value
-    (subst (λ (d : List ℕ). AllZip (IsPlaceFor d c.args.library.now) (map position_of c.args.warnings.now) c.in_ok-places.places.items) (ap (λ (g : Given). g.declaration) c.inputs.view_is)
+    (subst (λ (d : List ℕ). AllZip (IsPlaceFor d library) (map position_of c.args.warnings.now) c.in_ok-places.places.items) (ap (λ (g : Given). g.declaration) c.inputs.view_is)
     (rw (c.as_slice.ensures.value, c.in_ok-positions.ensures) at c.in_ok-places.ensures)) in
     subst (λ (k : ℕ). c.loop-index.index < k)
-    (sym (as_many_places (naming_of c.args.naming.now) c.args.inputs.now c.args.library.now c.args.warnings.now c.as_slice-places.result.now all)) c.loop-index-test.true
+    (sym (as_many_places (naming_of c.args.naming.now) c.args.inputs.now library c.args.warnings.now c.as_slice-places.result.now all)) c.loop-index-test.true
 
 pub push_line-requires : goal.push_line-requires
 push_line-requires c =
-    let all : AllZip (IsPlaceFor c.args.inputs.now.declaration c.args.library.now) (map position_of c.args.warnings.now) c.as_slice-places.result.now =
+    let library = c.library-library.result.now in
+    let all : AllZip (IsPlaceFor c.args.inputs.now.declaration library) (map position_of c.args.warnings.now) c.as_slice-places.result.now =
     rw c.as_slice-places.ensures.value
-    (subst (λ (d : List ℕ). AllZip (IsPlaceFor d c.args.library.now) (map position_of c.args.warnings.now) c.in_ok-places.places.items) (ap (λ (g : Given). g.declaration) c.inputs.view_is)
+    (subst (λ (d : List ℕ). AllZip (IsPlaceFor d library) (map position_of c.args.warnings.now) c.in_ok-places.places.items) (ap (λ (g : Given). g.declaration) c.inputs.view_is)
     (rw (c.as_slice.ensures.value, c.in_ok-positions.ensures) at c.in_ok-places.ensures)) in
-    place_at_index (naming_of c.args.naming.now) c.args.inputs.now c.args.library.now c.args.warnings.now c.as_slice-places.result.now c.loop-index.index _ _ all c.loop-index-test.true
+    place_at_index (naming_of c.args.naming.now) c.args.inputs.now library c.args.warnings.now c.as_slice-places.result.now c.loop-index.index _ _ all c.loop-index-test.true
 
 pub loop-index-preserved : goal.loop-index-preserved
 loop-index-preserved c =
-    lines_next (naming_of c.args.naming.now) c.args.inputs.now c.args.library.now c.args.warnings.now c.loop-index.index _ c.loop-index.text.items c.push_line.new.text.items c.loop-index-test.true
-    c.loop-index.invariant c.in_ok-push_line.ensures
+    let library = c.args.system.now.library in
+    let all : AllZip (IsPlaceFor c.args.inputs.now.declaration c.library-library.result.now) (map position_of c.args.warnings.now) c.as_slice-places.result.now =
+    rw c.as_slice-places.ensures.value
+    (subst (λ (d : List ℕ). AllZip (IsPlaceFor d c.library-library.result.now) (map position_of c.args.warnings.now) c.in_ok-places.places.items)
+    (ap (λ (g : Given). g.declaration) c.inputs.view_is) (rw (c.as_slice.ensures.value, c.in_ok-positions.ensures) at c.in_ok-places.ensures)) in
+    let placed = subst (λ (l : Library). AllZip (IsPlaceFor c.args.inputs.now.declaration l) (map position_of c.args.warnings.now) c.as_slice-places.result.now) c.library-library.ensures all in
+    let there = place_at_index (naming_of c.args.naming.now) c.args.inputs.now library c.args.warnings.now c.as_slice-places.result.now c.loop-index.index _ _ placed c.loop-index-test.true in
+    elim c.if-not-is_left_out.branch [
+      | then-not-is_left_out+in_ok-push_line w ↦
+          rw (w.lines-is, w.has_denied-is)
+          (sorted-next (naming_of c.args.naming.now) c.args.inputs.now c.args.sorting.now library c.args.system.now.stimuli c.args.warnings.now c.loop-index.index _ _ c.loop-index.lines.items
+          w.push_line.new.text.items c.loop-index.has_denied (c.loop-index.has_denied || w.is_denied-has_denied.result) c.library-library.result.now c.loop-index-test.true there
+          (sym c.is_left_out.ensures ∙ w.if-not-is_left_out.true) c.library-library.ensures w.in_ok-push_line.ensures
+          (ap (λ (b : Bool). c.loop-index.has_denied || b) w.is_denied-has_denied.ensures) c.loop-index.invariant)
+      | else-not-is_left_out w ↦
+          rw (w.lines-is, w.has_denied-is)
+          (sorted-left (naming_of c.args.naming.now) c.args.inputs.now c.args.sorting.now library c.args.system.now.stimuli c.args.warnings.now c.loop-index.index _ _ c.loop-index.lines.items
+          c.loop-index.has_denied c.loop-index-test.true there (sym c.is_left_out.ensures ∙ w.if-not-is_left_out.false) c.loop-index.invariant)
+    ]
 
 pub returns : goal.returns
-returns c = lines_all (naming_of c.args.naming.now) c.args.inputs.now c.args.library.now c.args.warnings.now c.loop-index.index c.loop-index.text.items c.loop-index-test.false c.loop-index.invariant
+returns c =
+    sorted-all (naming_of c.args.naming.now) c.args.inputs.now c.args.sorting.now c.args.system.now.library c.args.system.now.stimuli c.args.warnings.now c.loop-index.index c.loop-index.lines.items
+    c.loop-index.has_denied c.loop-index-test.false c.loop-index.invariant

@@ -21,4 +21,5 @@ returns g c =
     read_and_shown g.S.Source.gives g.S.Streams.opens c.args.source.now c.read_files.new.source c.open.new.self (map (λ t. t.now) c.args.types.now) c.args.wave.now
     (g.W.Write.contents c.args.out.now) (g.W.Write.contents c.dump-end.new.out) (lines_of c.in-Ok.texts) (given_of c.in-Ok.texts) c.files_of-task.result (cut_of c.args.wave.now) _ c.inputs.result
     c.dump-end.result.0 c.end_with-end.result (option_map string_bytes c.note_of_wave-note.result) c.files_of-task.ensures refl c.inputs.ensures c.in-Ok.ensures.read c.in-Ok-open.ensures
-    c.dump-end.ensures.dumped (option_map string_bytes c.dump-end.result.1) c.dump-end.ensures.noted c.note_of_wave-note.ensures c.end_with-end.ensures
+    c.dump-end.ensures.dumped (option_map string_bytes c.note_of_trace_end-line.result) (option_map string_bytes c.dump-end.result.1) c.dump-end.ensures.noted
+    c.note_of_trace_end-line.ensures c.note_of_wave-note.ensures c.end_with-end.ensures

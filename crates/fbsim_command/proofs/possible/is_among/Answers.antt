@@ -2,12 +2,12 @@ use Rattle.std.proofs.Common.{sym, ap, ◌∙◌}
 use Rattle.fb_types.specs.Names.{Name, same_name}
 use Rattle.fb_types.specs.declared.library.Variable.{Variable}
 use Rattle.fbsim_command.proofs.Anywhere.{index-found, index-passed}
-use Rattle.fbsim_command.proofs.known.is_named.Goals as goal
+use Rattle.fbsim_command.proofs.possible.is_among.Goals as goal
 
 pub returns-then-is : goal.returns-then-is
 returns-then-is c =
     let v = c.index-variables-index.result in
-    let required = c.args.condition.now.variable in
+    let required = c.args.name.now in
     let i = c.loop-index.index-index in
     index-found (λ (n : Name). same_name n required) c.args.variables.now c.args.indexes.now i v _ c.loop-index-test.true (c.requires i 0 c.loop-index-test.true) c.index-variables-index.is
     c.loop-index.invariant (ap (λ (w : Variable). same_name w.name required) c.index-variables-index.is ∙ sym c.is.ensures ∙ c.if-is.true)
@@ -15,7 +15,7 @@ returns-then-is c =
 pub loop-index-preserved : goal.loop-index-preserved
 loop-index-preserved c =
     let v = c.index-variables-index.result in
-    let required = c.args.condition.now.variable in
+    let required = c.args.name.now in
     let i = c.loop-index.index-index in
     index-passed (λ (n : Name). same_name n required) c.args.variables.now c.args.indexes.now i v _ c.loop-index-test.true (c.requires i 0 c.loop-index-test.true) c.index-variables-index.is
     c.loop-index.invariant (ap (λ (w : Variable). same_name w.name required) c.index-variables-index.is ∙ sym c.is.ensures ∙ c.if-is.false)

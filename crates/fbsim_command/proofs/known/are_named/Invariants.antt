@@ -1,8 +1,0 @@
-use Rattle.std.proofs.Common.{◌≡◌, drop, map}
-use Rattle.fb_system.specs.IndexLists.{variable_at}
-use Rattle.fbsim_command.specs.Known.{are_named}
-use Rattle.fbsim_command.proofs.known.are_named.Given as goal
-
-abbrev pub invariant-loop-condition : goal.invariant-loop-condition
-invariant-loop-condition l =
-    are_named l.conditions (map (variable_at l.variables) l.indexes) ≡ are_named (drop l.condition-index l.conditions) (map (variable_at l.variables) l.indexes)
