@@ -9,6 +9,7 @@ are no text, files that can't be read, and outputs that are full, closed or gone
 
 import glob
 import os
+import pty
 import resource
 import shutil
 import signal
@@ -16,6 +17,7 @@ import subprocess
 import sys
 import tempfile
 import threading
+import tty
 from typing import NamedTuple, Optional
 
 import unbuilt
@@ -219,13 +221,20 @@ FILES |= {
 RULE = b'[[rule]]\nname = "the cycle answers"\nafter = "MAIN > C.START"\nwithin = %d\nsee = "MAIN < C.EO"\n'
 FILES |= {"rules": RULE % 3, "broken_rules": RULE % 2, "negative_rules": RULE % -1, "no_pattern": RULE.replace(b"MAIN > ", b"> ") % 3}
 FILES["many_rules"] = FILES["rules"] * 1001
-REPORT = b"TAP version 14\n1..1\nok 1 - the cycle answers\n"
-REPORT_OF_TWO = b"TAP version 14\n1..2\nok 1 - the cycle answers (trace)\nok 2 - the cycle answers (keyed_trace)\n"
+REPORT = b"TAP version 14\n1..1\nok 1 - the cycle answers\n# decided 1 time\n"
+REPORT_OF_TWO = b"TAP version 14\n1..2\nok 1 - the cycle answers (trace)\n# decided 1 time\nok 2 - the cycle answers (keyed_trace)\n# decided 1 time\n"
 # The cycle starts in the second line, at tick 0, and its answer comes at 3.
 BROKEN_REPORT = (
     b"TAP version 14\n1..1\nnot ok 1 - the cycle answers\n  ---\n  message: \"the expected event does not follow in time\"\n  trace: \"trace\"\n"
-    b"  line: 2\n  tick: 0\n  ...\n"
+    b"  line: 2\n  tick: 0\n  ...\n# decided 1 time\n"
 )
+# The same reports as JUnit XML.
+JUNIT = b'<?xml version="1.0" encoding="UTF-8"?>\n<testsuites>\n%s</testsuites>\n'
+SUITE = b'<testsuite name="%s" tests="1" failures="%d" errors="0" skipped="%d">\n<testcase classname="%s" name="the cycle answers" assertions="%d">%s</testcase>\n</testsuite>\n'
+JUNIT_OF_TWO = JUNIT % (SUITE % (b"trace", 0, 0, b"trace", 1, b"") + SUITE % (b"keyed_trace", 0, 0, b"keyed_trace", 1, b""))
+BROKEN_JUNIT = JUNIT % (SUITE % (b"trace", 1, 0, b"trace", 1, b'<failure message="the expected event does not follow in time">line 2, tick 0</failure>'))
+SKIPPED_JUNIT = JUNIT % (SUITE % (b"trace_pipe", 0, 1, b"trace_pipe", 0, b'<skipped message="never applied"/>'))
+STRICT_JUNIT = JUNIT % (SUITE % (b"trace_pipe", 1, 0, b"trace_pipe", 0, b'<failure message="never applied"/>'))
 # The line about the slip, after its fault.
 AT_THE_SLIP = b":1:79: E21: application A: event connection F.EO TO W.EJ: E_SWITCH has no event input EJ (it has EI)\n"
 STRANGE = b"APPLICATION A FBS S \xff"
@@ -250,19 +259,19 @@ HELP_OF_RUN = (
     "--workers", "threads run resources", "1 to 64", "--serial", "on one thread", "--progress", "each hundredth of the horizon", "--trace", "form of the trace",
     "Example: fbsim run ",
 )
-HELP_OF_CHECK = (*HELP_OF_FILES, "--lint", "Reports warnings", "Example: fbsim check ")
+HELP_OF_CHECK = (*HELP_OF_FILES, "--lint", "Reports warnings", "--allow", "as L06:MOTOR", "--deny", "--no-why", "Example: fbsim check ")
 HELP_OF_WAVE = (
     "DECL", "declaration of the types", "TRACE", "file with the trace", "--types", "--deploy", "in TOML", "at most 1 MiB", "--cut", "cut off", "--states", "state of each basic block", "--steps", "limit of steps", "--why",
     "Prints the location", "Example: fbsim wave ",
 )
 HELP_OF_EXPECT = (
-    "RULES", "in TOML", "1000 rules", "TRACE", "--decl", "all names of the rules", "--types", "--deploy", "--strict", "undecided as broken", "--cut", "without a last line",
+    "RULES", "in TOML", "1000 rules", "TRACE", "--decl", "all names of the rules", "--types", "--deploy", "--strict", "never applied, as broken", "--cut", "without a last line", "--junit", "JUnit XML",
     "Example: fbsim expect ",
 )
-HELP_OF_DIFF = ("first trace", "second trace", "Example: fbsim diff ")
+HELP_OF_DIFF = ("first trace", "second trace", "--no-ticks", "--why", "Example: fbsim diff ")
 HELP_OF_DRAW = ("DECL", "declaration of the types", "--types", "once for each file", "--deploy", "in TOML", "--type", "type to draw", "network of a composite", "Example: fbsim draw ")
 HELP_OF_INSPECT = (
-    "DECL", "declaration of the types", "TRACE", "file with the trace", "--types", "--deploy", "in TOML", "--only", "path of an instance", "--steps", "limit of steps of the run", "--cut", "--why", "Example: fbsim inspect ",
+    "DECL", "declaration of the types", "TRACE", "file with the trace", "--types", "--deploy", "in TOML", "--only", "path of an instance", "--from", "--to", "--lost", "--steps", "limit of steps of the run", "--cut", "--why", "Example: fbsim inspect ",
 )
 # Of the blocks of CYCLE, S starts once, and C is started and never stopped. A trace to 0 has no tick of the cycle.
 COVERED_TO_8 = b"""\
@@ -272,9 +281,9 @@ states 0 of 0, transitions 0 of 0, algorithms 0 of 0, events 0 of 0, ports 2 of 
 """
 COVERED_TO_0 = COVERED_TO_8.replace(b"never taken\n", b"never taken\n  event C.EO was never emitted\n")
 HELP_OF_COVERAGE = (
-    "DECL", "declaration of the types", "TRACE", "files with the traces", "--types", "--deploy", "in TOML", "--steps", "limit of steps of the runs", "--cut", "--why", "Example: fbsim coverage ",
+    "DECL", "declaration of the types", "TRACE", "files with the traces", "--types", "--deploy", "in TOML", "--steps", "limit of steps of the runs", "--least", "in percent", "--cut", "--why", "Example: fbsim coverage ",
 )
-HELP_OF_EXPLAIN = ("NAME", "name of the refusal", "E01 to E45", "L01 to L13", "steps, divide or range", "Example: fbsim explain E21")
+HELP_OF_EXPLAIN = ("NAME", "name of the refusal", "E01 to E45", "L01 to L23", "steps, divide or range", "Example: fbsim explain E21")
 HELP_OF_ALL = (
     "run", "writes its trace", "check", "the first fault", "wave", "value change dump", "expect", "Checks rules", "diff", "the same bytes", "draw", "graphviz", "inspect", "inside the blocks", "coverage", "do not cover", "explain",
     "what a refusal or the reason of a stop means", "a millisecond", "Example: fbsim run ",
@@ -287,7 +296,7 @@ WAYS = [["--serial"], *(["--workers", count] for count in ("1", "2", "7", "64"))
 class Call(NamedTuple):
     """A call, by its arguments, and its result. If `out` or `err` is None, it is some text that ends with a line feed. Each of the words
     of `has` is in the output. The call is made in the folder of this example, or in that of FILES. Its standard output and its standard
-    error are pipes that are read to their end, unless they are among OUTPUTS."""
+    error are pipes that are read to their end, unless they are among OUTPUTS, or standard error is a terminal."""
 
     words: list
     status: int
@@ -661,6 +670,143 @@ CALLS += [
     of("expect rules trace --types lamp", 5, err=b"error: the words name no call\n"),
 ]
 
+# Which events of a trace are shown: from a tick on, before a tick, and those that cleared no transition.
+LOSING = (
+    b"FUNCTION_BLOCK T EVENT_INPUT R; END_EVENT EC_STATES A; B; END_STATES EC_TRANSITIONS A TO B := R; END_TRANSITIONS END_FUNCTION_BLOCK\n"
+    b"APPLICATION P FBS S : E_RESTART; C : T; END_FBS EVENT_CONNECTIONS S.COLD TO C.R; END_CONNECTIONS END_APPLICATION\n"
+)
+FILES |= {"losing": LOSING, "losing_trace": b"0 MAIN < S.COLD\n0 MAIN > C.R\n5 MAIN > C.R\nend 8\n"}
+LOST = b"5 MAIN > C.R\n  lost in B\n"
+FROM_3 = b"3 MAIN < C.EO\n  due 6\n6 MAIN < C.EO\n  due 9\nend 8\n"
+CALLS += [
+    of("inspect cycle trace --from 3", 0, out=FROM_3),
+    of("inspect cycle trace --from 1", 0, out=FROM_3),
+    of("inspect cycle trace --to 3", 0, out=b"0 MAIN < S.COLD\n0 MAIN > C.START DT=3\n  due 3\nend 8\n"),
+    of("inspect cycle trace --from 3 --to 6", 0, out=b"3 MAIN < C.EO\n  due 6\nend 8\n"),
+    of("inspect cycle trace --from 6 --to 3", 0, out=b"end 8\n"),
+    of("inspect cycle trace --from 0 --to 1000000000000", 0, out=INSIDE_TO_8),
+    of("inspect cycle trace --from 3 --only S", 0, out=b"end 8\n"),
+    of("inspect cycle trace --lost", 0, out=b"end 8\n"),
+    of("inspect losing losing_trace", 0, out=b"0 MAIN < S.COLD\n0 MAIN > C.R\n  A -> B by R\n" + LOST + b"end 8\n"),
+    of("inspect losing losing_trace --lost", 0, out=LOST + b"end 8\n"),
+    of("inspect losing losing_trace --lost --from 5 --only C", 0, out=LOST + b"end 8\n"),
+    of("inspect losing losing_trace --lost --to 5", 0, out=b"end 8\n"),
+    of("inspect cycle trace --from 1000000000001", 5, err=None),
+    of("inspect cycle trace --to -1", 5, err=None),
+    of("inspect cycle no_trace --from 3", 2, err=b"refused trace line 1\n"),
+]
+
+# How much traces must cover: two of four ports before the cycle's first answer, and all with it.
+CHAIN = b"""APPLICATION A FBS S : E_RESTART; C : E_CYCLE(DT := T#3ms); M : E_MERGE; END_FBS
+EVENT_CONNECTIONS S.COLD TO C.START; C.EO TO M.EI1; END_CONNECTIONS END_APPLICATION
+"""
+FILES |= {
+    "chain": CHAIN,
+    "half_trace": b"0 MAIN < S.COLD\n0 MAIN > C.START DT=3\nend 2\n",
+    "full_trace": b"0 MAIN < S.COLD\n0 MAIN > C.START DT=3\n3 MAIN < C.EO\n3 MAIN > M.EI1\n3 MAIN < M.EO\nend 4\n",
+}
+HALF_COVERED = b"""instance C
+  event EO was never emitted
+instance M
+  event EI1 was never taken
+ports without a connection
+  event C.STOP was never taken
+  event M.EI2 was never taken
+  event M.EO was never emitted
+states 0 of 0, transitions 0 of 0, algorithms 0 of 0, events 0 of 0, ports 2 of 4
+"""
+ALL_COVERED = b"""ports without a connection
+  event C.STOP was never taken
+  event M.EI2 was never taken
+states 0 of 0, transitions 0 of 0, algorithms 0 of 0, events 0 of 0, ports 4 of 4
+"""
+CALLS += [
+    of("coverage chain half_trace", 0, out=HALF_COVERED),
+    of("coverage chain half_trace --least 0", 0, out=HALF_COVERED),
+    of("coverage chain half_trace --least 50", 0, out=HALF_COVERED),
+    of("coverage chain half_trace --least 51", 1, out=HALF_COVERED),
+    of("coverage chain half_trace --least 100", 1, out=HALF_COVERED),
+    of("coverage chain half_trace full_trace --least 100", 0, out=ALL_COVERED),
+    of("coverage chain half_trace --least 51", 3, to="full", err=b"write fault after 0 bytes\n"),
+    of("coverage chain no_trace --least 100", 2, err=b"refused trace line 1\n"),
+    *(of(f"coverage chain half_trace --least {word}", 5, err=None) for word in ("101", "-1", "half")),
+]
+
+# Warnings that are left out, and that are faults. A name of warnings is a number or `all`, and the name of a type or an instance.
+WARNED = (
+    b"FUNCTION_BLOCK T EVENT_INPUT R; END_EVENT EC_STATES A; B; END_STATES EC_TRANSITIONS A TO B := R; END_TRANSITIONS END_FUNCTION_BLOCK\n"
+    b"FUNCTION_BLOCK U EVENT_INPUT R; END_EVENT EC_STATES A; B; END_STATES EC_TRANSITIONS A TO B := R; END_TRANSITIONS END_FUNCTION_BLOCK\n"
+    b"APPLICATION P FBS S : E_RESTART; C : T; D : U; G : E_DELAY; END_FBS\n"
+    b"EVENT_CONNECTIONS S.COLD TO C.R; S.COLD TO D.R; S.COLD TO G.START; END_CONNECTIONS END_APPLICATION\n"
+)
+FILES["warned"] = WARNED
+STAYS_IN_T = b"warned:1:56: L06: block type T: state B: no transition leaves it\n"
+STAYS_IN_U = b"warned:2:56: L06: block type U: state B: no transition leaves it\n"
+UNFED = b"warned:3:48: L02: application P: instance G : E_DELAY, data input DT: it has no source, no parameter and no stimulus\n"
+WARNINGS = STAYS_IN_T + STAYS_IN_U + UNFED
+LINTED = (
+    ("", 0, WARNINGS),
+    ("--allow L06", 0, UNFED),
+    ("--allow l06", 0, UNFED),
+    ("--allow L06:T", 0, STAYS_IN_U + UNFED),
+    ("--allow L06:t", 0, STAYS_IN_U + UNFED),
+    ("--allow L06:T --allow L06:U", 0, UNFED),
+    ("--allow L02:G", 0, STAYS_IN_T + STAYS_IN_U),
+    ("--allow L02:e_delay", 0, STAYS_IN_T + STAYS_IN_U),
+    ("--allow L02:C", 0, WARNINGS),
+    ("--allow L06:G", 0, WARNINGS),
+    ("--allow L07", 0, WARNINGS),
+    ("--allow all", 0, b""),
+    ("--allow ALL:G", 0, STAYS_IN_T + STAYS_IN_U),
+    ("--deny L06", 1, WARNINGS),
+    ("--deny L06:U", 1, WARNINGS),
+    ("--deny L06:C", 0, WARNINGS),
+    ("--deny L07", 0, WARNINGS),
+    ("--deny L07 --deny L02", 1, WARNINGS),
+    ("--deny all", 1, WARNINGS),
+    ("--deny all --allow L02 --allow L06", 0, b""),
+    ("--deny L06 --allow L06:T", 1, STAYS_IN_U + UNFED),
+    ("--deny L06:T --allow L06:T", 0, STAYS_IN_U + UNFED),
+)
+NO_WARNINGS = ("L6", "L00", "L99", "M06", "L06:", "L06T", "L061", "al", "every", "L0x", "Lx6")
+CALLS += [
+    *(of(f"check warned --lint {words}", status, out=b"accepted\n", err=lines) for words, status, lines in LINTED),
+    *(of(f"check warned --lint {option} {name}", 5, err=f"error: no warning is called {name}\n".encode()) for name in NO_WARNINGS for option in ("--allow", "--deny")),
+    *(of(f"check warned {words}", 5, err=b"error: the words name no call\n") for words in ("--allow L06", "--deny L06", "--allow L99", "--allow L06 --deny all")),
+    of("check nowhere --lint --allow L99", 5, err=b"error: no warning is called L99\n"),
+    of("check slip --lint --deny all", 2, err=b"refused E21\n"),
+    of("run cycle --horizon 1 --allow L06", 5, err=None),
+    of("check cycle --lint --deny all", 0, out=b"accepted\n"),
+    of("check warned --lint --deny all", 3, to="full", err=b"write fault after 0 bytes\n"),
+    # A type without instances is a fault of the declaration, and not of a file of block types.
+    of("check cycle --types lamp --lint --deny all", 0, out=b"accepted\n"),
+    of("check lamp_and_cycle --lint --deny L10", 1, out=b"accepted\n", err=b"lamp_and_cycle:1:16: L10: block type LAMP: no network has an instance of it\n"),
+]
+FILES["lamp_and_cycle"] = LAMP + b"\n" + CYCLE
+
+# Where standard error is a terminal, places are printed without --why, and --no-why leaves them out.
+TWICE_PLACED = placed(b"refused E20\n", b"twice:1:32: E20: application A: instance S is given twice\n")
+CALLS += [
+    of("check twice", 2, err=TWICE_PLACED, errors_to="terminal"),
+    of("check twice --why", 2, err=TWICE_PLACED, errors_to="terminal"),
+    of("check twice --no-why", 2, err=b"refused E20\n", errors_to="terminal"),
+    of("check --no-why --why twice", 2, err=b"refused E20\n", errors_to="terminal"),
+    of("check twice --why --no-why", 2, err=b"refused E20\n"),
+    of("check twice --no-why", 2, err=b"refused E20\n"),
+    of("check twice", 2, err=b"refused E20\n"),
+    of("run cycle --horizon 8", 0, out=TO_8, errors_to="terminal"),
+    of("run nowhere --horizon 8", 3, err=b"file fault\ndeclaration nowhere: no file of this name can be read\n", errors_to="terminal"),
+    of("wave cycle nowhere", 3, err=b"file fault\ntrace nowhere: no file of this name can be read\n", errors_to="terminal"),
+    of("inspect cycle nowhere", 3, err=b"file fault\ntrace nowhere: no file of this name can be read\n", errors_to="terminal"),
+    of("coverage cycle nowhere", 3, err=b"file fault\ntrace nowhere: no file of this name can be read\n", errors_to="terminal"),
+    of("expect nowhere trace", 3, err=b"file fault\nrules nowhere: no file of this name can be read\n", errors_to="terminal"),
+    of("diff nowhere trace", 3, err=b"file fault\ntrace nowhere: no file of this name can be read\n", errors_to="terminal"),
+    of("diff nowhere trace --no-why", 3, err=b"file fault\n", errors_to="terminal"),
+    of("draw nowhere", 3, err=b"file fault\n", errors_to="terminal"),
+    of("draw cycle --no-why", 5, err=None),
+    of("explain E99", 5, err=b"error: no refusal or stop is called E99\n", errors_to="terminal"),
+]
+
 # The same calls with other arguments, the files that are read, and the fault that is reported first if there are several.
 CALLS += [
     *(of(words, 2, err=line, given=text) for text, line in REFUSED for words in ("check -", "run - --horizon 5")),
@@ -779,6 +925,9 @@ CALLS += [
     of("coverage cycle trace - --why", 2, err=b"refused trace - line 1\ntrace -: line 1: the trace has no last line\n", given=b""),
     of("coverage twice trace", 2, err=b"refused E20\n"),
     of("coverage cycle nowhere no_trace", 3, err=b"file fault\n"),
+    of("coverage cycle nowhere --why", 3, err=b"file fault\ntrace nowhere: no file of this name can be read\n"),
+    of("coverage cycle trace . --why", 3, err=b"file fault\ntrace .: this is a folder, not a file\n"),
+    of("coverage cycle - - --why", 3, err=b"file fault\ntrace -: standard input can't be read, or was read before\n", given=TO_8),
     of("coverage cycle --deploy nowhere trace", 3, err=b"file fault\n"),
     of("coverage cycle trace --steps 0", 5, err=None),
     of("coverage cycle", 5, err=None),
@@ -806,18 +955,22 @@ CALLS += [
     of("expect rules trace keyed_trace", 0, out=REPORT_OF_TWO),
     of("expect - trace", 0, out=REPORT, given=FILES["rules"]),
     of("expect rules -", 0, out=REPORT, given=TO_8),
-    of("expect rules trace_pipe", 0, out=None, has=("ok 1", "# no line of the trace is of: MAIN > C.START")),
+    of("expect rules trace_pipe", 0, out=None, has=("ok 1 - the cycle answers # SKIP never applied", "# decided 0 times", "# no line of the trace is of: MAIN > C.START")),
     of("expect broken_rules trace", 1, out=BROKEN_REPORT),
+    of("expect rules trace keyed_trace --junit", 0, out=JUNIT_OF_TWO),
+    of("expect broken_rules trace --junit", 1, out=BROKEN_JUNIT),
+    of("expect rules trace_pipe --junit", 0, out=SKIPPED_JUNIT),
+    of("expect rules trace_pipe --junit --strict", 1, out=STRICT_JUNIT),
     of("expect rules cut_trace --cut", 0, out=REPORT),
     of("expect rules trace --decl cycle", 0, out=REPORT),
     of("expect rules trace --decl cycle --deploy cycle_plan", 0, out=REPORT),
     # Rules are refused first, then the declaration and the deployment, then names that these do not have, and then traces.
     of("expect no_plan cut_trace --decl twice", 2, err=b"refused E41\n"),
     of("expect cut_plan cut_trace --why", 2, err=b"refused E41\nrules: line 2, column 5: this is no TOML\n"),
-    of("expect no_pattern cut_trace --decl twice --why", 2, err=b"refused E43\nrules: 1st rule: after: \"> C.START\" is no pattern\n"),
+    of("expect no_pattern cut_trace --decl twice --why", 2, err=placed(b"refused E43\n", b"no_pattern:3:1: E43: 1st rule, \"the cycle answers\": after: \"> C.START\" is no pattern: a pattern is a resource, a sign, a port and conditions, with blanks between\n")),
     of("expect many_rules cut_trace --why", 2, err=b"refused E40\nrules: there are more than 1,000 rules\n"),
     of("expect rules cut_trace --decl twice --why", 2, err=placed(b"refused E20\n", b"twice:1:32: E20: application A: instance S is given twice\n")),
-    of("expect rules cut_trace --decl merge --why", 2, err=b"refused E45\nrules: 1st rule: after: the declaration has no port with this pattern\n"),
+    of("expect rules cut_trace --decl merge --why", 2, err=placed(b"refused E45\n", b"rules:3:1: E45: 1st rule, \"the cycle answers\": after: \"MAIN > C.START\": there is no instance C (the nearest name is M)\n")),
     of("expect nowhere trace --decl nowhere --why", 3, err=b"file fault\nrules nowhere: no file of this name can be read\n"),
     of("expect rules trace --decl nowhere --why", 3, err=b"file fault\ndeclaration nowhere: no file of this name can be read\n"),
     of("expect rules trace --decl cycle --deploy nowhere --why", 3, err=b"file fault\ndeployment nowhere: no file of this name can be read\n"),
@@ -845,6 +998,10 @@ CALLS += [
     of("diff - trace", 0, given=TO_8),
     of("diff - -", 3, err=b"file fault\n", given=TO_8),
     of("diff nowhere trace", 3, err=b"file fault\n"),
+    of("diff nowhere trace --why", 3, err=b"file fault\ntrace nowhere: no file of this name can be read\n"),
+    of("diff trace . --why", 3, err=b"file fault\ntrace .: this is a folder, not a file\n"),
+    of("diff - - --why", 3, err=b"file fault\ntrace -: standard input can't be read, or was read before\n", given=TO_8),
+    of("diff trace keyed_trace --why", 1, out=b"line 1 differs in: key\ntrace, tick 0: 0 MAIN < S.COLD\nkeyed_trace, tick 0: 1 0 0 0 MAIN < S.COLD\n"),
     of("diff trace", 5, err=None),
 ]
 
@@ -886,6 +1043,20 @@ def output(how, room):
     return open("/dev/full", "wb")
 
 
+def content_of_terminal(main):
+    """Returns what was written to a terminal, of which this is the main side and the other one is closed."""
+    parts = []
+    while True:
+        try:
+            part = os.read(main, 65536)
+        except OSError:
+            part = b""
+        if not part:
+            os.close(main)
+            return b"".join(parts)
+        parts.append(part)
+
+
 def feed(pipe, text):
     """Writes a text into a named pipe when somebody reads it."""
     try:
@@ -912,7 +1083,13 @@ def make(call, words, room):
     folder = f"{room}/files/{call.example}"
     for name in PIPES.keys() & set(call.words):
         threading.Thread(target=feed, args=(f"{folder}/{name}", PIPES[name]), daemon=True).start()
-    ends = [None if how == "pipe" else output(how, room) for how in (call.to, call.errors_to)]
+    main = None
+    if call.errors_to == "terminal":
+        main, side = pty.openpty()
+        tty.setraw(side)
+        ends = [None, open(side, "wb")]
+    else:
+        ends = [None if how == "pipe" else output(how, room) for how in (call.to, call.errors_to)]
     out, err = (subprocess.PIPE if it is None else it for it in ends)
     how = {"stdout": out, "stderr": err, "cwd": folder, "preexec_fn": lambda: prepare(call)}
     ran = subprocess.run([*words, *call.words], input=call.given, timeout=SECONDS, **how)
@@ -922,12 +1099,14 @@ def make(call, words, room):
     for it in ends:
         if it is not None:
             it.close()
+    if main is not None:
+        errors = content_of_terminal(main)
     wrong = []
     if ran.returncode != call.status:
         wrong.append(f"the status is {ran.returncode}, and not {call.status}")
     if not is_as_expected(wrote, call.out) or not all(it.encode() in wrote for it in call.has):
         wrong.append(f"it wrote {shown(wrote)}")
-    if call.errors_to == "pipe" and not is_as_expected(errors, call.err):
+    if call.errors_to in ("pipe", "terminal") and not is_as_expected(errors, call.err):
         wrong.append(f"standard error had {shown(errors)}")
     return wrong
 

@@ -16,7 +16,7 @@ one. A group has
 - `horizon`, `steps` and `form`: the numbers of a `run`; the other commands have none
 - `answer`: `accepted`, `same`, a refusal as the program prints it (`E20`, `E03 line 4`, `trace line 3`), or a trace, a dump, a report
   or a difference, to the byte. The text that the program gets on standard input is called `-`, the first one of `diff` `FIRST`, `block_types` and `more_block_types`
-  `TYPES` and `MORE`, and the deployment `DEPLOY`
+  `TYPES` and `MORE`, the deployment `DEPLOY`, and the rules `RULES`
 - `why`: the line after the refusal, or after a run that stops, for `--why`. The source line with a mark follows a line that begins with a place
 - `lint`: the warnings about what is accepted, for `--lint`
 - `rows`: one case each; a group without rows is one case. A row is the list of its values by `columns`, by default `text` and
@@ -63,7 +63,7 @@ WAYS = {
 INPUT = {"expect": "trace", "diff": "second"}
 FILES = {"block_types": ["--types"], "more_block_types": ["--types"], "deployment": ["--deploy"], "stimuli": ["--stim"], "trace": [], "second_trace": []}
 FILES_OF = {"expect": {"rules": [], "declaration": ["--decl"], "deployment": ["--deploy"]}, "diff": {"first": []}}
-CALLED = {"block_types": b"TYPES", "more_block_types": b"MORE", "deployment": b"DEPLOY", "stimuli": b"STIM", "trace": b"TRACE", "second_trace": b"SECOND"}
+CALLED = {"rules": b"RULES", "block_types": b"TYPES", "more_block_types": b"MORE", "deployment": b"DEPLOY", "stimuli": b"STIM", "trace": b"TRACE", "second_trace": b"SECOND"}
 NUMBERS = {"horizon": "--horizon", "steps": "--steps", "form": "--trace"}
 FIELDS = {"declaration", "answer", "why", "lint", "rules", "options", "first", "second", *FILES, *NUMBERS}
 OF_GROUP = {"name", "command", "rows", "columns", "within", "text", "bytes", *FIELDS}

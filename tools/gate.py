@@ -237,6 +237,8 @@ def call_after_each_run():
         yield state_waves.make_all(made)
         yield traces.try_all(made)
         yield cases.run_all(made)
+        # (the reader of JUnit is a package of the system's Python)
+        yield subprocess.run([python_package.PYTHON, "-B", "tools/junit_reports.py", made]).returncode == 0
         yield rings.try_all(made)
         yield drawn.try_all(made)
         yield drawn_types.try_all(made)
