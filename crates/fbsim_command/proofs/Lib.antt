@@ -9,6 +9,7 @@ mod Naming
 mod Declaring
 mod Parting
 mod Drawing
+mod Talking
 mod Explaining
 mod Checking
 mod NotedLines

@@ -33,11 +33,13 @@ use Rattle.fbsim_command.specs.Covering.{ReportsCoverage}
 use Rattle.fbsim_command.specs.Drawing.{Draws}
 use Rattle.fbsim_command.specs.Expecting.{Expects}
 use Rattle.fbsim_command.specs.Inspecting.{ShowsInsides}
+use Rattle.fbsim_command.specs.Sessions.{TalksIn}
 use Rattle.fbsim_line.specs.declared.bench_line.Diff.{Diff}
 use Rattle.fbsim_line.specs.declared.bench_line.Expect.{Expect}
 use Rattle.fbsim_line.specs.declared.coverage_line.Coverage.{Coverage}
 use Rattle.fbsim_line.specs.declared.draw_line.Draw.{Draw}
 use Rattle.fbsim_line.specs.declared.inspect_line.Inspect.{Inspect}
+use Rattle.fbsim_line.specs.declared.session_line.SessionCall.{SessionCall}
 use Rattle.fbsim_line.specs.declared.levels.Levels.{Levels}
 use Rattle.fbsim_command.specs.Selecting.{IsSorting, IsUnsorted}
 use Rattle.fbsim_command.specs.declared.failure.Failure.{Failure}
@@ -231,8 +233,8 @@ Explains words old new (Err (RefusedTrace text)) = ⊥
 abbrev pub names_of : Vec (Bor Text) → List Text
 names_of v = map (λ n. n.now) v.items
 
--- The program does what the words call for: `run` or `check`, `wave`, `explain`, `expect`, `diff`, `draw`, `inspect` or
--- `coverage`. Or they name no call.
+-- The program does what the words call for: `run` or `check`, `wave`, `explain`, `expect`, `diff`, `draw`, `inspect`,
+-- `coverage` or `session`. Or they name no call.
 abbrev pub Does : {S : Type 0} → Reading S → Opening S → (from to : S) → List Text → (old new : Held) → End → (reports : Text) → (note : Option Text) → Type 0
 Does reads opens from to words old new end reports note =
     ((c : Task) × (types : Vec (Bor Text)) × (l : Levels) × AreCall words (call.Task c types l) × IsTaken words × SortsAndPerforms reads from to (names_of types) c l old new end reports note)
@@ -243,4 +245,5 @@ Does reads opens from to words old new end reports note =
     ⊎ ((d : Draw) × (types : Vec (Bor Text)) × AreCall words (call.Draw d types) × IsTaken words × Draws reads from to (names_of types) d old new end × (reports ≡ []) × (note ≡ None))
     ⊎ ((x : Inspect) × (types : Vec (Bor Text)) × AreCall words (call.Inspect x types) × IsTaken words × ShowsInsides reads opens from to (names_of types) x old new end note × (reports ≡ []))
     ⊎ ((x : Coverage) × (types : Vec (Bor Text)) × AreCall words (call.Coverage x types) × IsTaken words × ReportsCoverage reads opens from to (names_of types) x old new end note × (reports ≡ []))
+    ⊎ ((x : SessionCall) × (types : Vec (Bor Text)) × AreCall words (call.Session x types) × IsTaken words × TalksIn reads opens from to (names_of types) x old new end × (reports ≡ []) × (note ≡ None))
     ⊎ (Explains words old new end × ReportsNoMore from to reports note)

@@ -22,5 +22,6 @@ pub mod Selecting
 pub mod WarningLines
 pub mod Stops
 pub mod Covering
+pub mod Sessions
 pub mod Command
 pub mod OfSystem

@@ -8,9 +8,9 @@
 //! `texts`, what is read, with `join`, a declaration in several files, and `own_lines`, how its refusals name a file
 //! and a line, which agree by `laws`; `lint`, with `call_names`, `selectors` and `warning_lines`, the lines of warnings;
 //! `located_stop`, where a run stops; `wave`, with `state_dump` and `line_notes`; `draw`; `inspect` and `coverage`,
-//! with `inside_notes`; `expect`, rules and traces, with `known` and `possible`, whether what is declared has an event
-//! for a pattern, and `unknown_pattern` and `near`, why it has none; `output`; `failure`, `notes`, `input_notes`,
-//! `rules_notes` and `statuses`, how it ends.
+//! with `inside_notes`; `session`, commands and their answers; `expect`, rules and traces, with `known` and `possible`,
+//! whether what is declared has an event for a pattern, and `unknown_pattern` and `near`, why it has none; `output`;
+//! `failure`, `notes`, `input_notes`, `rules_notes` and `statuses`, how it ends.
 #![tactic(auto)]
 
 pub mod call_names;
@@ -36,6 +36,7 @@ mod possible;
 pub mod program;
 mod rules_notes;
 pub mod selectors;
+mod session;
 pub mod sources;
 mod state_dump;
 pub mod statuses;
@@ -46,8 +47,8 @@ mod wave;
 
 pub use failure::{Failure, RefusalLine};
 pub use fbsim_line::{
-    Action, Call, Coverage, Diff, Draw, Expect, Inspect, Levels, LineFault, Task, Wave, parse,
-    words_on_terminal,
+    Action, Call, Coverage, Diff, Draw, Expect, Inspect, Levels, LineFault, SessionCall, Task,
+    Wave, parse, words_on_terminal,
 };
 pub use files::{Files, Opened};
 pub use program::{command, command_exit, command_with_clock};

@@ -25,6 +25,7 @@ use crate::notes::{note_of, note_of_file};
 use crate::output::write_text;
 use crate::own_lines::end_with;
 use crate::selectors::{Sorting, sorting_of};
+use crate::session::talk_to;
 use crate::sources::{Source, Streams};
 use crate::statuses::{Done, ExitStatus, status};
 use crate::texts::{Texts, read_files};
@@ -336,6 +337,7 @@ fn answer_to<
         Call::Coverage(call, types) => {
             ended_with(show_coverage(alloc, types.as_slice(), call, source, out))
         }
+        Call::Session(call, types) => ended(talk_to(alloc, types.as_slice(), call, source, out)),
     }
 }
 

@@ -97,6 +97,23 @@ pub(crate) fn files_of<'a>(declaration: &'a str, deployment: Option<&'a str>, wh
     }
 }
 
+/// The check of a declaration with its deployment and stimuli.
+pub(crate) fn run_files_of<'a>(
+    declaration: &'a str,
+    deployment: Option<&'a str>,
+    stimuli: Option<&'a str>,
+) -> Task<'a>
+    ensures { result ≡ record { action = Action.Check false; declaration = declaration.entry; deploy = deployment.entry; stimuli = stimuli.entry; why = false } }
+{
+    Task {
+        action: Action::Check { lint: false },
+        declaration,
+        deploy: deployment,
+        stimuli,
+        why: false,
+    }
+}
+
 /// Whether traces may be cut off.
 pub(crate) fn cut_of(is_cut: bool) -> Cut
     ensures { result ≡ may_be_cut is_cut }

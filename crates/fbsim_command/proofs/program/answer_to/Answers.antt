@@ -6,6 +6,7 @@ use Rattle.fbsim_command.specs.Command.{Does, Performs}
 use Rattle.fbsim_command.specs.Drawing.{Draws}
 use Rattle.fbsim_command.specs.Covering.{ReportsCoverage}
 use Rattle.fbsim_command.specs.Inspecting.{ShowsInsides}
+use Rattle.fbsim_command.specs.Sessions.{TalksIn}
 use Rattle.fbsim_command.specs.Showing.{Shows}
 use Rattle.fbsim_command.specs.Outcomes.{End}
 use Rattle.fbsim_command.proofs.Reporting.{ended_so, noted_so}
@@ -88,3 +89,14 @@ returns-in-Coverage g c = λ words asked taken.
     noted_so c.ended_with-in-Coverage.result _ c.ended_with-in-Coverage.ensures refl (g.E.Write.contents c.args.err.now)
     (λ (end : End) (reports : Text) (note : Option Text). Does g.S.Source.gives g.S.Streams.opens c.args.source.now c.show_coverage.new.source words (g.W.Write.contents c.args.out.now) (g.W.Write.contents c.show_coverage.new.out) end reports note)
     (inr (inr (inr (inr (inr (inr (inr (inl (c.in-Coverage.call, c.in-Coverage.types, here, taken, shown, refl)))))))))
+
+pub returns-in-Session : goal.returns-in-Session
+returns-in-Session g c = λ words asked taken.
+    let old = g.W.Write.contents c.args.out.now in
+    let new = g.W.Write.contents c.talk_to.new.out in
+    let here = subst (λ (r : Call). AreCall words r) c.in-Session.is asked in
+    let talked = subst (λ (ns : List (Bor Text)). TalksIn g.S.Source.gives g.S.Streams.opens c.args.source.now c.talk_to.new.source (map (λ (n : Bor Text). n.now) ns) c.in-Session.call old new c.talk_to.result)
+    c.as_slice-in-Session.ensures.value c.talk_to.ensures in
+    ended_so c.ended-in-Session.result c.talk_to.result c.ended-in-Session.ensures (g.E.Write.contents c.args.err.now)
+    (λ (end : End) (reports : Text) (note : Option Text). Does g.S.Source.gives g.S.Streams.opens c.args.source.now c.talk_to.new.source words old new end reports note)
+    (inr (inr (inr (inr (inr (inr (inr (inr (inl (c.in-Session.call, c.in-Session.types, here, taken, talked, refl, refl))))))))))

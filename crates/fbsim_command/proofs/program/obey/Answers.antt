@@ -14,4 +14,4 @@ returns-in-Err g c =
     let source = c.args.source.now in
     ended_so c.ended.result c.end_without_call.result c.ended.ensures (g.E.Write.contents c.args.err.now)
     (λ (end : End) (reports : Text) (note : Option Text). Does g.S.Source.gives g.S.Streams.opens source source words (g.W.Write.contents c.args.out.now) (g.W.Write.contents c.end_without_call.new.out) end reports note)
-    (inr (inr (inr (inr (inr (inr (inr (inr (c.end_without_call.ensures words c.in-Err.ensures.help c.in-Err.ensures.none, (refl, refl, refl))))))))))
+    (inr (inr (inr (inr (inr (inr (inr (inr (inr (c.end_without_call.ensures words c.in-Err.ensures.help c.in-Err.ensures.none, (refl, refl, refl)))))))))))
