@@ -8,11 +8,12 @@ what. None comes from the program's output.
 A file has named texts under `[text]`, and groups of cases, `[[group]]`. A group takes what it lacks from `[head]`, if the file has
 one. A group has
 - `name`: what its cases show
-- `command`: `check` (the default), `run`, `wave`, `draw`, `expect`, `diff`, `inspect` or `coverage`
+- `command`: `check` (the default), `run`, `wave`, `draw`, `expect`, `diff`, `inspect`, `coverage` or `session`
 - `declaration`, `deployment`, `stimuli` and `trace`: the texts that the program reads; the last three are optional
 - `block_types` and `more_block_types`: block types in files of their own, which are read before the declaration, in this order; both are optional
 - `options`: further words
 - `rules` and `trace` of `expect`, with a `declaration` and a `deployment` if its names must be known; `first` and `second` of `diff`
+- `commands` of `session`: the text on standard input; its answer is all that the session writes
 - `horizon`, `steps` and `form`: the numbers of a `run`; the other commands have none
 - `answer`: `accepted`, `same`, a refusal as the program prints it (`E20`, `E03 line 4`, `trace line 3`), or a trace, a dump, a report
   or a difference, to the byte. The text that the program gets on standard input is called `-`, the first one of `diff` `FIRST`, `block_types` and `more_block_types`
@@ -58,14 +59,21 @@ WAYS = {
     "diff": [[]],
     "inspect": [[]],
     "coverage": [[]],
+    "session": [[]],
 }
 # The text of a case that is given on standard input, and the others with the words before each.
-INPUT = {"expect": "trace", "diff": "second"}
+INPUT = {"expect": "trace", "diff": "second", "session": "commands"}
 FILES = {"block_types": ["--types"], "more_block_types": ["--types"], "deployment": ["--deploy"], "stimuli": ["--stim"], "trace": [], "second_trace": []}
-FILES_OF = {"expect": {"rules": [], "declaration": ["--decl"], "deployment": ["--deploy"]}, "diff": {"first": []}}
+FILES_OF = {
+    "expect": {"rules": [], "declaration": ["--decl"], "deployment": ["--deploy"]},
+    "diff": {"first": []},
+    "session": {"declaration": [], "block_types": ["--types"], "deployment": ["--deploy"], "stimuli": ["--stim"]},
+}
+# The commands with a file that is standard input.
+READERS = {"expect", "diff"}
 CALLED = {"rules": b"RULES", "block_types": b"TYPES", "more_block_types": b"MORE", "deployment": b"DEPLOY", "stimuli": b"STIM", "trace": b"TRACE", "second_trace": b"SECOND"}
 NUMBERS = {"horizon": "--horizon", "steps": "--steps", "form": "--trace"}
-FIELDS = {"declaration", "answer", "why", "lint", "rules", "options", "first", "second", *FILES, *NUMBERS}
+FIELDS = {"declaration", "commands", "answer", "why", "lint", "rules", "options", "first", "second", *FILES, *NUMBERS}
 OF_GROUP = {"name", "command", "rows", "columns", "within", "text", "bytes", *FIELDS}
 REFUSAL = re.compile(r"E[0-4][0-9]|E03 ((TYPES|MORE|-) )?line [1-9][0-9]*|trace ((-|TRACE|SECOND) )?line [1-9][0-9]*")
 NAMED = re.compile(r"\$\{(\w+)\}")
@@ -151,7 +159,8 @@ def expected_result(case):
         return int(b"\nnot ok " in answer), answer, b""
     if answer.startswith(b"line "):
         return 1, answer, b""
-    is_stop = case.command == "run" and answer.split(b"\n")[-2].startswith(b"stop ")
+    stops = {"run": answer.split(b"\n")[-2].startswith(b"stop "), "session": b"\nstop " in b"\n" + answer}
+    is_stop = stops.get(case.command, False)
     return int(is_stop), answer, with_source(fields.get("why", b""), texts)
 
 
@@ -178,7 +187,7 @@ def words_of(room, case):
     """Returns the words of the call, and writes the files that they name."""
     files = FILES_OF.get(case.command, FILES)
     named = [[*files[it], kept_text(room, case.fields[it])] for it in files if it in case.fields]
-    words = [case.command, *(["-"] if files is FILES else []), *sum(named, []), *(["-"] if files is not FILES else [])]
+    words = [case.command, *(["-"] if files is FILES else []), *sum(named, []), *(["-"] if case.command in READERS else [])]
     for field in [it for it in NUMBERS if it in case.fields and case.command == "run"]:
         words += [NUMBERS[field], case.fields[field].decode()]
     return words + case.fields.get("options", b"").decode().split() + ["--why"] * ("why" in case.fields) + ["--lint"] * ("lint" in case.fields)

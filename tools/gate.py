@@ -6,7 +6,7 @@ First it installs the system packages of tools/system_packages.txt that are miss
 
 - pages: each example's page explains its trace, docs/FORMATS.md shows the explanations of the refusals, and what the documents name
   exists (tools/documents.py); NOTICE names each library of the program with its licence (tools/notice.py); the traces of the examples
-  are those of a second simulator (tools/interpreter.py) and keep the rules of their page (tools/bottling.py); the syntax files of
+  and the stored sessions are those of a second simulator (tools/interpreter.py, tools/second_session.py), and they keep the rules of their page (tools/bottling.py); the syntax files of
   editors/ colour declarations right (tools/editors.py)
 - tools: those that compare figures of pages and try stored cases and wrong implementations distinguish right from wrong
   (tools/figures_test.py, tools/cases_test.py, tools/must_fail_test.py)
@@ -17,7 +17,7 @@ First it installs the system packages of tools/system_packages.txt that are miss
   (tools/slips.py), ./simulate (tools/launcher.py), the packages (tools/packages.py),
   waveforms of the examples (tools/waves.py), graphs of declarations (tools/graphs.py), what happens inside traces (tools/insides.py),
   waveforms with it (tools/state_waves.py), texts that are no traces (tools/traces.py), the stored cases of cases/ (tools/cases.py),
-  rings of resources (tools/rings.py), random systems (tools/drawn.py), random types (tools/drawn_types.py), where they stop
+  rings of resources (tools/rings.py), sessions (tools/sessions.py), random systems (tools/drawn.py), random types (tools/drawn_types.py), where they stop
   (tools/stops.py), each token at each place of a declaration (tools/expected.py), types with more events than 16 bits can number
   (tools/wide.py), outputs that take little and readers that fail (tools/narrow.py), texts that are cut or changed in one byte
   (tools/hostile.py), the Python package with docs/PYTHON.md (tools/python_package.py), and each request for memory refused
@@ -68,6 +68,8 @@ import pages
 import python_package
 import refuse
 import rings
+import second_session
+import sessions
 import slips
 import state_waves
 import stops
@@ -240,6 +242,7 @@ def call_after_each_run():
         # (the reader of JUnit is a package of the system's Python)
         yield subprocess.run([python_package.PYTHON, "-B", "tools/junit_reports.py", made]).returncode == 0
         yield rings.try_all(made)
+        yield sessions.try_all(made)
         yield drawn.try_all(made)
         yield drawn_types.try_all(made)
         yield stops.try_all(made)
@@ -353,7 +356,7 @@ def main(words):
     if not system_packages.set_up():
         print("0 passed, 1 failed")
         return 1
-    failed = explained.main([]) or documents.main() or notice.main() or bottling.main() or interpreter.main([]) or editors.main()
+    failed = explained.main([]) or documents.main() or notice.main() or bottling.main() or interpreter.main([]) or second_session.main() or editors.main()
     if subprocess.run(["examples/check"]).returncode or failed or cases_test.main() or figures_test.main():
         print("0 passed, 1 failed")
         return 1

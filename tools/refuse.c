@@ -47,6 +47,17 @@ static void lead(int output, const char *name, long number) {
     close(file);
 }
 
+// Has standard input of this copy come from the beginning of a file, if the setting REFUSE_INPUT names one.
+static void begin_input(void) {
+    const char *path = getenv("REFUSE_INPUT");
+    if (!path)
+        return;
+    int file = open(path, 0);
+    if (file < 0 || dup2(file, 0) < 0)
+        _exit(CANNOT);
+    close(file);
+}
+
 __attribute__((constructor)) static void begin(void) {
     long first = number_of("REFUSE_FIRST"), last = number_of("REFUSE_LAST");
     has_refused = mmap(0, sizeof(int), READ_AND_WRITE, SHARED_MEMORY, -1, 0);
@@ -56,6 +67,7 @@ __attribute__((constructor)) static void begin(void) {
         *has_refused = 0;
         int copy = fork(), status;
         if (copy == 0) {
+            begin_input();
             lead(1, "out", number);
             lead(2, "err", number);
             alarm(LONGEST);

@@ -167,6 +167,13 @@ count = "* < *"
 most = 1
 """
 
+# The commands of a session of these two resources, each of them at least once, with errors of each kind.
+SESSION = "".join(
+    f"{it}\n" for it in (
+        "help", "peek", "give 3 S.START DT=7", "give 3 S.STOP", "give x S.STOP", "give 3 S", "give 2000000000000 S.STOP", "give 4 X.STOP", "break * > M.*",
+        "break * < *.EO DT>", "until 2", "give 1 S.STOP", "show S", "next", "until 20", "show M", "clear 1", "clear 1", "give 22 S.START", "go", "until 30", "end 40")
+)  # fmt: skip
+
 
 def ends_of(rounds):
     """The number of bytes that are written before the first round, and after each round. The last line, which ends the run, is left out."""
@@ -180,13 +187,14 @@ def ends_of(rounds):
 class Refusals:
     """Runs of one program with these arguments, with a request refused."""
 
-    def __init__(self, room, words, memory, ends=None):
+    def __init__(self, room, words, memory, ends=None, given=None):
         self.room, self.words, self.memory, self.ends = room, words, memory, ends
+        self.settings = [] if given is None else [f"REFUSE_INPUT={given}"]
 
     def runs(self, numbers):
         """Runs it once for each of these numbers, which follow each other, with the request of that number refused, if there is one. Returns
         of each run the number, the status, the output, and whether a request was refused."""
-        settings = [self.room.before("refuse"), f"REFUSE_FIRST={numbers[0]}", f"REFUSE_LAST={numbers[-1]}"]
+        settings = [self.room.before("refuse"), f"REFUSE_FIRST={numbers[0]}", f"REFUSE_LAST={numbers[-1]}", *self.settings]
         ran = self.room.call(self.words, settings=settings, seconds=SECONDS * (len(numbers) + 1))
         if ran.returncode:
             rtlib.stop(f"the runs with a request refused could not be made: status {ran.returncode}, {ran.stderr[:300]!r}")
@@ -271,10 +279,22 @@ def try_command(program, command, it):
         return tell(name, *refusals.faults(status, output))
 
 
+def try_session(program):
+    """Refuses each request of a session, and returns whether there were no faults."""
+    name, texts = f"{PROGRAM}, a session", {"d.iec": application("S : E_DELAY(DT := T#4ms); M : E_MERGE;", "S.EO TO M.EI1;"), "commands": SESSION}
+    texts["d.toml"] = resources(("R1", "'S'"), ("R2", "'M'")) + link("R1", "R2", 2)
+    with Room(program, {name: text.encode() for name, text in texts.items()}) as room:
+        refusals = Refusals(room, ["session", "d.iec", "--deploy", "d.toml"], OUT_OF_MEMORY, given="commands")
+        [(_, status, output, _)] = refusals.runs([0])
+        if status or not output.endswith(b"end 40\n"):
+            return tell(name, [f"with memory: status {status}, {output[:300]!r}"], 0)
+        return tell(name, *refusals.faults(status, output))
+
+
 def try_all(program):
-    """Does this for all of RUNS in each way and for all COMMANDS, and returns whether there were no faults."""
+    """Does this for all of RUNS in each way, for all COMMANDS and for a session, and returns whether there were no faults."""
     runs = [try_run(program, it, way) for it in RUNS for way in WAYS]
-    return all(runs + [try_command(program, command, it) for command in COMMANDS for it in TRACED])
+    return all(runs + [try_command(program, command, it) for command in COMMANDS for it in TRACED] + [try_session(program)])
 
 
 def try_alone(program, words, memory):
