@@ -1,9 +1,6 @@
-"""Benches in pytest, sweeps and figures for applications of IEC 61499, by the simulator `fbsim`.
+"""Benches in pytest, sweeps and figures for applications of IEC 61499. All traces come from the simulator `fbsim`."""
 
-The package computes no simulation. Every trace comes from the program, which `find_program` finds.
-"""
-
-from fbsim.application import Application, Stream
+from fbsim.application import Application, Session, Stream
 from fbsim.faults import (
     Fault, FileFault, InputFault, Location, OutOfMemory, ProgramFault, ProgramMissing, Refused,
     RulesBroken, SequenceBroken, Stop, Stopped, WriteFault
@@ -17,8 +14,8 @@ from fbsim.trace import Line, Lines, Report, Signal, Trace, Verdict
 __version__ = "1.2.0"
 
 __all__ = [
-    "Application", "Fault", "FileFault", "InputFault", "Jitter", "Latencies", "Line", "Lines",
-    "Location", "OutOfMemory", "Pattern", "ProgramFault", "ProgramMissing", "Refused", "Report", "RulesBroken",
-    "SequenceBroken", "Signal", "Stop", "Stopped", "Stream", "Sweep", "Trace", "Variant", "Verdict", "WriteFault",
+    "Application", "Fault", "FileFault", "InputFault", "Jitter", "Latencies", "Line", "Lines", "Location",
+    "OutOfMemory", "Pattern", "ProgramFault", "ProgramMissing", "Refused", "Report", "RulesBroken", "SequenceBroken",
+    "Session", "Signal", "Stop", "Stopped", "Stream", "Sweep", "Trace", "Variant", "Verdict", "WriteFault",
     "check_sequence", "find_program", "jitter"
 ]

@@ -9,10 +9,11 @@ import subprocess
 import tempfile
 import weakref
 from collections.abc import Iterable, Iterator, Mapping, Sequence
-from dataclasses import dataclass
-from typing import TYPE_CHECKING
+from contextlib import contextmanager, suppress
+from dataclasses import dataclass, field
+from typing import IO, TYPE_CHECKING, Any
 
-from fbsim.faults import InputFault, Stop, Stopped, fault_of
+from fbsim.faults import InputFault, Location, Refused, Stop, Stopped, fault_of
 from fbsim.program import call, find_program
 from fbsim.texts import constant
 from fbsim.trace import Line, Lines, Trace, Value, ending, lines_of
@@ -42,6 +43,25 @@ def remove_own(path: str, owner: int) -> None:
     """Removes a temporary file, but not in a process that was forked from the one that made it."""
     if os.getpid() == owner and os.path.exists(path):
         os.remove(path)
+
+
+@contextmanager
+def started(words: Sequence[str], given: IO[bytes] | int) -> Iterator[tuple[subprocess.Popen[str], IO[str]]]:
+    """Starts the program, with what it says on standard error, and raises the fault by which it ends."""
+    with tempfile.TemporaryFile("w+", errors="replace") as said:
+        how: dict[str, Any] = {"stdout": subprocess.PIPE, "stderr": said, "encoding": "ascii", "errors": "replace"}
+        process = subprocess.Popen([find_program(), *words], stdin=given, **how)
+        try:
+            with suppress(BrokenPipeError):  # (it has ended, and says why)
+                yield process, said
+        except BaseException:
+            process.kill()
+            raise
+        finally:
+            process.communicate()
+        said.seek(0)
+        if process.returncode not in (0, 1):
+            raise fault_of(process.returncode, said.read())
 
 
 @dataclass(frozen=True)
@@ -100,12 +120,22 @@ class Application:
         self, stimuli: Stimuli = None, *, horizon: int, steps: int | None = None, workers: int | None = None,
         stop: bool = False, keys: bool = False
     ) -> Stream:
-        """Runs the application, and returns its lines as they come, to be read once.
-
-        No file has them, so the trace may be of any length. Faults, and a stop, are raised by what reads the lines.
-        """
+        """Runs the application, and returns its lines as they come, to be read once. Reading them raises its faults."""
         options = {"horizon": horizon, "steps": steps, "workers": workers, "trace": 2 if keys else None}
         return Stream(*self.call_words("run", stimuli, options), stop)
+
+    @contextmanager
+    def session(self, stimuli: Stimuli = None, *, steps: int | None = None) -> Iterator[Session]:
+        """Starts a run that goes on by calls: `with app.session() as s: s.give(..); s.until(..); s.show("GATE")`."""
+        words = ["session", *self.words] + ([] if steps is None else ["--steps", str(steps)])
+        if isinstance(stimuli, (str, os.PathLike)):
+            words, stimuli = [*words, "--stim", os.fspath(stimuli)], ()
+        with started(words, subprocess.PIPE) as (process, _):
+            made = Session(process)
+            made.ask("peek")  # (the rows of a file come before the answer)
+            for tick, event, *values in stimuli or ():
+                made.give(tick, event, *values)
+            yield made
 
     def sweep(
         self, parameters: Mapping[str, Iterable[object]], stimuli: Stimuli = None, *, horizon: int,
@@ -136,24 +166,59 @@ class Stream(Lines):
         if self.was_read:
             raise InputFault("the lines of a stream are read once: use run, whose trace is read any number of times")
         self.was_read = True
-        with tempfile.TemporaryFile() as given, tempfile.TemporaryFile() as said:
+        with tempfile.TemporaryFile() as given:
             given.write(self.given.encode())
             given.seek(0)
-            run = subprocess.Popen([find_program(), *self.words], stdin=given, stdout=subprocess.PIPE, stderr=said)
-            try:
-                with io.TextIOWrapper(run.stdout, "ascii", "replace", "\n") as texts:  # type: ignore[arg-type]
-                    last = yield from lines_of(texts)
-            except BaseException:
-                # (nobody reads on)
-                run.kill()
-                raise
-            finally:
+            with started(self.words, given) as (run, said):
+                last = yield from lines_of(iter(run.stdout or ()))
                 run.wait()
-            said.seek(0)
-            text = said.read().decode(errors="replace")
-        if run.returncode not in (0, 1):
-            raise fault_of(run.returncode, text)
+                said.seek(0)
+                where = said.read().rstrip()
         self.end, stop = ending(last)
-        self.stop = stop and stop._replace(where=text.rstrip())
+        self.stop = stop and stop._replace(where=where)
         if self.stop and not self.may_stop:
             raise Stopped(self.stop)
+
+
+@dataclass
+class Session:
+    """A run that goes on by calls: the stimuli that it took, its last answer, as `at 800`, and why it stopped."""
+    process: subprocess.Popen[str]
+    rows: list[Row] = field(default_factory=list)
+    answer: str = ""
+    stop: Stop | None = None
+
+    def ask(self, command: str) -> list[Line]:
+        """Sends any command, as `next` or `break * < BEAT.EO`, and returns the lines that it gives."""
+        print(command, file=self.process.stdin, flush=True)
+        texts: list[str] = []
+        for text in self.process.stdout or ():
+            is_row, is_answer = text.startswith("= row "), text.startswith(("= ", "! ", "stop ", "end "))
+            if is_row:
+                tick, port, words = text.split(" ", 3)[3].rstrip().split(",")
+                self.rows.append((int(tick), port, Line(0, "", "", "", "", words).values))
+            texts += [] if is_answer else [text]
+            if is_answer and (command.startswith("give ") or not is_row):
+                break
+        else:
+            raise BrokenPipeError
+        self.answer = text.removeprefix("= ").rstrip()
+        self.stop = ending(text)[1] if text.startswith("stop ") else self.stop
+        if text.startswith("! E"):
+            raise Refused(text[2:5], [Location(None, None, None, self.answer[7:])])
+        if text.startswith("! "):
+            raise Stopped(self.stop) if self.stop else InputFault(self.answer[2:])
+        return list(lines_of(iter(texts)))
+
+    def give(self, tick: int, event: str, values: Mapping[str, Value] = {}) -> None:
+        """Gives a stimulus at a tick that has not begun: `give(100, "PROBE.PLANT", {"RAW": 2432})`."""
+        self.ask(" ".join([f"give {tick} {event}", *(f"{name}={constant(it)}" for name, it in values.items())]))
+
+    def until(self, tick: int) -> list[Line]:
+        """Takes all events below a tick, or up to a break or a stop, and returns their lines."""
+        return self.ask(f"until {tick}")
+
+    def show(self, path: str) -> dict[str, Value]:
+        """Returns the values of the variables of a block. What else it has, as its state, is in the answer."""
+        self.ask(f"show {path}")
+        return Line(0, "", "", "", "", " ".join(it for it in self.answer.split() if "=" in it)).values
