@@ -21,7 +21,7 @@ from kit import TOP
 from program import Room
 
 PROGRAM = f"{TOP}/crates/fbsim/out/fbsim"
-COMMANDS = ("", "run", "check", "wave", "expect", "diff", "draw", "inspect", "coverage", "explain")
+COMMANDS = ("", "run", "check", "session", "wave", "expect", "diff", "draw", "inspect", "coverage", "explain")
 HEAD = "# Help\n\nWhat `--help` prints, for the program and each of its commands. `tools/launcher.py --write` writes this page.\n"
 COMPLETIONS = ("bash-completion/completions/fbsim", "zsh/site-functions/_fbsim", "fish/vendor_completions.d/fbsim.fish")
 MANUAL = "man/man1/fbsim.1"
@@ -56,7 +56,7 @@ def help_page(room):
 
 def unnamed(texts):
     """Returns the options, commands and refusals that the man page and the completions lack."""
-    options = {it for text in texts.values() for it in re.findall(r"^ +(?:-\w, )?--(\w+)", text, re.M)}
+    options = {it for text in texts.values() for it in re.findall(r"^ +(?:-\w, )?--([\w-]+)", text, re.M)}
     faults = []
     for place in (MANUAL, *COMPLETIONS):
         text = unbuilt.content(f"{TOP}/share/{place}").replace("\\-", "-")
