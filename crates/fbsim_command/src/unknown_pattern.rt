@@ -13,7 +13,7 @@ use crate::possible::{is_possible, range_of};
 use fb_expect::{Condition, Entry, Pattern, PortForm, Way, is_at};
 use fb_read_positions::Text;
 use fb_system::System;
-use fb_types::{Name, Ty};
+use fb_types::{EventPort, Name, Ty};
 use std::alloc::{AllocError, Global};
 
 /// How much of a pattern an event must fit.
@@ -215,6 +215,24 @@ fn push_instance(
     Ok(())
 }
 
+/// Lists all events of an instance.
+fn push_events(text: &mut Text, inputs: &[EventPort], outputs: &[EventPort]) {
+    let mut before = " (it has ";
+    for port in inputs {
+        text.named(before, &port.name);
+        before = ", ";
+    }
+    for port in outputs {
+        text.named(before, &port.name);
+        before = ", ";
+    }
+    text.words(if inputs.is_empty() && outputs.is_empty() {
+        " (it has none)"
+    } else {
+        ")"
+    });
+}
+
 /// Says that an instance has no such event, and which it has.
 fn push_event(text: &mut Text, system: &System, instance: u32, way: Way, event: &[u8])
     requires { IsInstance system.now instance }
@@ -228,17 +246,15 @@ fn push_event(text: &mut Text, system: &System, instance: u32, way: Way, event: 
         Way::Either => " has no event ",
     });
     text.shown(event);
-    text.words(" (it has ");
-    if !matches!(way, Way::Emitted) {
-        text.names(ports.event_inputs.as_slice());
+    match way {
+        Way::Taken => text.names(ports.event_inputs.as_slice()),
+        Way::Emitted => text.names(ports.event_outputs.as_slice()),
+        Way::Either => push_events(
+            text,
+            ports.event_inputs.as_slice(),
+            ports.event_outputs.as_slice(),
+        ),
     }
-    if matches!(way, Way::Either) && !ports.event_outputs.as_slice().is_empty() {
-        text.words(", ");
-    }
-    if !matches!(way, Way::Taken) {
-        text.names(ports.event_outputs.as_slice());
-    }
-    text.words(")");
 }
 
 /// Says why no event has the port of a pattern.
