@@ -191,7 +191,7 @@ def fault_of(room, passed, at):
 
 
 def points_of(said):
-    return re.findall(r"^ok \d+ - (.*)$", said, re.M)
+    return re.findall(r"^ok \d+ - (.*?)(?: # SKIP never applied)?$", said, re.M)
 
 
 def faults_of_green(room):

@@ -285,7 +285,7 @@ HELP_OF_COVERAGE = (
 )
 HELP_OF_EXPLAIN = ("NAME", "name of the refusal", "E01 to E45", "L01 to L23", "steps, divide or range", "Example: fbsim explain E21")
 HELP_OF_ALL = (
-    "run", "writes its trace", "check", "the first fault", "wave", "value change dump", "expect", "Checks rules", "diff", "the same bytes", "draw", "graphviz", "inspect", "inside the blocks", "coverage", "do not cover", "explain",
+    "run", "writes its trace", "check", "the first fault", "session", "by commands", "wave", "value change dump", "expect", "Checks rules", "diff", "the same bytes", "draw", "graphviz", "inspect", "inside the blocks", "coverage", "do not cover", "explain",
     "what a refusal or the reason of a stop means", "a millisecond", "Example: fbsim run ",
 )
 
@@ -559,7 +559,7 @@ FAULTS = [
 # .. and some with what the parser of command lines says of them.
 MORE = b"\n\nFor more information, try '--help'.\n"
 NO_COMMAND = b"""error: 'fbsim' requires a subcommand but one was not provided
-  [subcommands: run, check, wave, expect, diff, draw, inspect, coverage, explain, help]
+  [subcommands: run, check, session, wave, expect, diff, draw, inspect, coverage, explain, help]
 
 Usage: fbsim <COMMAND>"""
 NO_HORIZON = b"""error: the following required arguments were not provided:
@@ -697,11 +697,11 @@ CALLS += [
 ]
 
 # How much traces must cover: two of four ports before the cycle's first answer, and all with it.
-CHAIN = b"""APPLICATION A FBS S : E_RESTART; C : E_CYCLE(DT := T#3ms); M : E_MERGE; END_FBS
+PACE = b"""APPLICATION A FBS S : E_RESTART; C : E_CYCLE(DT := T#3ms); M : E_MERGE; END_FBS
 EVENT_CONNECTIONS S.COLD TO C.START; C.EO TO M.EI1; END_CONNECTIONS END_APPLICATION
 """
 FILES |= {
-    "chain": CHAIN,
+    "pace": PACE,
     "half_trace": b"0 MAIN < S.COLD\n0 MAIN > C.START DT=3\nend 2\n",
     "full_trace": b"0 MAIN < S.COLD\n0 MAIN > C.START DT=3\n3 MAIN < C.EO\n3 MAIN > M.EI1\n3 MAIN < M.EO\nend 4\n",
 }
@@ -721,15 +721,15 @@ ALL_COVERED = b"""ports without a connection
 states 0 of 0, transitions 0 of 0, algorithms 0 of 0, events 0 of 0, ports 4 of 4
 """
 CALLS += [
-    of("coverage chain half_trace", 0, out=HALF_COVERED),
-    of("coverage chain half_trace --least 0", 0, out=HALF_COVERED),
-    of("coverage chain half_trace --least 50", 0, out=HALF_COVERED),
-    of("coverage chain half_trace --least 51", 1, out=HALF_COVERED),
-    of("coverage chain half_trace --least 100", 1, out=HALF_COVERED),
-    of("coverage chain half_trace full_trace --least 100", 0, out=ALL_COVERED),
-    of("coverage chain half_trace --least 51", 3, to="full", err=b"write fault after 0 bytes\n"),
-    of("coverage chain no_trace --least 100", 2, err=b"refused trace line 1\n"),
-    *(of(f"coverage chain half_trace --least {word}", 5, err=None) for word in ("101", "-1", "half")),
+    of("coverage pace half_trace", 0, out=HALF_COVERED),
+    of("coverage pace half_trace --least 0", 0, out=HALF_COVERED),
+    of("coverage pace half_trace --least 50", 0, out=HALF_COVERED),
+    of("coverage pace half_trace --least 51", 1, out=HALF_COVERED),
+    of("coverage pace half_trace --least 100", 1, out=HALF_COVERED),
+    of("coverage pace half_trace full_trace --least 100", 0, out=ALL_COVERED),
+    of("coverage pace half_trace --least 51", 3, to="full", err=b"write fault after 0 bytes\n"),
+    of("coverage pace no_trace --least 100", 2, err=b"refused trace line 1\n"),
+    *(of(f"coverage pace half_trace --least {word}", 5, err=None) for word in ("101", "-1", "half")),
 ]
 
 # Warnings that are left out, and that are faults. A name of warnings is a number or `all`, and the name of a type or an instance.

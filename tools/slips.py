@@ -208,7 +208,8 @@ def try_page(room):
                     skip = not skip
                     continue
                 kept.append(word)
-            if kept[2] not in files:
+            # (a file that the page's commands make is not there)
+            if any(re.search(r"\.\w+$", it) and it not in files for it in kept[2:]):
                 continue
             tried += 1
             found = room.run(["sh", "-c", 'cd "$1" && shift && exec "$@"', "sh", top, room.program, *kept])

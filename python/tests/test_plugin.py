@@ -188,7 +188,7 @@ def test_rules_that_name_nothing_are_an_error(room):
     room.change("some.rules", "GATE.DROP", "GATE.DROPS")
     result = room.run()
     result.assert_outcomes(errors=1)
-    result.stdout.fnmatch_lines(["refused E45", "rules: 2nd rule: from: *"])
+    result.stdout.fnmatch_lines(["refused E45", "*some.rules:10:1: 2nd rule, *: from: *"])
 
 
 STOPS = 'decl = "{}.iec"\nhorizon = 8\n[[scenario]]\nname = "it"\nsteps = {}\nstatus = {}\n'

@@ -97,7 +97,7 @@ def test_patterns_match_as_worked_by_hand(tmp_path):
 
 
 @pytest.mark.parametrize("text", [
-    "", "A", "A >", "A = X.GO", "A > X", "A > *.GO", "A > X..GO", "A > X*", "A.B > X.GO", "1 > X.GO", "A > X.GO N",
+    "", "A", "A >", "A = X.GO", "A > X", "A > X..GO", "A > X*", "A.B > X.GO", "1 > X.GO", "A > X.GO N",
     "A > X.GO N==1", "A > X.GO N = 1", "A > X.GO B>TRUE", "A > X.GO N=+1", "A > X.GO N=1.5",
     "A > X.GO N=18446744073709551616",
 ])
@@ -231,8 +231,9 @@ def test_rules_name_only_what_the_application_has(tmp_path):
     (tmp_path / "some.rules").write_text('[[rule]]\nname = "x"\nnever = "MAIN < C.E0"\n')
     with pytest.raises(fbsim.Refused) as caught:
         trace.expect(tmp_path / "some.rules")
-    assert (caught.value.number, caught.value.file) == ("E45", "rules")
-    assert caught.value.text == "1st rule: never: the declaration has no port with this pattern"
+    place = (caught.value.number, caught.value.file, caught.value.line, caught.value.column)
+    assert place == ("E45", str(tmp_path / "some.rules"), 3, 1)
+    assert caught.value.text == '1st rule, "x": never: "MAIN < C.E0": C has no event output E0 (it has EO)'
     assert len(fbsim.Trace(trace.path).expect(tmp_path / "some.rules").of("kept")) == 1
 
 
