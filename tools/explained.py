@@ -15,9 +15,9 @@ import calls
 from kit import TOP
 from unbuilt import TABLE, entries
 
-# The stored cases of --why, and what they call the files of a deployment and of stimuli, which have these names on the page.
+# The stored cases of --why, and what they call the files of a deployment, of stimuli and of rules, which have these names on the page.
 CASES = sorted(glob.glob(f"{TOP}/cases/why*.toml"))
-NAMES = {"DEPLOY:": "plan.toml:", "STIM:": "stim.csv:"}
+NAMES = {"DEPLOY:": "plan.toml:", "STIM:": "stim.csv:", "RULES:": "cell.rules:"}
 PAGE = f"{TOP}/docs/FORMATS.md"
 FIRST = "<!-- The explanations of crates/fb_why/src/table.rt, by tools/explained.py --write -->\n"
 LAST = "<!-- The end of the explanations -->\n"
