@@ -109,7 +109,7 @@ fn emit(
 
 /// Whether a block has no data outputs, as most. What it remembers says so mostly, and the table is asked where it
 /// does not.
-#[tactic(auto, using(crate::proofs::Emissions::shown_values))]
+#[tactic(auto, using(crate::proofs::lemmas::Emissions::shown_values))]
 #[inline(always)]
 fn is_bare(kind: EventKind, memory: &EventMemory) -> bool
     requires { IsInRange kind memory.now }

@@ -98,7 +98,7 @@ pub(crate) fn at_start(kind: EventKind) -> EventMemory
 /// changed where the block remembers something else then.
 ///
 /// It is a call, since the table is large: what takes an event keeps its own hint on inlining that way.
-#[tactic(auto, using(crate::proofs::Events::indexes_of_events))]
+#[tactic(auto, using(crate::proofs::lemmas::EventIndexes::indexes_of_events))]
 #[inline(never)]
 pub(crate) fn reaction(
     kind: EventKind,

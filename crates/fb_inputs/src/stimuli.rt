@@ -20,7 +20,7 @@ use fb_types::{Items, LATEST_TICK, MOST_STIMULI, MOST_STIMULI_BYTES, Stimulus};
 use std::alloc::{AllocError, Global};
 
 /// The tick, the event and the values of a record, if it has three fields.
-#[tactic(auto, using(crate::proofs::Fields::three_fields), unfolding(crate::specs::Stimuli::three))]
+#[tactic(auto, using(crate::proofs::lemmas::stimuli::Fields::three_fields), unfolding(crate::specs::Stimuli::three))]
 fn columns(row: &ByteRecord) -> Option<(&[u8], &[u8], &[u8])>
     ensures { option_map (λ f. (f.0.now, f.1.now, f.2.now)) result ≡ spec.three (fields_of row.now) }
 {

@@ -6,10 +6,10 @@
 //! message arrives later than it was sent, and over a link that exists (`soundness`).
 //!
 //! Read in this order: `specs/Typed`, types in a world; `specs/Simulations`, types in a simulation; `typing`. Then
-//! `specs/Sound` with `soundness`; `proofs/Accepting`, an accepted system is sound; `proofs/Outs`, what a reaction
-//! emits goes over links that exist. For one resource: `specs/ResourceLaw` and `proofs/OneResource`; for rows that are
+//! `specs/Sound` with `soundness`; `proofs/lemmas/soundness/Accepting`, an accepted system is sound; `proofs/lemmas/soundness/Outs`, what a reaction
+//! emits goes over links that exist. For one resource: `specs/ResourceLaw` and `proofs/lemmas/resources/OneResource`; for rows that are
 //! given while a simulation goes on: `specs/GivenRows`; for schedules of all resources: `specs/ScheduleLaw` and
-//! `proofs/Keeps`. Their laws are functions of `fb_resource` and `fb_window`.
+//! `proofs/lemmas/schedules/Keeps`. Their laws are functions of `fb_resource` and `fb_window`.
 #![tactic(auto)]
 
 pub mod soundness;

@@ -153,7 +153,7 @@ impl Tree {
     /// forget((tree, outbox));
     /// drop(system);
     /// ```
-    #[tactic(auto, using(crate::proofs::Keys::keys))]
+    #[tactic(auto, using(crate::proofs::lemmas::taking::ArrivalKeys::keys))]
     pub fn take(
         &mut self,
         system: &System,

@@ -97,7 +97,7 @@ static W_WORDS: [(&str, Mark); 2] = [("WITH", Mark::With), ("WHILE", Mark::While
 static X_WORDS: [(&str, Mark); 1] = [("XOR", Mark::Xor)];
 
 /// Whether two words are the same. Most differ in their length, which is compared first.
-#[tactic(auto, using(crate::proofs::Keywords::differing))]
+#[tactic(auto, using(crate::proofs::lemmas::tokens::Keywords::differing))]
 fn is_same(a: &[u8], b: &[u8]) -> bool
     ensures { result ≡ bytes_eq a.now b.now }
 {

@@ -17,7 +17,7 @@ use fb_types::Items;
 use std::alloc::Global;
 
 /// What follows one leading byte order mark.
-#[tactic(auto, using(crate::proofs::Ends::end_of_whole))]
+#[tactic(auto, using(crate::proofs::lemmas::tokens::TextEnds::end_of_whole))]
 fn after_mark(text: &[u8]) -> &[u8]
     ensures value { result.now ≡ spec.after_mark text.now }
     ensures end { IsEnd result.now text.now }

@@ -14,7 +14,7 @@ use std::collections::VecDeque;
 const FEW: usize = 4096;
 
 /// All lines, one list after another. The first lines stay in their own list.
-#[tactic(auto, using(crate::proofs::Together::flat_snoc))]
+#[tactic(auto, using(crate::proofs::lemmas::order::StableSort::flat_snoc))]
 fn joined(alloc: Global, lists: Vec<Vec<Line>>) -> Result<Vec<Line>, AllocError>
     ensures { IfOk result (λ v. v.items ≡ flat lists.items) }
 {

@@ -20,10 +20,10 @@ use Rattle.fb_types.specs.declared.library.Connection.{Connection}
 use Rattle.fb_types.specs.declared.library.PortName.{PortName}
 use Rattle.fb_types.specs.declared.deploy.Plan.{Plan}
 use Rattle.fb_check_names.specs.GivenTwice.{TwiceIn}
-use Rattle.fb_types.proofs.Elements.{Contains-here, Contains-there, Contains-flat_map, Contains-map}
-use Rattle.fb_types.proofs.TwiceLaws.{Twice-append_left, Twice-both}
-use Rattle.fb_types.proofs.NameLaws.{same_from_same_name, contains_from_any, named-Contains}
-use Rattle.fb_check_names.proofs.TwiceIn.{TwiceIn-left}
+use Rattle.fb_types.proofs.lemmas.lists.Elements.{Contains-here, Contains-there, Contains-flat_map, Contains-map}
+use Rattle.fb_types.proofs.lemmas.lists.TwiceLaws.{Twice-append_left, Twice-both}
+use Rattle.fb_types.proofs.lemmas.names.NameLaws.{same_from_same_name, contains_from_any, named-Contains}
+use Rattle.fb_check_names.proofs.lemmas.twice.TwiceIn.{TwiceIn-left}
 use Rattle.fb_check.specs.Directory.{leads_to}
 
 -- ---- A name twice among the ports of a type

@@ -11,7 +11,7 @@ use Rattle.fb_types.specs.declared.library.Library.{Library}
 use Rattle.fb_types.specs.declared.library.BlockType.{BlockType}
 use Rattle.fb_types.specs.declared.library.Instance.{Instance}
 use Rattle.fb_types.specs.declared.library.Ports.{Ports}
-use Rattle.fb_types.proofs.Positions.{named-position}
+use Rattle.fb_types.proofs.lemmas.lists.Positions.{named-position}
 use Rattle.fb_check.specs.Directory.{IsFound, IsDirectory, ports_at, ports_at_index}
 use Rattle.fb_check.specs.declared.directory_making.TypeInputs.{TypeInputs}
 use Rattle.fb_check.specs.declared.directory.Directory.{Directory}

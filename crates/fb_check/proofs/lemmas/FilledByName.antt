@@ -20,11 +20,11 @@ use Rattle.fb_types.specs.declared.event_kind.EventKind.{EventKind}
 use Rattle.fb_types.specs.declared.library.EventPort.{EventPort}
 use Rattle.fb_types.specs.declared.library.Connection.{Connection}
 use Rattle.fb_types.specs.declared.library.Ports.{Ports}
-use Rattle.fb_types.proofs.ByIndex.{slice_get-append_here, slice_get-append_left}
-use Rattle.fb_types.proofs.LoopSteps.{more_of_part}
-use Rattle.fb_types.proofs.Positions.{is_some-position, position-append_old, position-push_new, position_is}
-use Rattle.fb_types.proofs.NameLaws.{same_from_same_name, same_name-flip}
-use Rattle.fb_types.proofs.NameOrders.{name_cmp-is}
+use Rattle.fb_types.proofs.lemmas.lists.ByIndex.{slice_get-append_here, slice_get-append_left}
+use Rattle.fb_types.proofs.lemmas.lists.LoopSteps.{more_of_part}
+use Rattle.fb_types.proofs.lemmas.lists.Positions.{is_some-position, position-append_old, position-push_new, position_is}
+use Rattle.fb_types.proofs.lemmas.names.NameLaws.{same_from_same_name, same_name-flip}
+use Rattle.fb_types.proofs.lemmas.names.NameOrders.{name_cmp-is}
 use Rattle.fb_check.specs.Directory.{Pair, has_pair, first_of, read_in, lists, leads_to, AreFirst, IsExtended, AreWiths, AreTargets, IsInputs, IsFound, AreInputs}
 use Rattle.fb_check.specs.declared.directory_making.TypeInputs.{TypeInputs}
 

@@ -19,11 +19,11 @@ use Rattle.fb_types.specs.declared.library.Ports.{Ports}
 use Rattle.fb_types.specs.declared.deploy.Plan.{Plan}
 use Rattle.fb_types.specs.declared.deploy.Stimulus.{Stimulus}
 use Rattle.fb_types.specs.declared.deploy.Setting.{Setting}
-use Rattle.fb_types.proofs.Positions.{is_some-position, named-position, position_is}
-use Rattle.fb_types.proofs.Elements.{Contains-nil, Contains-cons_cases, Contains-here, Contains-there, Contains-map, map-Contains}
-use Rattle.fb_types.proofs.NameLaws.{same_from_same_name}
+use Rattle.fb_types.proofs.lemmas.lists.Positions.{is_some-position, named-position, position_is}
+use Rattle.fb_types.proofs.lemmas.lists.Elements.{Contains-nil, Contains-cons_cases, Contains-here, Contains-there, Contains-map, map-Contains}
+use Rattle.fb_types.proofs.lemmas.names.NameLaws.{same_from_same_name}
 use Rattle.fb_check_names.specs.Indexes.{IsIndex, index_in}
-use Rattle.fb_types.proofs.ByIndex.{element_of_index}
+use Rattle.fb_types.proofs.lemmas.lists.ByIndex.{element_of_index}
 use Rattle.fb_check.specs.declared.location.StimulusFault.{StimulusFault}
 use Rattle.fb_check.specs.declared.location.StimulusFault.TheVariants as fault
 use Rattle.fb_check.specs.declared.location.StimulusLocation.{StimulusLocation}
@@ -32,8 +32,8 @@ use Rattle.fb_check.specs.Directory.{first_of, input_in, input_of, lists, leads_
 use Rattle.fb_check.specs.declared.directory_making.Input.{Input}
 use Rattle.fb_check.specs.declared.directory_making.TypeInputs.{TypeInputs}
 use Rattle.fb_check.specs.declared.directory.Directory.{Directory}
-use Rattle.fb_types.proofs.Options.{none_from_is_some}
-use Rattle.fb_types.proofs.ListTests.{passes_from}
+use Rattle.fb_types.proofs.lemmas.lists.Options.{none_from_is_some}
+use Rattle.fb_types.proofs.lemmas.lists.ListTests.{passes_from}
 use Rattle.fb_check.proofs.lemmas.DirectoryEntries.{ports_placed}
 use Rattle.fb_check.proofs.lemmas.RefusedStimuli.{HasRefused}
 use Rattle.fb_check.proofs.lemmas.DataSources.{has_source, port}

@@ -4,7 +4,7 @@ use Rattle.std.proofs.lemmas.List.{take_more, take_all}
 use Rattle.std.proofs.lemmas.List.Elements.{Contains-push_cases}
 use Rattle.fb_types.specs.declared.library.Library.{Library}
 use Rattle.fb_types.specs.declared.deploy.Stimulus.{Stimulus}
-use Rattle.fb_types.proofs.Elements.{Contains-nil}
+use Rattle.fb_types.proofs.lemmas.lists.Elements.{Contains-nil}
 use Rattle.fb_check.specs.Directory.{CanTake}
 
 abbrev pub HasRefused : Library → List Stimulus → Type 0

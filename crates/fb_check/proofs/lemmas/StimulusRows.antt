@@ -21,11 +21,11 @@ use Rattle.fb_types.specs.declared.library.Instance.{Instance}
 use Rattle.fb_types.specs.declared.library.Library.{Library}
 use Rattle.fb_types.specs.declared.library.Ports.{Ports}
 use Rattle.fb_types.specs.declared.library.Variable.{Variable}
-use Rattle.fb_check_names.proofs.Each.{each_parts, is_some-each}
-use Rattle.fb_types.proofs.Positions.{named-position, position_is}
+use Rattle.fb_check_names.proofs.lemmas.Each.{each_parts, is_some-each}
+use Rattle.fb_types.proofs.lemmas.lists.Positions.{named-position, position_is}
 use Rattle.fb_check_names.specs.Numbers.{each_or_none, index_of}
-use Rattle.fb_types.proofs.ByIndex.{slice_get-push}
-use Rattle.fb_types.proofs.Elements.{Contains-here}
+use Rattle.fb_types.proofs.lemmas.lists.ByIndex.{slice_get-push}
+use Rattle.fb_types.proofs.lemmas.lists.Elements.{Contains-here}
 use Rattle.fb_check_names.specs.Indexes.{index_in}
 use Rattle.fb_types.specs.declared.run.SlotValue.{SlotValue}
 use Rattle.fb_system.specs.declared.rows.StimulusRow.{StimulusRow}
@@ -37,7 +37,7 @@ use Rattle.fb_check.specs.declared.directory.Directory.{Directory}
 use Rattle.fb_check.specs.Stimuli.{AreAllBad, AreAllBadUpTo, IsAdded, IsBadAt, IsRowOr, IsUnfit}
 use Rattle.fb_check.specs.declared.location.StimulusFault.{StimulusFault}
 use Rattle.fb_check.specs.declared.location.StimulusLocation.{StimulusLocation}
-use Rattle.fb_check_names.proofs.Listing.{none_right}
+use Rattle.fb_check_names.proofs.lemmas.Listing.{none_right}
 use Rattle.fb_check.proofs.lemmas.GoodStimuli.{IsFoundAt, Known, all-is, can_take, first_index, found_at, good_from, kind_of_ports, the_ports, unfit}
 use Rattle.fb_check.proofs.lemmas.RefusedStimuli.{HasRefused, refused_more}
 

@@ -9,7 +9,7 @@ use Rattle.fb_types.specs.Kinds.{KindWrong}
 use Rattle.fb_types.specs.Joined.{OutOfRange, TwoSources, TooHigh}
 use Rattle.fb_types.specs.Mapped.{NotMapped, NoLink, NoEvent}
 use Rattle.fb_types.specs.Headline.{Inputs}
-use Rattle.fb_check_names.proofs.Repeating.{none_mapped}
+use Rattle.fb_check_names.proofs.lemmas.twice.Repeating.{none_mapped}
 use Rattle.fb_check.specs.Faults.{number_of}
 use Rattle.fb_check.specs.Refusals.{AreAll, IsCheckEnd, IsRefusal}
 use Rattle.fb_check.specs.declared.fault.Fault.{Fault}

@@ -3,7 +3,7 @@ use Rattle.std.proofs.Common.{◌≡◌, ◌<◌, ◌≤◌, ◌+◌, ℕ, List,
 use Rattle.std.specs.Prelude.{OnOk, Result, Ok, Err, if◌then◌else◌, is_ok, slice_get, slice_set, unwrap_or}
 use Rattle.std.proofs.lemmas.List.{at_drop_all, at_drop_more, map-append, take_more}
 use Rattle.std.proofs.lemmas.Option.{get_or_from_slice_get, unwrap_or-slice_get}
-use Rattle.fb_types.proofs.ByIndex.{element_at}
+use Rattle.fb_types.proofs.lemmas.lists.ByIndex.{element_at}
 use Rattle.fb_coverage.specs.Listed.{listed}
 
 -- ---- Texts

@@ -21,16 +21,16 @@ use Rattle.fb_types.specs.declared.library.State.{State}
 use Rattle.fb_types.specs.declared.library.Transition.{Transition}
 use Rattle.fb_types.specs.declared.library.Variable.{Variable}
 use Rattle.fb_types.specs.declared.deploy.Plan.{Plan}
-use Rattle.fb_types.proofs.NameLaws.{same_name-itself}
+use Rattle.fb_types.proofs.lemmas.names.NameLaws.{same_name-itself}
 use Rattle.fb_st.specs.Frames.{Declared, is_declared}
 use Rattle.fb_st.specs.Known.{AssignsKnown, AllKnown, ChoicesKnown, BranchesKnown}
 use Rattle.fb_st.proofs.lemmas.Indexes.{index_of_once}
 use Rattle.fb_ecc.specs.Opened.{IsOfDeclaration}
 use Rattle.fb_ecc.specs.Sound.{Each, IsSound, AreFirst, action_known, actions_known, declared_by, is_named}
-use Rattle.fb_types.proofs.ListTests.{passes_from}
-use Rattle.fb_types.proofs.ByIndex.{element_of_index}
-use Rattle.fb_types.proofs.TwiceLaws.{Twice-append_left, Twice-append_right}
-use Rattle.fb_types.proofs.Elements.{Contains-cons_cases, Contains-nil, Contains-here, Contains-there, Contains-map, Contains-flat_map}
+use Rattle.fb_types.proofs.lemmas.lists.ListTests.{passes_from}
+use Rattle.fb_types.proofs.lemmas.lists.ByIndex.{element_of_index}
+use Rattle.fb_types.proofs.lemmas.lists.TwiceLaws.{Twice-append_left, Twice-append_right}
+use Rattle.fb_types.proofs.lemmas.lists.Elements.{Contains-cons_cases, Contains-nil, Contains-here, Contains-there, Contains-map, Contains-flat_map}
 use Rattle.fb_ecc.proofs.lemmas.Links.{names_declared}
 
 -- ---- Lists

@@ -24,7 +24,7 @@ use Rattle.fb_types.specs.declared.run.Halt.TheVariants as halt
 use Rattle.fb_types.specs.declared.value.Reason.{Reason}
 use Rattle.fb_types.specs.declared.value.Ty.{Ty}
 use Rattle.fb_types.specs.declared.value.Ty.TheVariants.{Bool as Boolean}
-use Rattle.fb_types.proofs.NameLaws.{same_from_same_name}
+use Rattle.fb_types.proofs.lemmas.names.NameLaws.{same_from_same_name}
 use Rattle.fb_st.specs.Frames.{Declared, types_in, values_of}
 use Rattle.fb_st.specs.declared.frame.Slot.{Slot}
 use Rattle.fb_st.proofs.lemmas.Indexes.{named_at_index}

@@ -10,9 +10,9 @@ use Rattle.fb_types.specs.Repeated.{Twice, state_names}
 use Rattle.fb_types.specs.declared.library.BasicType.{BasicType}
 use Rattle.fb_types.specs.declared.library.State.{State}
 use Rattle.fb_types.specs.declared.library.Transition.{Transition}
-use Rattle.fb_types.proofs.NameLaws.{any_from_contains, same_from_same_name, same_name-itself}
-use Rattle.fb_types.proofs.Elements.{Contains-cons_cases, Contains-here, Contains-there}
-use Rattle.fb_types.proofs.Positions.{is_some-position, position-first, position_is}
+use Rattle.fb_types.proofs.lemmas.names.NameLaws.{any_from_contains, same_from_same_name, same_name-itself}
+use Rattle.fb_types.proofs.lemmas.lists.Elements.{Contains-cons_cases, Contains-here, Contains-there}
+use Rattle.fb_types.proofs.lemmas.lists.Positions.{is_some-position, position-first, position_is}
 use Rattle.fb_st.proofs.lemmas.Indexes.{position-later}
 use Rattle.fb_ecc.specs.Indexed.{row_within}
 use Rattle.fb_ecc.specs.Numbered.{act_of, are_waiting, exit_of, exits_from, row_with}

@@ -12,10 +12,10 @@ use Rattle.fb_types.specs.Names.{Name, same_name}
 use Rattle.fb_types.specs.Blocks.{among, event_names}
 use Rattle.fb_types.specs.Repeated.{Twice}
 use Rattle.fb_types.specs.declared.library.EventPort.{EventPort}
-use Rattle.fb_types.proofs.NameLaws.{any_from_contains, same_from_same_name, same_name-flip, same_name-itself}
+use Rattle.fb_types.proofs.lemmas.names.NameLaws.{any_from_contains, same_from_same_name, same_name-flip, same_name-itself}
 use Rattle.fb_check_names.specs.Indexes.{IsIndex, index_in}
-use Rattle.fb_types.proofs.Elements.{Contains-cons_cases, Contains-here, Contains-there}
-use Rattle.fb_types.proofs.Positions.{is_some-position, position-cons, position-first}
+use Rattle.fb_types.proofs.lemmas.lists.Elements.{Contains-cons_cases, Contains-here, Contains-there}
+use Rattle.fb_types.proofs.lemmas.lists.Positions.{is_some-position, position-cons, position-first}
 use Rattle.fb_st.proofs.lemmas.Indexes.{position-later}
 use Rattle.fb_ecc.specs.Numbered.{number_in}
 use Rattle.fb_ecc.specs.Indexed.{entry_of, picked}

@@ -33,7 +33,7 @@ use Rattle.fb_ecc.specs.Steps.{clearing_exit, clearing_index, first_or}
 use Rattle.fb_ecc.specs.Trials.{transition_at, transitions_at, IsExit}
 use Rattle.fb_ecc.specs.declared.chart.Exit.{Exit}
 use Rattle.fb_ecc.specs.declared.chart.ChartState.{ChartState}
-use Rattle.fb_types.proofs.ByIndex.{element_at}
+use Rattle.fb_types.proofs.lemmas.lists.ByIndex.{element_at}
 use Rattle.fb_ecc.specs.declared.chart.Chart.{Chart}
 use Rattle.fb_ecc.proofs.lemmas.Located.{inputs_at}
 use Rattle.fb_ecc.proofs.lemmas.Trials.{transition_here, state_here, list_all-at, and_left, and_right, cut_at, event_here}

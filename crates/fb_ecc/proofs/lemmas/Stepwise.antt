@@ -10,7 +10,7 @@ use Rattle.fb_types.specs.declared.library.Action.{Action}
 use Rattle.fb_types.specs.declared.library.BasicType.{BasicType}
 use Rattle.fb_types.specs.declared.library.State.{State}
 use Rattle.fb_types.specs.declared.value.Reason.{Reason}
-use Rattle.fb_types.proofs.ByIndex.{element_at}
+use Rattle.fb_types.proofs.lemmas.lists.ByIndex.{element_at}
 use Rattle.fb_ecc.specs.Actions.{AreActions, IsAction}
 use Rattle.fb_ecc.specs.Indexes.{IsStateOf, state_at}
 use Rattle.fb_ecc.specs.Numbered.{chart_of, row_of}

@@ -13,7 +13,7 @@ use Rattle.fb_types.specs.Repeated.{state_names}
 use Rattle.fb_types.specs.declared.library.State.{State}
 use Rattle.fb_types.specs.declared.text.Expr.{Expr}
 use Rattle.fb_types.specs.declared.value.Reason.TheVariants.{Steps}
-use Rattle.fb_types.proofs.Positions.{position-first}
+use Rattle.fb_types.proofs.lemmas.lists.Positions.{position-first}
 use Rattle.fb_st.proofs.lemmas.Indexes.{position-later}
 use Rattle.fb_ecc.specs.Indexes.{state_at}
 use Rattle.fb_types.specs.Values.{Values}
@@ -22,11 +22,11 @@ use Rattle.fb_types.specs.Numbers.{event_at}
 use Rattle.fb_types.specs.declared.library.BasicType.{BasicType}
 use Rattle.fb_types.specs.declared.library.EventPort.{EventPort}
 use Rattle.fb_types.specs.declared.library.Transition.{Transition}
-use Rattle.fb_types.proofs.NameLaws.{same_from_same_name}
+use Rattle.fb_types.proofs.lemmas.names.NameLaws.{same_from_same_name}
 use Rattle.fb_types.specs.declared.value.Reason.{Reason}
 use Rattle.fb_ecc.specs.Numbered.{are_waiting, number_in}
 use Rattle.fb_ecc.specs.Sound.{Each, IsSound, AreFirst}
-use Rattle.fb_types.proofs.ByIndex.{element_at}
+use Rattle.fb_types.proofs.lemmas.lists.ByIndex.{element_at}
 use Rattle.fb_ecc.specs.Trials.{nowhere, transition_at, transitions_at, IsExit, is_number_present}
 use Rattle.fb_ecc.specs.declared.chart.Exit.{Exit}
 

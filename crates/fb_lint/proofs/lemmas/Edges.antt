@@ -4,8 +4,8 @@ use Rattle.std.specs.Prelude.{◌⊎◌, ◌↔◌}
 use Rattle.std.proofs.lemmas.Bool.{true≢false}
 use Rattle.fb_types.specs.Names.{Name, same_name}
 use Rattle.fb_types.specs.declared.library.Transition.{Transition}
-use Rattle.fb_types.proofs.Elements.{Contains-nil, Contains-cons_cases, Contains-here, Contains-there, Contains-map, map-Contains}
-use Rattle.fb_types.proofs.NameLaws.{same_name-itself, same_from_same_name}
+use Rattle.fb_types.proofs.lemmas.lists.Elements.{Contains-nil, Contains-cons_cases, Contains-here, Contains-there, Contains-map, map-Contains}
+use Rattle.fb_types.proofs.lemmas.names.NameLaws.{same_name-itself, same_from_same_name}
 use Rattle.fb_lint.specs.Reached.{Edge, edge_of, leads, Reached, at_first, by_transition}
 
 -- ---- Truth values

@@ -8,8 +8,8 @@ use Rattle.std.proofs.lemmas.List.Filters.{length-filter_both}
 use Rattle.std.proofs.lemmas.List.Elements.{Contains-append_left, Contains-append_right, Contains-append_cases, Contains-push, Contains-push_cases}
 use Rattle.fb_types.specs.Blocks.{among}
 use Rattle.fb_types.specs.Names.{Name, same_name}
-use Rattle.fb_types.proofs.Elements.{Contains-nil, Contains-cons_cases, Contains-here, Contains-there, Contains-map, map-Contains}
-use Rattle.fb_types.proofs.NameLaws.{same_name-itself, same_from_same_name, contains_from_any, any_from_contains}
+use Rattle.fb_types.proofs.lemmas.lists.Elements.{Contains-nil, Contains-cons_cases, Contains-here, Contains-there, Contains-map, map-Contains}
+use Rattle.fb_types.proofs.lemmas.names.NameLaws.{same_name-itself, same_from_same_name, contains_from_any, any_from_contains}
 use Rattle.fb_lint.specs.Reached.{Edge, leads, AreReached}
 use Rattle.fb_lint.proofs.lemmas.Edges.{leads-itself, leads-on, leads-edge, leads-closed, same_truth}
 

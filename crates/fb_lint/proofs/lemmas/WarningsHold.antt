@@ -11,9 +11,9 @@ use Rattle.fb_types.specs.declared.deploy.Stimulus.{Stimulus}
 use Rattle.fb_types.specs.declared.library.BasicType.{BasicType}
 use Rattle.fb_types.specs.declared.library.BlockType.{BlockType}
 use Rattle.fb_types.specs.declared.library.Library.{Library}
-use Rattle.fb_types.proofs.Elements.{Contains-nil, Contains-cons_cases}
-use Rattle.fb_types.proofs.ByIndex.{index_of_element}
-use Rattle.fb_types.proofs.ListTests.{passes_somewhere}
+use Rattle.fb_types.proofs.lemmas.lists.Elements.{Contains-nil, Contains-cons_cases}
+use Rattle.fb_types.proofs.lemmas.lists.ByIndex.{index_of_element}
+use Rattle.fb_types.proofs.lemmas.lists.ListTests.{passes_somewhere}
 use Rattle.fb_types.specs.Flat.{first_of, kind_of, type_name, type_named}
 use Rattle.fb_types.specs.declared.library.BlockType.TheVariants as block
 use Rattle.fb_types.specs.declared.library.CompositeType.{CompositeType}

@@ -13,12 +13,12 @@ use Rattle.fb_read.specs.Tokens.{Tokens}
 use Rattle.fb_read.specs.declared.token.Mark.{Mark}
 use Rattle.fb_read.specs.declared.token.Mark.TheVariants as mark
 use Rattle.fb_read.specs.declared.token.Token.TheVariants as token
-use Rattle.fb_read.proofs.Local.{IsLeft, Local, left-all, left-left, left-more, local-bind, local-cond, local-if, local-pure}
-use Rattle.fb_read.proofs.LocalLibrary.{advances-block, local-action, local-algorithm, local-block, local-state, local-states, local-transition, local-transitions}
-use Rattle.fb_read.proofs.LocalLoops.{IsNoneAtEnd, local-many, local-run_after, local-section, sees-head}
-use Rattle.fb_read.proofs.LocalRules.{advances-bind, advances-connection, advances-event, advances-name, local-application, local-connection, local-constant, local-event, local-instance, local-parameter, local-parameters, local-port, local-ports, local-variables, none-bind, none-connection, none-event, none-name}
-use Rattle.fb_read.proofs.LocalSteps.{Advances, local-eat, local-expect, local-name, local-name_if, local-ty_name, local-word}
-use Rattle.fb_read.proofs.Steps.{both_ok}
+use Rattle.fb_read.proofs.lemmas.lookahead.OneTokenAhead.{IsLeft, Local, left-all, left-left, left-more, local-bind, local-cond, local-if, local-pure}
+use Rattle.fb_read.proofs.lemmas.lookahead.LocalLibrary.{advances-block, local-action, local-algorithm, local-block, local-state, local-states, local-transition, local-transitions}
+use Rattle.fb_read.proofs.lemmas.lookahead.LocalLoops.{IsNoneAtEnd, local-many, local-run_after, local-section, sees-head}
+use Rattle.fb_read.proofs.lemmas.lookahead.LocalRules.{advances-bind, advances-connection, advances-event, advances-name, local-application, local-connection, local-constant, local-event, local-instance, local-parameter, local-parameters, local-port, local-ports, local-variables, none-bind, none-connection, none-event, none-name}
+use Rattle.fb_read.proofs.lemmas.lookahead.LocalSteps.{Advances, local-eat, local-expect, local-name, local-name_if, local-ty_name, local-word}
+use Rattle.fb_read.proofs.lemmas.rules.Steps.{both_ok}
 use Rattle.fb_read_positions.specs.Walks.{begins_clause, depth_after, depth_at, opens, pass, pass_inner, pass_items, pass_outer, past_application, past_outer, past_type, past_variable, skip, take, take_all, to_clause, to_first, to_first_inner, to_first_inside, to_first_outer, to_inner, to_inside, to_item, to_item_if, to_name, to_outer, to_outer_owner, to_owner, to_statement}
 use Rattle.fb_read_positions.specs.declared.lists.InnerList.{InnerList}
 use Rattle.fb_read_positions.specs.declared.lists.InnerList.TheVariants as inner_list

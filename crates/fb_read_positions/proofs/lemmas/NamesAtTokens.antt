@@ -8,7 +8,7 @@ use Rattle.fb_read.specs.Refusals.{IsNext}
 use Rattle.fb_read.specs.declared.token.Located.{Located}
 use Rattle.fb_read.specs.declared.token.Token.{Token}
 use Rattle.fb_read.specs.declared.token.Token.TheVariants as token
-use Rattle.fb_read.proofs.TokenLaws.{front_empty}
+use Rattle.fb_read.proofs.lemmas.tokens.TokenLaws.{front_empty}
 use Rattle.fb_read_positions.specs.Spans.{IsNameOf}
 
 abbrev found : Token × ℕ → Found

@@ -8,7 +8,7 @@ use Rattle.fb_read.specs.Tokens.{Tokens, tokens_of}
 use Rattle.fb_read.specs.declared.token.Located.{Located}
 use Rattle.fb_read.specs.declared.token.Token.{Token}
 use Rattle.fb_read.specs.declared.token.Token.TheVariants as token
-use Rattle.fb_read.proofs.Steps.{both_ok}
+use Rattle.fb_read.proofs.lemmas.rules.Steps.{both_ok}
 use Rattle.fb_read_positions.specs.Lists.{item_of, owner_of}
 use Rattle.fb_read_positions.specs.Resumed.{IsAhead, IsListed, IsReached, IsStop, Leaves}
 use Rattle.fb_read_positions.specs.Walks.{Walk, begins_clause, depth_after, depth_at, opens, pass, pass_inner, pass_items, past_outer, take_all, to_clause, to_first, to_inner, to_item, to_item_if, to_name, to_outer, to_owner, to_part, to_position, to_statement}

@@ -11,7 +11,7 @@ use Rattle.fb_types.specs.declared.event_kind.EventKind.{EventKind}
 use Rattle.fb_types.specs.declared.library.BlockType.{BlockType}
 use Rattle.fb_types.specs.declared.library.Library.{Library}
 use Rattle.fb_types.specs.declared.library.Ports.{Ports}
-use Rattle.fb_types.proofs.NameLaws.{find-named}
+use Rattle.fb_types.proofs.lemmas.names.NameLaws.{find-named}
 use Rattle.fb_check_names.specs.Types.{ports_of_block}
 
 abbrev type_from : Library → Name → Option (Name × EventKind) → Option Kind

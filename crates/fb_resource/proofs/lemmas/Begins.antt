@@ -7,8 +7,8 @@ use Rattle.fb_types.specs.Takes.{world_of}
 use Rattle.fb_system.specs.Lines.{BelongsTo}
 use Rattle.fb_net.specs.Worlds.{IsForest}
 use Rattle.fb_net.specs.declared.resource.Forest.{Forest}
-use Rattle.fb_laws.proofs.Accepted.{accepted_typed}
-use Rattle.fb_laws.proofs.Simulated.{opening_state-typed}
+use Rattle.fb_laws.proofs.lemmas.typing.Accepted.{accepted_typed}
+use Rattle.fb_laws.proofs.lemmas.typing.Simulated.{opening_state-typed}
 use Rattle.fb_resource.specs.Openings.{IsOpened}
 use Rattle.fb_resource.specs.Posts.{IsMessage}
 use Rattle.fb_resource.specs.Takings.{AreReady, IsEmpty, IsHere}

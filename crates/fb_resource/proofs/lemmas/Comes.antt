@@ -3,10 +3,10 @@ use Rattle.std.proofs.Common.{◌≡◌, ℕ, ◌<◌, Some, None, List, [], ◌
 use Rattle.fb_types.specs.Cores.{stop_or, clock_after}
 use Rattle.fb_types.specs.Machines.{Machine, Item, Local, Each, TakesAlone, after, Chain, end, Rests, sent_by, lines_of}
 use Rattle.fb_types.specs.declared.key.Key.{Key}
-use Rattle.fb_types.proofs.EachLaws.{each_append}
-use Rattle.fb_types.proofs.Lookups.{none_some}
+use Rattle.fb_types.proofs.lemmas.lists.EachLaws.{each_append}
+use Rattle.fb_types.proofs.lemmas.lists.Lookups.{none_some}
 use Rattle.fb_resource.specs.Runs.{HasCome, HasEnded}
-use Rattle.fb_laws.proofs.Chains.{chain_append, end_append, sent_append, lines_append, clock_append}
+use Rattle.fb_laws.proofs.lemmas.resources.Chains.{chain_append, end_append, sent_append, lines_append, clock_append}
 
 module _ (M : Machine) where
   module _ (r t : ℕ) (from to : Local M) (lines : List M.Line) (sent : List (Key × M.Event)) (come : HasCome M r t from to lines sent) (i : Item M) (takes : TakesAlone M r to i) (below : i.key.tick < t) where

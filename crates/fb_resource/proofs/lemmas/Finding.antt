@@ -4,10 +4,10 @@ use Rattle.std.specs.Bool.{OnFalse, OnTrue}
 use Rattle.fb_types.specs.Keys.{Precedes, same_key}
 use Rattle.fb_types.specs.declared.key.Key.{Key}
 use Rattle.fb_types.specs.declared.run.Event.{Event}
-use Rattle.fb_types.proofs.KeyLaws.{same_key_is, same_key_itself}
+use Rattle.fb_types.proofs.lemmas.events.KeyLaws.{same_key_is, same_key_itself}
 use Rattle.fb_agenda.specs.Agendas.{Contents, IsClear, waiting}
-use Rattle.fb_agenda.proofs.Orders.{not_itself}
-use Rattle.fb_agenda.proofs.Clear.{clear_before, clear_itself}
+use Rattle.fb_agenda.proofs.lemmas.Orders.{not_itself}
+use Rattle.fb_agenda.proofs.lemmas.NothingWaits.{clear_before, clear_itself}
 use Rattle.fb_resource.specs.Posts.{IsPut}
 use Rattle.fb_resource.specs.Takings.{Finds, with_event}
 use Rattle.fb_resource.proofs.lemmas.Lone.{with_put}

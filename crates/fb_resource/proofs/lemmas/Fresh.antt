@@ -9,7 +9,7 @@ use Rattle.fb_types.specs.Parts.{count_of, local_of, part_of}
 use Rattle.fb_types.specs.Simulation.{opening, opening_agenda, opening_state}
 use Rattle.fb_types.specs.Takes.{world_of}
 use Rattle.fb_types.specs.declared.key.Key.{Key}
-use Rattle.fb_types.proofs.Lookups.{or_else_none}
+use Rattle.fb_types.proofs.lemmas.lists.Lookups.{or_else_none}
 use Rattle.fb_agenda.specs.Agendas.{Contents, waiting}
 use Rattle.fb_types.specs.declared.run.Event.{Event}
 use Rattle.fb_net.specs.Events.{event_of}
@@ -19,7 +19,7 @@ use Rattle.fb_resource.specs.Takings.{IsHere}
 use Rattle.fb_resource.specs.Waiting.{meaning}
 use Rattle.fb_resource.proofs.lemmas.Begins.{here_opened}
 use Rattle.fb_resource.proofs.lemmas.Meters.{fresh_counts}
-use Rattle.fb_types.proofs.ByIndex.{slice_get-push}
+use Rattle.fb_types.proofs.lemmas.lists.ByIndex.{slice_get-push}
 use Rattle.fb_net.specs.Worlds.{IsForest}
 use Rattle.fb_net.specs.declared.resource.Forest.{Forest}
 use Rattle.fb_resource.specs.Resources.{AreOpened, IsFresh, Represents}

@@ -5,7 +5,7 @@ use Rattle.fb_types.specs.Headline.{Inputs}
 use Rattle.fb_types.specs.Keys.{Precedes, same_key, timer_key, without}
 use Rattle.fb_types.specs.States.{Event as AnEvent}
 use Rattle.fb_types.specs.declared.key.Key.{Key}
-use Rattle.fb_types.proofs.KeyLaws.{earlier_precedes}
+use Rattle.fb_types.proofs.lemmas.events.KeyLaws.{earlier_precedes}
 use Rattle.fb_agenda.specs.Agendas.{Contents, waiting}
 use Rattle.fb_types.specs.declared.run.Event.{Event}
 use Rattle.fb_net.specs.Events.{event_of}

@@ -12,7 +12,7 @@ use Rattle.fb_types.specs.States.{State, path_of}
 use Rattle.fb_types.specs.States as model
 use Rattle.fb_types.specs.Takes.{Posts, post_all, timer_change}
 use Rattle.fb_types.specs.declared.key.Key.{Key}
-use Rattle.fb_types.proofs.KeyLaws.{same_key_from, same_key_is}
+use Rattle.fb_types.proofs.lemmas.events.KeyLaws.{same_key_from, same_key_is}
 use Rattle.fb_types.specs.declared.run.Event.{Event}
 use Rattle.fb_types.specs.declared.run.Event.TheVariants.{Local}
 use Rattle.fb_types.specs.declared.run.Message.{Message}

@@ -19,8 +19,8 @@ use Rattle.fb_types.specs.Takes.{is_timer_of}
 use Rattle.fb_types.specs.declared.event_kind.EventKind.{EventKind}
 use Rattle.fb_types.specs.declared.event_kind.EventKind.TheVariants.{Restart}
 use Rattle.fb_types.specs.declared.key.Key.{Key}
-use Rattle.fb_types.proofs.KeyLaws.{same_key_is}
-use Rattle.fb_types.proofs.TakeLaws.{found-put}
+use Rattle.fb_types.proofs.lemmas.events.KeyLaws.{same_key_is}
+use Rattle.fb_types.proofs.lemmas.lists.TakeLaws.{found-put}
 use Rattle.fb_agenda.specs.Agendas.{Contents, waiting}
 use Rattle.fb_types.specs.declared.run.Event as waits
 use Rattle.fb_types.specs.declared.run.Event.TheVariants as kinds
@@ -29,13 +29,13 @@ use Rattle.fb_system.specs.Stimuli.{IsStimulusAt}
 use Rattle.fb_system.specs.declared.stimulus.StimulusAt.{StimulusAt}
 use Rattle.fb_laws.specs.Simulations.{IsTypedStimulus}
 use Rattle.fb_laws.specs.Typed.{IsTypedEvent}
-use Rattle.fb_laws.proofs.Accepted.{accepted_typed}
+use Rattle.fb_laws.proofs.lemmas.typing.Accepted.{accepted_typed}
 use Rattle.fb_resource.specs.Openings.{HasRestarts, HasStimuli, HasTimersBelow, IsOpened, IsStimulusKey, is_of, only}
 use Rattle.fb_resource.specs.Posts.{IsPut}
 use Rattle.fb_resource.specs.Waiting.{IsInOrder, MayWait, meaning}
-use Rattle.fb_types.proofs.ByIndex.{all_at}
+use Rattle.fb_types.proofs.lemmas.lists.ByIndex.{all_at}
 use Rattle.fb_resource.proofs.lemmas.PostLaws.{meaning_put, order_put, port_path, timer_class, timer_instance}
-use Rattle.fb_types.proofs.Lookups.{found-append, or_else_none}
+use Rattle.fb_types.proofs.lemmas.lists.Lookups.{found-append, or_else_none}
 use Rattle.fb_resource.proofs.lemmas.ReadyIs.{sound_system}
 
 -- ---- How many stimuli there are

@@ -16,8 +16,8 @@ use Rattle.fb_types.specs.Takes.{Posts, post, post_all, with_at, is_timer_of}
 use Rattle.fb_types.specs.declared.key.Key.{Key}
 use Rattle.fb_types.specs.declared.run.Message.{Message}
 use Rattle.fb_types.specs.declared.run.Target.{Target}
-use Rattle.fb_types.proofs.KeyLaws.{same_key_is}
-use Rattle.fb_types.proofs.TakeLaws.{found-put}
+use Rattle.fb_types.proofs.lemmas.events.KeyLaws.{same_key_is}
+use Rattle.fb_types.proofs.lemmas.lists.TakeLaws.{found-put}
 use Rattle.fb_agenda.specs.Agendas.{Contents, waiting, IsTimed}
 use Rattle.fb_types.specs.declared.run.Event.{Event}
 use Rattle.fb_types.specs.declared.run.Event.TheVariants.{Arrival, Local}
@@ -27,7 +27,7 @@ use Rattle.fb_net.specs.declared.outbox.Out.{Out}
 use Rattle.fb_net.specs.declared.outbox.Out.TheVariants as outs
 use Rattle.fb_net.specs.Events.{event_of}
 use Rattle.fb_resource.specs.Posts.{ArePosted, CountsAre, IsMessage, IsPut, IsSendable, arriving, message_of}
-pub use Rattle.fb_link.proofs.Lists.{next_of}
+pub use Rattle.fb_link.proofs.lemmas.Lists.{next_of}
 use Rattle.fb_resource.specs.Waiting.{meaning, MayWait, AllMayWait, TimersAtHome, IsInOrder}
 
 pub timer_class : (r n : ℕ) (j : Key) → is_timer_of r n j ≡ true → j.class ≡ 1

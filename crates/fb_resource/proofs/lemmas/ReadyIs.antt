@@ -15,11 +15,11 @@ use Rattle.fb_types.specs.Takes.{is_timer_of}
 use Rattle.fb_types.specs.declared.key.Key.{Key}
 use Rattle.fb_types.specs.declared.run.TimerAsk.{TimerAsk}
 use Rattle.fb_types.specs.declared.run.TimerAsk.TheVariants.{Keep, Clear, At}
-use Rattle.fb_types.proofs.KeyLaws.{same_key_is}
+use Rattle.fb_types.proofs.lemmas.events.KeyLaws.{same_key_is}
 use Rattle.fb_laws.specs.Sound.{IsSound}
-use Rattle.fb_laws.proofs.Accepting.{sound_of}
-use Rattle.fb_laws.proofs.Outs.{GoodOutcome, IsGood, reacts_good}
-use Rattle.fb_laws.proofs.Timers as timers
+use Rattle.fb_laws.proofs.lemmas.soundness.Accepting.{sound_of}
+use Rattle.fb_laws.proofs.lemmas.soundness.Outs.{GoodOutcome, IsGood, reacts_good}
+use Rattle.fb_laws.proofs.lemmas.takings.Timers as timers
 use Rattle.fb_agenda.specs.Agendas.{Contents, IsTimed, IsInResource, timer_set, waiting}
 use Rattle.fb_types.specs.declared.run.Event.{Event}
 use Rattle.fb_types.specs.declared.run.Event.TheVariants.{Timer}
@@ -28,11 +28,11 @@ use Rattle.fb_net.specs.declared.outbox.Out.{Out}
 use Rattle.fb_net.specs.declared.outbox.Out.TheVariants.{Local, Send}
 use Rattle.fb_net.specs.declared.outbox.Outbox.{Outbox}
 use Rattle.fb_net.specs.Events.{CameTo, event_of}
-use Rattle.fb_net.proofs.Asked.{asked_first}
+use Rattle.fb_net.proofs.lemmas.taking.AskedTimers.{asked_first}
 use Rattle.fb_net.specs.declared.resource.Forest.{Forest}
 use Rattle.fb_laws.specs.Typed.{AreTyped, IsTypedEvent, IsTypedOut, KeepsTypes}
-use Rattle.fb_laws.proofs.Accepted.{accepted_typed}
-use Rattle.fb_laws.proofs.Kept.{reacts_typed}
+use Rattle.fb_laws.proofs.lemmas.typing.Accepted.{accepted_typed}
+use Rattle.fb_laws.proofs.lemmas.typing.ReactionTypes.{reacts_typed}
 use Rattle.fb_resource.specs.Counts.{IsMetered}
 use Rattle.fb_resource.specs.Posts.{IsPostable}
 use Rattle.fb_resource.specs.Takings.{IsLater}

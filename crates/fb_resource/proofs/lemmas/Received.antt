@@ -9,14 +9,14 @@ use Rattle.fb_types.specs.Machines.{Local}
 use Rattle.fb_types.specs.Parts.{machine}
 use Rattle.fb_types.specs.declared.key.Key.{Key}
 use Rattle.fb_types.specs.declared.run.Message.{Message}
-use Rattle.fb_types.proofs.KeyLaws.{same_key_is}
-use Rattle.fb_types.proofs.Lookups.{none_since, or_else_some}
+use Rattle.fb_types.proofs.lemmas.events.KeyLaws.{same_key_is}
+use Rattle.fb_types.proofs.lemmas.lists.Lookups.{none_since, or_else_some}
 use Rattle.fb_agenda.specs.Agendas.{Contents, waiting}
 use Rattle.fb_agenda.specs.Arrivals.{arrival_at, arrivals_at}
 use Rattle.fb_types.specs.declared.run.Event.{Event}
 use Rattle.fb_types.specs.declared.run.Event.TheVariants.{Arrival}
-use Rattle.fb_agenda.proofs.Placing.{arrival_class}
-use Rattle.fb_agenda.proofs.Timers.{timer_class}
+use Rattle.fb_agenda.proofs.lemmas.MessagesPut.{arrival_class}
+use Rattle.fb_agenda.proofs.lemmas.Timers.{timer_class}
 use Rattle.fb_net.specs.Events.{event_of, IsEventIn}
 use Rattle.fb_resource.specs.Posts.{arriving, key_of, receiver_of}
 use Rattle.fb_resource.specs.Waiting.{IsInOrder, MayWait, meaning}

@@ -10,7 +10,7 @@ use Rattle.fb_types.specs.States.{State, Event as AnEvent}
 use Rattle.fb_types.specs.Takes.{Effect, Takes}
 use Rattle.fb_types.specs.declared.key.Key.{Key}
 use Rattle.fb_types.specs.declared.value.Reason.{Reason}
-use Rattle.fb_types.proofs.Lookups.{edit_some}
+use Rattle.fb_types.proofs.lemmas.lists.Lookups.{edit_some}
 use Rattle.fb_laws.specs.Sound.{IsSound}
 use Rattle.fb_agenda.specs.Agendas.{Contents, waiting}
 use Rattle.fb_types.specs.declared.run.Event.{Event}
@@ -20,8 +20,8 @@ use Rattle.fb_resource.specs.Takings.{IsHere, IsTakenHere}
 use Rattle.fb_resource.specs.declared.queues.Queues.{Queues}
 use Rattle.fb_resource.specs.Waiting.{meaning}
 use Rattle.fb_resource.proofs.lemmas.Leaving.{Left, still}
-use Rattle.fb_laws.proofs.Effects.{takes_good}
-use Rattle.fb_laws.proofs.Takings.{ChangesOwn, IsParted, parted_after, waiting_after}
+use Rattle.fb_laws.proofs.lemmas.takings.Effects.{takes_good}
+use Rattle.fb_laws.proofs.lemmas.resources.Takings.{ChangesOwn, IsParted, parted_after, waiting_after}
 
 -- The event of a key, before which none waits, left the agenda.
 pub record HasLeft (k : Key) (e : Event) (old new : Contents) : Type 0 where

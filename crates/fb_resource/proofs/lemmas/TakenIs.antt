@@ -21,12 +21,12 @@ use Rattle.fb_types.specs.declared.run.Event.TheVariants.{Timer}
 use Rattle.fb_net.specs.Outs.{only_lines, out_of}
 use Rattle.fb_net.specs.declared.outbox.Outbox.{Outbox}
 use Rattle.fb_net.specs.Events.{CameTo, event_of}
-use Rattle.fb_net.proofs.Asked.{asked_first}
+use Rattle.fb_net.proofs.lemmas.taking.AskedTimers.{asked_first}
 use Rattle.fb_net.specs.Worlds.{IsForest}
 use Rattle.fb_net.specs.declared.resource.Forest.{Forest}
 use Rattle.fb_laws.specs.Typed.{IsTypedEvent, IsTypedSystem}
-use Rattle.fb_laws.proofs.Agendas.{holds_none}
-use Rattle.fb_laws.proofs.Simulated.{IsTypedConfig, takes-typed}
+use Rattle.fb_laws.proofs.lemmas.takings.Agendas.{holds_none}
+use Rattle.fb_laws.proofs.lemmas.typing.Simulated.{IsTypedConfig, takes-typed}
 use Rattle.fb_resource.specs.Counts.{meter_of}
 use Rattle.fb_resource.specs.Posts.{CountsAre, arriving}
 use Rattle.fb_resource.specs.Takings.{IsHere, IsSettled, IsTakenHere}

@@ -7,8 +7,8 @@ use Rattle.std.proofs.lemmas.Bool.{false_from_ne_true}
 use Rattle.fb_types.specs.Names.{Name, same_name}
 use Rattle.fb_types.specs.Blocks.{named}
 use Rattle.fb_types.specs.Repeated.{Twice}
-use Rattle.fb_types.proofs.Positions.{position-first, slice_get-Contains}
-use Rattle.fb_types.proofs.NameLaws.{same_from_same_name, same_name-flip}
+use Rattle.fb_types.proofs.lemmas.lists.Positions.{position-first, slice_get-Contains}
+use Rattle.fb_types.proofs.lemmas.names.NameLaws.{same_from_same_name, same_name-flip}
 
 -- ---- `position` by recursion
 

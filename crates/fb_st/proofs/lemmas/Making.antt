@@ -8,7 +8,7 @@ use Rattle.fb_types.specs.Values.{function_named}
 use Rattle.fb_types.specs.declared.function.Function.{Function}
 use Rattle.fb_types.specs.declared.function.Function.TheVariants as function
 use Rattle.fb_types.specs.declared.text.BinaryOperator.{BinaryOperator}
-use Rattle.fb_types.proofs.NameLaws.{same_from_same_name}
+use Rattle.fb_types.proofs.lemmas.names.NameLaws.{same_from_same_name}
 use Rattle.fb_st.specs.Required.{gives_number}
 use Rattle.fb_st.specs.Frames.{Declared}
 use Rattle.fb_st.specs.declared.compiled.NumberExpr.{NumberExpr, fold-roll-NumberExpr}

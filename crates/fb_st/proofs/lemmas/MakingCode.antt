@@ -7,7 +7,7 @@ use Rattle.fb_types.specs.Syntax as syntax
 use Rattle.fb_types.specs.declared.text.Label.{Label}
 use Rattle.fb_types.specs.declared.value.Ty.{Ty}
 use Rattle.fb_types.specs.declared.value.Ty.TheVariants as ty
-use Rattle.fb_types.proofs.LoopSteps.{map_take_more}
+use Rattle.fb_types.proofs.lemmas.lists.LoopSteps.{map_take_more}
 use Rattle.fb_st.specs.Frames.{Declared}
 use Rattle.fb_st.specs.Variables.{least_of, most_of}
 use Rattle.fb_st.specs.declared.compiled.CountExpr.{CountExpr}

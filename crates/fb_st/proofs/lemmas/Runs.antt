@@ -17,7 +17,7 @@ use Rattle.fb_types.specs.declared.text.Branch.{Branch, out-Branch, fold_out-Bra
 use Rattle.fb_types.specs.declared.value.Value.{Value}
 use Rattle.fb_types.specs.declared.value.Reason.{Reason}
 use Rattle.fb_types.specs.declared.value.Reason.TheVariants as reason
-use Rattle.fb_types.proofs.NameLaws.{same_name-itself}
+use Rattle.fb_types.proofs.lemmas.names.NameLaws.{same_name-itself}
 use Rattle.fb_st.specs.Frames.{Declared, declared_in, types_in, values_of}
 use Rattle.fb_st.specs.Flows.{end_of, point, all_of, choices_of, branches_of, choice_of, branch_of}
 use Rattle.fb_st.specs.declared.frame.Slot.{Slot}

@@ -12,9 +12,9 @@ use Rattle.fb_types.specs.Flat.{zero_value}
 use Rattle.fb_types.specs.declared.value.Value.{Value}
 use Rattle.fb_types.specs.declared.value.Ty.{Ty}
 use Rattle.fb_types.specs.declared.value.Ty.TheVariants.{Bool as Boolean}
-use Rattle.fb_types.proofs.NameLaws.{same_from_same_name, same_name-flip, same_name-itself}
+use Rattle.fb_types.proofs.lemmas.names.NameLaws.{same_from_same_name, same_name-flip, same_name-itself}
 use Rattle.fb_st.specs.declared.frame.Slot.{Slot}
-use Rattle.fb_types.proofs.Positions.{position-first}
+use Rattle.fb_types.proofs.lemmas.lists.Positions.{position-first}
 use Rattle.fb_st.specs.Frames.{values_of, names_of, index_of, Declared, declared_in, types_in, is_declared}
 use Rattle.fb_st.proofs.lemmas.Indexes.{position-later, named_at_index, index_of_once}
 

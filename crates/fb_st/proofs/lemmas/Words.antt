@@ -3,7 +3,7 @@ use Rattle.std.proofs.Common.{◌≡◌, ℕ, ℤ, zero, suc, length, List, [], 
 use Rattle.std.specs.Prelude.{slice_get}
 use Rattle.fb_types.specs.Names.{Name, with_value}
 use Rattle.fb_types.specs.Repeated.{Twice}
-use Rattle.fb_types.proofs.NameLaws.{same_name-itself}
+use Rattle.fb_types.proofs.lemmas.names.NameLaws.{same_name-itself}
 use Rattle.fb_st.specs.declared.frame.Slot.{Slot as Variable}
 use Rattle.fb_st.specs.Frames.{Declared, names_of, values_of, index_of, declared_in, types_in}
 use Rattle.fb_st.specs.Compiled.{word_at}

@@ -13,8 +13,8 @@ use Rattle.fb_types.specs.Numbers.{event_at, path_at}
 use Rattle.fb_types.specs.Repeated.{Twice}
 use Rattle.fb_types.specs.Text.{path_text}
 use Rattle.fb_types.specs.declared.library.EventPort.{EventPort}
-use Rattle.fb_types.proofs.ByIndex.{all_at, index_of_element}
-use Rattle.fb_types.proofs.Elements.{Contains-cons_cases, Contains-here, map-Contains}
+use Rattle.fb_types.proofs.lemmas.lists.ByIndex.{all_at, index_of_element}
+use Rattle.fb_types.proofs.lemmas.lists.Elements.{Contains-cons_cases, Contains-here, map-Contains}
 use Rattle.fb_wave.specs.Named.{AreNames, HasNames, is_digit, is_letter, is_name}
 use Rattle.fb_wave.specs.Nested.{AreNumbered}
 use Rattle.fb_wave.specs.Ports.{IsPortOf, port_text, side}

@@ -11,10 +11,10 @@ use Rattle.fb_types.specs.Numbers.{event_at, path_at}
 use Rattle.fb_types.specs.Repeated.{Twice}
 use Rattle.fb_types.specs.Systems.{System}
 use Rattle.fb_types.specs.Text.{path_text}
-use Rattle.fb_types.proofs.ByIndex.{all_at, element_of_index, index_of_element}
-use Rattle.fb_types.proofs.Elements.{Contains-here, Contains-map}
-use Rattle.fb_types.proofs.NameLaws.{any_from_contains}
-use Rattle.fb_types.proofs.Positions.{is_some-position, position_is}
+use Rattle.fb_types.proofs.lemmas.lists.ByIndex.{all_at, element_of_index, index_of_element}
+use Rattle.fb_types.proofs.lemmas.lists.Elements.{Contains-here, Contains-map}
+use Rattle.fb_types.proofs.lemmas.names.NameLaws.{any_from_contains}
+use Rattle.fb_types.proofs.lemmas.lists.Positions.{is_some-position, position_is}
 use Rattle.fb_check_names.specs.Indexes.{index_in}
 use Rattle.fb_wave.specs.Named.{AreNames, HasNames}
 use Rattle.fb_wave.specs.Ports.{BeginsWith, IsPortOf, holder_name, port_text, side}

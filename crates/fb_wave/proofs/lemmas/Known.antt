@@ -15,14 +15,14 @@ use Rattle.fb_types.specs.declared.library.BlockType.TheVariants as block
 use Rattle.fb_types.specs.declared.library.Library.{Library}
 use Rattle.fb_types.specs.declared.library.Network.{Network}
 use Rattle.fb_types.specs.declared.library.Ports.{Ports}
-use Rattle.fb_types.proofs.Elements.{Contains-cons_cases, Contains-here, Contains-nil, Contains-there, flat_map-Contains}
-use Rattle.fb_types.proofs.NameLaws.{named-Contains}
-use Rattle.fb_types.proofs.Options.{and_then_parts, map_parts}
-use Rattle.fb_types.proofs.TwiceLaws.{Twice-append_left, Twice-append_right}
-use Rattle.fb_types.proofs.EventNames.{events_once as event_names_once}
-use Rattle.fb_check_names.proofs.NameTwice.{block_twice}
-use Rattle.fb_system.proofs.Distinct.{below, paths_from}
-use Rattle.fb_system.proofs.Naming.{variables_once}
+use Rattle.fb_types.proofs.lemmas.lists.Elements.{Contains-cons_cases, Contains-here, Contains-nil, Contains-there, flat_map-Contains}
+use Rattle.fb_types.proofs.lemmas.names.NameLaws.{named-Contains}
+use Rattle.fb_types.proofs.lemmas.lists.Options.{and_then_parts, map_parts}
+use Rattle.fb_types.proofs.lemmas.lists.TwiceLaws.{Twice-append_left, Twice-append_right}
+use Rattle.fb_types.proofs.lemmas.events.EventNames.{events_once as event_names_once}
+use Rattle.fb_check_names.proofs.lemmas.twice.NameTwice.{block_twice}
+use Rattle.fb_system.proofs.lemmas.networks.Distinct.{below, paths_from}
+use Rattle.fb_system.proofs.lemmas.types.Naming.{variables_once}
 
 -- ---- The variables of an instance have different names
 

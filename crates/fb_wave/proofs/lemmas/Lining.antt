@@ -19,7 +19,7 @@ use Rattle.fb_types.specs.declared.run.Line.{Line}
 use Rattle.fb_types.specs.declared.value.Reason.{Reason}
 use Rattle.fb_types.specs.declared.value.Reason.TheVariants.{Steps, Divide, Range}
 use Rattle.fb_types.specs.declared.value.Value.{Value}
-use Rattle.fb_types.proofs.Elements.{map-Contains}
+use Rattle.fb_types.proofs.lemmas.lists.Elements.{map-Contains}
 use Rattle.fb_system.specs.Lines.{line_variables}
 use Rattle.fb_system.specs.IndexLists.{AreIndexes, variable_at}
 use Rattle.fb_wave.specs.Lines.{IsEndOf, IsInRange, IsLineOf, line_side}

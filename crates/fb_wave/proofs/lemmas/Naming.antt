@@ -15,8 +15,8 @@ use Rattle.fb_types.specs.declared.library.Library.{Library}
 use Rattle.fb_types.specs.declared.library.Network.{Network}
 use Rattle.fb_types.specs.declared.library.Ports.{Ports}
 use Rattle.fb_types.specs.declared.library.Variable.{Variable}
-use Rattle.fb_types.proofs.Elements.{Contains-cons_cases, Contains-flat_map, Contains-here, Contains-nil, Contains-there, flat_map-Contains}
-use Rattle.fb_system.proofs.Distinct.{below, paths_from}
+use Rattle.fb_types.proofs.lemmas.lists.Elements.{Contains-cons_cases, Contains-flat_map, Contains-here, Contains-nil, Contains-there, flat_map-Contains}
+use Rattle.fb_system.proofs.lemmas.networks.Distinct.{below, paths_from}
 use Rattle.fb_wave.specs.Named.{AreNames, HasNames, are_ports_named, is_name, is_named_at, port_names}
 use Rattle.fb_wave.specs.Scopes.{own_name}
 use Rattle.fb_wave.proofs.lemmas.Known.{path_some, there}

@@ -13,8 +13,8 @@ use Rattle.fb_types.specs.declared.deploy.Plan.{Plan}
 use Rattle.fb_types.specs.declared.library.Instance.{Instance}
 use Rattle.fb_types.specs.declared.library.Library.{Library}
 use Rattle.fb_types.specs.declared.library.Network.{Network}
-use Rattle.fb_types.proofs.Elements.{Contains-cons_cases, Contains-here, Contains-nil, Contains-there, flat_map-Contains}
-use Rattle.fb_system.proofs.Distinct.{below, paths_from}
+use Rattle.fb_types.proofs.lemmas.lists.Elements.{Contains-cons_cases, Contains-here, Contains-nil, Contains-there, flat_map-Contains}
+use Rattle.fb_system.proofs.lemmas.networks.Distinct.{below, paths_from}
 use Rattle.fb_wave.specs.Nested.{AreNested, AreNumbered, scope_text, scopes_inside}
 use Rattle.fb_wave.specs.Scopes.{closed, instances_declared, opened, own_name, ports_declared}
 use Rattle.fb_wave.specs.Signals.{first_signal, size_of, sizes_of}

@@ -7,7 +7,7 @@ use Rattle.fb_types.specs.Blocks.{variable_names}
 use Rattle.fb_types.specs.Names.{Name}
 use Rattle.fb_types.specs.Repeated.{Twice}
 use Rattle.fb_types.specs.declared.library.Variable.{Variable}
-use Rattle.fb_types.proofs.Positions.{position_of_once}
+use Rattle.fb_types.proofs.lemmas.lists.Positions.{position_of_once}
 use Rattle.fb_system.specs.IndexLists.{AreIndexes, variable_at}
 use Rattle.fb_wave.specs.LineSignals.{index_of}
 

@@ -10,7 +10,7 @@ use Rattle.fb_types.specs.Text.{path_text, value_text, values_text}
 use Rattle.fb_types.specs.declared.value.Ty.{Ty}
 use Rattle.fb_types.specs.declared.value.Value.{Value}
 use Rattle.fb_types.specs.Values.{fits}
-use Rattle.fb_types.proofs.Elements.{Contains-here, Contains-there}
+use Rattle.fb_types.proofs.lemmas.lists.Elements.{Contains-here, Contains-there}
 use Rattle.fb_wave.specs.Named.{AreNames, is_digit, is_letter, is_name}
 use Rattle.fb_wave.specs.Reading.{fit_each}
 use Rattle.fb_wave.specs.Words.{is_end, is_word}

@@ -4,8 +4,8 @@ use Rattle.std.proofs.lemmas.Bool.{cases_lt, true≢false}
 use Rattle.std.proofs.lemmas.List.Elements.{Contains-append_left, Contains-append_right, Contains-push_cases}
 use Rattle.fb_types.specs.Repeated.{Twice}
 use Rattle.fb_types.specs.Systems.{System}
-use Rattle.fb_types.proofs.Elements.{Contains-here}
-use Rattle.fb_types.proofs.TwiceLaws.{once_push}
+use Rattle.fb_types.proofs.lemmas.lists.Elements.{Contains-here}
+use Rattle.fb_types.proofs.lemmas.lists.TwiceLaws.{once_push}
 use Rattle.fb_wave.specs.Ports.{AreAdded, HasNone, IsPortOf, side}
 use Rattle.fb_wave.specs.declared.ports.Port.{Port}
 use Rattle.fb_wave.proofs.lemmas.Gluing.{port_at}

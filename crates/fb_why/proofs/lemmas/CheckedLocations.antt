@@ -10,11 +10,11 @@ use Rattle.fb_types.specs.declared.deploy.Plan.{Plan}
 use Rattle.fb_types.specs.declared.deploy.Stimulus.{Stimulus}
 use Rattle.fb_types.specs.declared.library.Library.{Library}
 use Rattle.fb_check_names.specs.declared.twice.GivenTwice.{GivenTwice}
-use Rattle.fb_check_names.proofs.Listing.{none_said}
+use Rattle.fb_check_names.proofs.lemmas.Listing.{none_said}
 use Rattle.fb_check_names.specs.Twice.{IsTwiceAt}
 use Rattle.fb_check_names.specs.TwiceLists.{twice_all}
-use Rattle.fb_check_names.proofs.AllTwice.{each_twice, none_twice}
-use Rattle.fb_check_names.proofs.Applying.{twice_applies}
+use Rattle.fb_check_names.proofs.lemmas.twice.AllTwice.{each_twice, none_twice}
+use Rattle.fb_check_names.proofs.lemmas.numbers.Applying.{twice_applies}
 use Rattle.fb_check_names.specs.declared.location.Joined.{Joined}
 use Rattle.fb_check_names.specs.declared.location.Misfit.{Misfit}
 use Rattle.fb_check_names.specs.declared.location.Misjoin.{Misjoin}

@@ -19,7 +19,7 @@ use Rattle.fb_why.specs.declared.place.PlacedFinding.{PlacedFinding}
 use Rattle.fb_check.specs.declared.location.Location.{Location}
 use Rattle.fb_why.specs.declared.location.FindingLocation.{FindingLocation}
 use Rattle.fb_why.specs.declared.location.FindingLocation.TheVariants as found
-use Rattle.fb_check_names.proofs.Repeating.{none_mapped}
+use Rattle.fb_check_names.proofs.lemmas.twice.Repeating.{none_mapped}
 
 -- ---- Locations of inputs
 

@@ -14,8 +14,8 @@ use Rattle.fb_read.specs.Front.{front}
 use Rattle.fb_read.specs.Located.{AreLocated, no_more, then_token}
 use Rattle.fb_read.specs.Refusals.{IsErrorAt, IsFaultAt, IsNestingAt, IsNext}
 use Rattle.fb_read.specs.Tokens.{after_mark}
-use Rattle.fb_read.proofs.NextLaws.{same-length}
-use Rattle.fb_read.proofs.PlaceLaws.{nothing-up-to, tokens-up-to}
+use Rattle.fb_read.proofs.lemmas.rules.NextLaws.{same-length}
+use Rattle.fb_read.proofs.lemmas.tokens.PlaceLaws.{nothing-up-to, tokens-up-to}
 use Rattle.fb_why.specs.declared.find.TextRefusal.{TextRefusal}
 use Rattle.fb_read_positions.specs.declared.places.Place.{Place}
 use Rattle.fb_why.specs.Faults.{Agrees, EndsAt, FindsFault, IsAfterToken, IsNoLibrary, IsShownFor, IsTextRefusal}

@@ -1,5 +1,5 @@
 use Rattle.fb_agenda.specs.Agendas.{local_events}
-use Rattle.fb_agenda.proofs.Lists.{false_weaker, leads_none, leads_past, true_weaker}
+use Rattle.fb_agenda.proofs.lemmas.Lists.{false_weaker, leads_none, leads_past, true_weaker}
 use Rattle.fb_agenda.proofs.agenda.is_now_first.Goals as goal
 
 pub returns-in_default-clause-later : goal.returns-in_default-clause-later

@@ -5,7 +5,7 @@ use Rattle.fb_types.specs.Keys.{same_key}
 use Rattle.fb_types.specs.declared.key.Key.{Key}
 use Rattle.fb_types.specs.declared.run.Event.TheVariants.{Arrival}
 use Rattle.fb_agenda.specs.Lists.{Sets}
-use Rattle.fb_agenda.proofs.Placing.{surely}
+use Rattle.fb_agenda.proofs.lemmas.MessagesPut.{surely}
 use Rattle.fb_agenda.proofs.arrivals.fill_key.Goals as goal
 
 pub put-reserved-requires : goal.put-reserved-requires

@@ -5,8 +5,8 @@ use Rattle.std.specs.Vec.Iter.{into_iter_items}
 use Rattle.std.proofs.lemmas.List.{map-append, nil_from_length}
 use Rattle.fb_types.specs.Keys.{found, or_else, same_key}
 use Rattle.fb_agenda.specs.Arrivals.{arrival_at, arrivals_at}
-use Rattle.fb_agenda.proofs.Orders.{either_some}
-use Rattle.fb_agenda.proofs.Placing.{filled_more, found_there}
+use Rattle.fb_agenda.proofs.lemmas.Orders.{either_some}
+use Rattle.fb_agenda.proofs.lemmas.MessagesPut.{filled_more, found_there}
 use Rattle.fb_agenda.proofs.arrivals.fill_keys.Goals as goal
 
 pub fill_key-requires : goal.fill_key-requires

@@ -4,7 +4,7 @@ use Rattle.fb_agenda.specs.Arrivals.{HasKeys, KeepsOthers, arrival_at, arrivals_
 use Rattle.fb_agenda.specs.Laters.{Pending}
 use Rattle.fb_types.specs.declared.run.Event.TheVariants.{Stimulus}
 use Rattle.fb_agenda.specs.Lists.{Sets}
-use Rattle.fb_agenda.proofs.Placing.{arrivals_more, has_more, keeps_all, keeps_more}
+use Rattle.fb_agenda.proofs.lemmas.MessagesPut.{arrivals_more, has_more, keeps_all, keeps_more}
 use Rattle.fb_agenda.proofs.arrivals.reserve_keys.Goals as goal
 
 pub put-requires : goal.put-requires

@@ -1,6 +1,6 @@
 use Rattle.std.proofs.Common.{sym, ◌∙◌}
-use Rattle.fb_agenda.proofs.Lists.{leads_less, leads_not_less, when_false, when_true}
-use Rattle.fb_agenda.proofs.Orders.{less_is}
+use Rattle.fb_agenda.proofs.lemmas.Lists.{leads_less, leads_not_less, when_false, when_true}
+use Rattle.fb_agenda.proofs.lemmas.Orders.{less_is}
 use Rattle.fb_agenda.proofs.later.is_timer_first.Goals as goal
 
 pub returns-clause-timers : goal.returns-clause-timers

@@ -1,7 +1,7 @@
 use Rattle.std.proofs.Common.{ap}
 use Rattle.std.specs.Prelude.{is_some}
 use Rattle.fb_types.specs.Keys.{key_cmp}
-use Rattle.fb_types.proofs.KeyLaws.{before_least}
+use Rattle.fb_types.proofs.lemmas.events.KeyLaws.{before_least}
 use Rattle.std.specs.BTreeMap as tree
 use Rattle.fb_agenda.proofs.store.first_of_map.Goals as goal
 

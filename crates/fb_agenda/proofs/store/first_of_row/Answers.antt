@@ -1,5 +1,5 @@
 use Rattle.std.proofs.Common.{refl, ap, arith}
-use Rattle.fb_agenda.proofs.Orders.{first_is}
+use Rattle.fb_agenda.proofs.lemmas.Orders.{first_is}
 use Rattle.fb_agenda.proofs.store.first_of_row.Goals as goal
 
 pub returns-clause-some : goal.returns-clause-some

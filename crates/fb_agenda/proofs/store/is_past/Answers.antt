@@ -5,7 +5,7 @@ use Rattle.std.specs.Ordering.{is_lt}
 use Rattle.std.specs.declared.cmp.Ordering.{Ordering}
 use Rattle.std.specs.declared.cmp.Ordering.TheVariants.{Less, Equal, Greater}
 use Rattle.fb_types.specs.Keys.{Precedes, key_cmp}
-use Rattle.fb_agenda.proofs.Orders.{all_before, all_before_none, less_is}
+use Rattle.fb_agenda.proofs.lemmas.Orders.{all_before, all_before_none, less_is}
 use Rattle.fb_agenda.proofs.store.is_past.Goals as goal
 
 where_less : {P : Type 0} (b : Bool) (o : Ordering) → b ≡ is_lt o → (o ≡ Less → P) → OnTrue b P

@@ -1,5 +1,5 @@
 use Rattle.std.proofs.lemmas.List.{nil_from_length}
-use Rattle.fb_agenda.proofs.Lists.{leads_none}
+use Rattle.fb_agenda.proofs.lemmas.Lists.{leads_none}
 use Rattle.fb_agenda.proofs.store.is_row_first.Goals as goal
 
 pub returns-then-is_empty-clause-row : goal.returns-then-is_empty-clause-row

@@ -1,7 +1,7 @@
 use Rattle.std.proofs.Common.{◌∙◌, arith, rules}
 use Rattle.std.proofs.lemmas.List.Sorted.{answers_always}
-use Rattle.fb_agenda.proofs.Lists.{absent_between, err_known}
-use Rattle.fb_agenda.proofs.Orders.{put_over, put_between, searchable}
+use Rattle.fb_agenda.proofs.lemmas.Lists.{absent_between, err_known}
+use Rattle.fb_agenda.proofs.lemmas.Orders.{put_over, put_between, searchable}
 use Rattle.fb_agenda.proofs.store.put_within.Goals as goal
 
 -- the key is there, and its event is replaced

@@ -1,5 +1,5 @@
 use Rattle.std.proofs.Common.{rules, refl, arith}
-use Rattle.fb_check_names.proofs.Listing.{some_says}
+use Rattle.fb_check_names.proofs.lemmas.Listing.{some_says}
 use Rattle.fb_check.specs.declared.location.StimulusLocation.{StimulusLocation}
 use Rattle.fb_check.specs.Stimuli.{IsBadAt}
 use Rattle.fb_check.proofs.lemmas.GoodStimuli.{bad_applies}

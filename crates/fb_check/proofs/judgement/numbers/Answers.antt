@@ -1,5 +1,5 @@
 use Rattle.std.proofs.Common.{rules, ◌≡◌, List, ◌++◌, map, sym, ap, ◌∙◌}
-use Rattle.fb_check_names.proofs.Listing.{some_says}
+use Rattle.fb_check_names.proofs.lemmas.Listing.{some_says}
 use Rattle.fb_check_names.specs.declared.location.UnknownName.{UnknownName}
 use Rattle.fb_check.specs.types.Unknown.{IsUnknownAt}
 use Rattle.fb_check.specs.types.Unknowns.{unknown_all}

@@ -10,7 +10,7 @@ use Rattle.fb_types.specs.declared.library.Library.{Library}
 use Rattle.fb_types.specs.declared.library.Connection.{Connection}
 use Rattle.fb_types.specs.declared.library.PortName.{PortName}
 use Rattle.fb_types.specs.declared.deploy.Plan.{Plan}
-use Rattle.fb_types.proofs.Elements.{Contains-nil, Contains-map, map-Contains}
+use Rattle.fb_types.proofs.lemmas.lists.Elements.{Contains-nil, Contains-map, map-Contains}
 use Rattle.fb_check.specs.networks.Mapping.{IsHolding, resource_in}
 use Rattle.fb_check.specs.networks.Links.{pair_of}
 use Rattle.fb_check.specs.networks.Serving.{Lead, lead_cmp, lead_port, path_of, withs_of, IsExtended, Serves, AreServed}

@@ -10,13 +10,13 @@ use Rattle.fb_types.specs.declared.library.BlockType.TheVariants as block
 use Rattle.fb_types.specs.declared.library.CompositeType.{CompositeType}
 use Rattle.fb_types.specs.declared.library.Instance.{Instance}
 use Rattle.fb_types.specs.declared.deploy.Plan.{Plan}
-use Rattle.fb_types.proofs.ByIndex.{element_of_index}
+use Rattle.fb_types.proofs.lemmas.lists.ByIndex.{element_of_index}
 use Rattle.fb_check_names.specs.declared.numbers.TypeNumber.{TypeNumber}
 use Rattle.fb_check_names.specs.declared.numbers.TypeNumber.TheVariants as number
 use Rattle.fb_check_names.specs.declared.numbers.NetworkNumbers.{NetworkNumbers}
 use Rattle.fb_check_names.specs.declared.numbers.Resolved.{Resolved}
 use Rattle.fb_check_names.specs.Numbers.{IsNetwork, IsResolved, kind_of_number, type_number}
-use Rattle.fb_check_names.proofs.Each.{each_from}
+use Rattle.fb_check_names.proofs.lemmas.Each.{each_from}
 use Rattle.fb_check_names.specs.declared.location.Descent.{Descent}
 use Rattle.fb_check_names.specs.declared.location.Descent.TheVariants.{Circle, Height}
 use Rattle.fb_check.specs.networks.Applies.{HeightApplies}

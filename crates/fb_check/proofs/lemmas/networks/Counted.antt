@@ -21,7 +21,7 @@ use Rattle.fb_check_names.specs.declared.numbers.NetworkNumbers.{NetworkNumbers}
 use Rattle.fb_check_names.specs.declared.numbers.Resolved.{Resolved}
 use Rattle.fb_check_names.specs.Numbers.{IsNetwork, IsResolved, each_or_none, type_number, kind_of_number}
 use Rattle.fb_check.specs.networks.Counts.{inside_count, count_of, count_inside, no_count, counts_after}
-use Rattle.fb_check_names.proofs.Each.{each_parts}
+use Rattle.fb_check_names.proofs.lemmas.Each.{each_parts}
 use Rattle.fb_check.proofs.lemmas.networks.Lists.{past_both}
 use Rattle.fb_check.proofs.lemmas.networks.Naming.{type_by_number}
 

@@ -19,8 +19,8 @@ use Rattle.fb_types.specs.declared.library.PortName.{PortName}
 use Rattle.fb_types.specs.declared.library.Ports.{Ports}
 use Rattle.fb_types.specs.declared.library.Variable.{Variable}
 use Rattle.fb_types.specs.declared.deploy.Plan.{Plan}
-use Rattle.fb_types.proofs.Positions.{named-position, position_is, slice_get-Contains}
-use Rattle.fb_types.proofs.Elements.{Contains-cons_cases}
+use Rattle.fb_types.proofs.lemmas.lists.Positions.{named-position, position_is, slice_get-Contains}
+use Rattle.fb_types.proofs.lemmas.lists.Elements.{Contains-cons_cases}
 use Rattle.fb_check_names.specs.declared.numbers.TypeNumber.{TypeNumber}
 use Rattle.fb_check_names.specs.declared.numbers.ConnectionEnd.{ConnectionEnd}
 use Rattle.fb_check_names.specs.declared.numbers.NumberedConnection.{NumberedConnection}
@@ -29,17 +29,17 @@ use Rattle.fb_check_names.specs.declared.numbers.Resolved.{Resolved}
 use Rattle.fb_check_names.specs.Numbers.{IsNetwork, IsResolved, index_of, type_number, kind_of_number, ports_at_index, end_at, end_number, both_ends, data_wire}
 use Rattle.fb_check.specs.networks.Ranges.{is_within}
 use Rattle.fb_check.specs.networks.Variables.{source_type, target_type}
-use Rattle.fb_types.proofs.Options.{and_then_parts, map_parts}
-use Rattle.fb_check_names.proofs.Each as numbered
-use Rattle.fb_types.proofs.ByIndex.{element_of_index}
-use Rattle.fb_types.proofs.ListTests.{passes_at}
+use Rattle.fb_types.proofs.lemmas.lists.Options.{and_then_parts, map_parts}
+use Rattle.fb_check_names.proofs.lemmas.Each as numbered
+use Rattle.fb_types.proofs.lemmas.lists.ByIndex.{element_of_index}
+use Rattle.fb_types.proofs.lemmas.lists.ListTests.{passes_at}
 use Rattle.fb_check_names.specs.Listed.{each_at, unless}
 use Rattle.fb_check_names.specs.Sites.{inside_of, network_at}
 use Rattle.fb_check_names.specs.declared.location.Misjoin.{Misjoin}
 use Rattle.fb_check_names.specs.declared.location.Site.{Site}
 use Rattle.fb_check_names.specs.declared.location.Site.TheVariants.{Application, Inside}
-use Rattle.fb_check_names.proofs.Listing.{alike, all_each, all_unless, none_each, none_unless}
-use Rattle.fb_check_names.proofs.InNetworks.{all_in_networks, none_in_networks, site_network}
+use Rattle.fb_check_names.proofs.lemmas.Listing.{alike, all_each, all_unless, none_each, none_unless}
+use Rattle.fb_check_names.proofs.lemmas.unknown.InNetworks.{all_in_networks, none_in_networks, site_network}
 use Rattle.fb_check.specs.networks.Networks.{boundary}
 use Rattle.fb_check.specs.networks.Joins.{is_out}
 use Rattle.fb_check.specs.networks.Misjoins.{IsMisjoinedAt, is_joined, misjoin_at, misjoins_all, misjoins_in, out_at, out_at_index, out_in, out_inside}

@@ -15,15 +15,15 @@ use Rattle.fb_types.specs.declared.library.Library.{Library}
 use Rattle.fb_types.specs.declared.library.Instance.{Instance}
 use Rattle.fb_types.specs.declared.deploy.Plan.{Plan}
 use Rattle.fb_types.specs.declared.deploy.ResourceEntry.{ResourceEntry}
-use Rattle.fb_types.proofs.ByIndex.{element_of_index}
-use Rattle.fb_types.proofs.NameLaws.{contains_from_any, any_from_contains, same_name-Decides}
-use Rattle.fb_types.proofs.Elements.{Contains-here, Contains-map}
+use Rattle.fb_types.proofs.lemmas.lists.ByIndex.{element_of_index}
+use Rattle.fb_types.proofs.lemmas.names.NameLaws.{contains_from_any, any_from_contains, same_name-Decides}
+use Rattle.fb_types.proofs.lemmas.lists.Elements.{Contains-here, Contains-map}
 use Rattle.fb_check_names.specs.Listed.{each_at}
 use Rattle.fb_check_names.specs.Repeats.{IsPair, repeats}
 use Rattle.fb_check_names.specs.declared.location.Unmapped.{Unmapped}
 use Rattle.fb_check_names.specs.declared.location.Unmapped.TheVariants.{Again, Unlisted}
-use Rattle.fb_check_names.proofs.Listing.{all_each, all_unless, none_each, none_left, none_right, none_said, none_unless}
-use Rattle.fb_check_names.proofs.Repeating.{each_pair, none_mapped, once_of, pair_twice}
+use Rattle.fb_check_names.proofs.lemmas.Listing.{all_each, all_unless, none_each, none_left, none_right, none_said, none_unless}
+use Rattle.fb_check_names.proofs.lemmas.twice.Repeating.{each_pair, none_mapped, once_of, pair_twice}
 use Rattle.fb_check.specs.networks.Applies.{UnmappedApplies}
 use Rattle.fb_check_names.specs.Indexes.{AreLastIndexes}
 use Rattle.fb_check.specs.networks.Mapping.{IsMapping, owned, owners_in}

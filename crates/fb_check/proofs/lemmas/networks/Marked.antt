@@ -5,7 +5,7 @@ use Rattle.std.specs.Bool.{Decides}
 use Rattle.std.proofs.lemmas.Bool.{true≢false}
 use Rattle.std.proofs.lemmas.Option.{slice_get-map}
 use Rattle.std.proofs.lemmas.List.Elements.{All-contains}
-use Rattle.fb_types.proofs.Positions.{is_some-position}
+use Rattle.fb_types.proofs.lemmas.lists.Positions.{is_some-position}
 use Rattle.fb_types.specs.Blocks.{Kind, Composite}
 use Rattle.fb_types.specs.Flat.{kind_of}
 use Rattle.fb_types.specs.Joined.{Holds, Descends, TooHigh}
@@ -21,8 +21,8 @@ use Rattle.fb_check_names.specs.declared.numbers.NetworkNumbers.{NetworkNumbers}
 use Rattle.fb_check_names.specs.declared.numbers.Resolved.{Resolved}
 use Rattle.fb_check_names.specs.Numbers.{IsNetwork, IsResolved, type_number, kind_of_number}
 use Rattle.fb_check.specs.networks.Heights.{HoldsNone, holds_marked, is_marked, marks_after}
-use Rattle.fb_check_names.proofs.Each.{each_at, each_from}
-use Rattle.fb_types.proofs.ByIndex.{element_of_index, index_of_element}
+use Rattle.fb_check_names.proofs.lemmas.Each.{each_at, each_from}
+use Rattle.fb_types.proofs.lemmas.lists.ByIndex.{element_of_index, index_of_element}
 use Rattle.fb_check.proofs.lemmas.networks.Lists.{any_at, any_from, past_both}
 use Rattle.fb_check.proofs.lemmas.networks.Naming.{type_by_number}
 

@@ -13,14 +13,14 @@ use Rattle.fb_types.specs.declared.library.CompositeType.{CompositeType}
 use Rattle.fb_types.specs.declared.library.Ports.{Ports}
 use Rattle.fb_types.specs.declared.event_kind.EventKind.{EventKind}
 use Rattle.fb_types.specs.declared.deploy.Plan.{Plan}
-use Rattle.fb_types.proofs.TwiceLaws.{Twice-append_left, Twice-both}
-use Rattle.fb_types.proofs.Elements.{Contains-nil, Contains-cons_cases, Contains-here, Contains-there, Contains-map}
-use Rattle.fb_types.proofs.ByIndex.{element_of_index}
-use Rattle.fb_types.proofs.EventNames.{variables_once}
+use Rattle.fb_types.proofs.lemmas.lists.TwiceLaws.{Twice-append_left, Twice-both}
+use Rattle.fb_types.proofs.lemmas.lists.Elements.{Contains-nil, Contains-cons_cases, Contains-here, Contains-there, Contains-map}
+use Rattle.fb_types.proofs.lemmas.lists.ByIndex.{element_of_index}
+use Rattle.fb_types.proofs.lemmas.events.EventNames.{variables_once}
 use Rattle.fb_check_names.specs.declared.numbers.TypeNumber.{TypeNumber}
 use Rattle.fb_check_names.specs.declared.numbers.TypeNumber.TheVariants as number
 use Rattle.fb_check_names.specs.Numbers.{type_number, kind_of_number}
-use Rattle.fb_check_names.proofs.Lookups.{type_named-number}
+use Rattle.fb_check_names.proofs.lemmas.numbers.Lookups.{type_named-number}
 
 -- ---- Types
 

@@ -2,7 +2,7 @@
 use Rattle.std.proofs.Common.{◌≡◌, ℕ, ◌+◌, List, [], ◌∷◌, ◌++◌, Option, Some, sym, ◌∙◌, ap}
 use Rattle.std.specs.Prelude.{option_map}
 use Rattle.std.proofs.lemmas.Option.{same_Some}
-use Rattle.fb_types.proofs.Options.{and_then_parts, map_parts}
+use Rattle.fb_types.proofs.lemmas.lists.Options.{and_then_parts, map_parts}
 use Rattle.fb_check_names.specs.Numbers.{each_or_none}
 use Rattle.fb_check_names.specs.Listed.{each_at, each_from}
 

@@ -20,9 +20,9 @@ use Rattle.fb_check_names.specs.declared.numbers.TypeNumber.TheVariants as numbe
 use Rattle.fb_check_names.specs.declared.numbers.ConnectionEnd.{ConnectionEnd}
 use Rattle.fb_check_names.specs.declared.numbers.NumberedConnection.{NumberedConnection}
 use Rattle.fb_check_names.specs.declared.numbers.NetworkNumbers.{NetworkNumbers}
-use Rattle.fb_check_names.proofs.Each.{each_at}
-use Rattle.fb_types.proofs.Positions.{named-position}
-use Rattle.fb_types.proofs.Options.{and_then_parts, map_parts}
+use Rattle.fb_check_names.proofs.lemmas.Each.{each_at}
+use Rattle.fb_types.proofs.lemmas.lists.Positions.{named-position}
+use Rattle.fb_types.proofs.lemmas.lists.Options.{and_then_parts, map_parts}
 use Rattle.fb_check.specs.networks.Serving.{listed_with, withs_of, output_at, withs_at}
 
 -- ---- Types

@@ -9,16 +9,16 @@ use Rattle.fb_types.specs.Blocks.{among}
 use Rattle.fb_types.specs.Repeated.{Twice}
 use Rattle.fb_types.specs.declared.library.Instance.{Instance}
 use Rattle.fb_types.specs.declared.deploy.ResourceEntry.{ResourceEntry}
-use Rattle.fb_types.proofs.NameLaws.{contains_from_any}
-use Rattle.fb_types.proofs.Options.{none_from_is_some}
-use Rattle.fb_types.proofs.Positions.{position-cons}
-use Rattle.fb_types.proofs.TwiceLaws.{Twice-append_right, Twice-both}
+use Rattle.fb_types.proofs.lemmas.names.NameLaws.{contains_from_any}
+use Rattle.fb_types.proofs.lemmas.lists.Options.{none_from_is_some}
+use Rattle.fb_types.proofs.lemmas.lists.Positions.{position-cons}
+use Rattle.fb_types.proofs.lemmas.lists.TwiceLaws.{Twice-append_right, Twice-both}
 use Rattle.fb_check_names.specs.Indexes.{index_in}
 use Rattle.fb_check_names.specs.Listed.{each_at, each_from, unless}
 use Rattle.fb_check_names.specs.Repeats.{further, last_index, later}
 use Rattle.fb_check_names.specs.declared.location.Unmapped.TheVariants.{Unlisted}
-use Rattle.fb_check_names.proofs.Listing.{alike}
-use Rattle.fb_check_names.proofs.Repeating.{at_last_index}
+use Rattle.fb_check_names.proofs.lemmas.Listing.{alike}
+use Rattle.fb_check_names.proofs.lemmas.twice.Repeating.{at_last_index}
 use Rattle.fb_check_names.specs.Indexes.{AreLastIndexes}
 use Rattle.fb_check.specs.networks.Mapping.{owned, owners_in, unlisted_by}
 use Rattle.fb_check.specs.networks.Unmapped.{unlisted_at}

@@ -5,7 +5,7 @@ use Rattle.fb_types.specs.Repeated.{networks, networks_in}
 use Rattle.fb_types.specs.declared.library.Library.{Library}
 use Rattle.fb_types.specs.declared.library.BlockType.TheVariants as block
 use Rattle.fb_types.specs.declared.library.CompositeType.{CompositeType}
-use Rattle.fb_types.proofs.Elements.{Contains-here, Contains-there}
+use Rattle.fb_types.proofs.lemmas.lists.Elements.{Contains-here, Contains-there}
 use Rattle.fb_check.proofs.lemmas.networks.Naming.{composite_in}
 
 -- the application's network

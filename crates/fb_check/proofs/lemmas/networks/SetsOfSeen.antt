@@ -10,9 +10,9 @@ use Rattle.std.specs.BTreeSet as set
 use Rattle.std.proofs.lemmas.Bool.{true≢false}
 use Rattle.std.proofs.lemmas.List.Elements.{Contains-append_left, Contains-push, Contains-push_cases}
 use Rattle.fb_types.specs.Names.{Name, Port}
-use Rattle.fb_types.proofs.LoopSteps.{more_of_part}
-use Rattle.fb_types.proofs.NameOrders.{name_cmp-Decides, slice_cmp-Decides}
-use Rattle.fb_check_names.proofs.Seen.{IsExact}
+use Rattle.fb_types.proofs.lemmas.lists.LoopSteps.{more_of_part}
+use Rattle.fb_types.proofs.lemmas.names.NameOrders.{name_cmp-Decides, slice_cmp-Decides}
+use Rattle.fb_check_names.proofs.lemmas.comparisons.DecidedSame.{IsExact}
 use Rattle.fb_check.specs.networks.Serving.{Lead, lead_cmp, lead_port, path_of, name_cmp}
 
 -- ---- Comparisons that decide equality

@@ -11,12 +11,12 @@ use Rattle.fb_types.specs.Repeated.{Twice, OwnedNetwork}
 use Rattle.fb_types.specs.declared.library.Connection.{Connection}
 use Rattle.fb_types.specs.declared.library.Library.{Library}
 use Rattle.fb_check_names.specs.Ends.{End, end_port}
-use Rattle.fb_check_names.proofs.Seen.{IsExact, pair_cmp-exact}
-use Rattle.fb_check_names.proofs.Seen as seen
+use Rattle.fb_check_names.proofs.lemmas.comparisons.DecidedSame.{IsExact, pair_cmp-exact}
+use Rattle.fb_check_names.proofs.lemmas.comparisons.DecidedSame as seen
 use Rattle.fb_check_names.specs.Repeats.{IsPair, repeats}
 use Rattle.fb_check_names.specs.declared.location.Joined.{Joined}
-use Rattle.fb_check_names.proofs.InNetworks.{all_in_networks, none_in_networks, site_network}
-use Rattle.fb_check_names.proofs.Repeating.{IsSame, agrees, each_pair, none_mapped, once_of, pair_twice, port_Decides}
+use Rattle.fb_check_names.proofs.lemmas.unknown.InNetworks.{all_in_networks, none_in_networks, site_network}
+use Rattle.fb_check_names.proofs.lemmas.twice.Repeating.{IsSame, agrees, each_pair, none_mapped, once_of, pair_twice, port_Decides}
 use Rattle.fb_check.specs.networks.Sources.{IsJoinedAt, joined_all, joined_at, joined_in, target, targets}
 
 -- ---- A table of the ports so far

@@ -15,19 +15,19 @@ use Rattle.fb_types.specs.declared.library.Connection.{Connection}
 use Rattle.fb_types.specs.declared.library.PortName.{PortName}
 use Rattle.fb_types.specs.declared.deploy.Plan.{Plan}
 use Rattle.fb_types.specs.declared.deploy.Link.{Link}
-use Rattle.fb_types.proofs.ByIndex.{element_of_index}
-use Rattle.fb_types.proofs.ListTests.{passes_at}
-use Rattle.fb_types.proofs.Positions.{is_some-position}
-use Rattle.fb_types.proofs.NameLaws.{same_name-Decides, same_from_same_name}
-use Rattle.fb_types.proofs.Options.{none_from_is_some}
-use Rattle.fb_types.proofs.Elements.{Contains-map, map-Contains}
+use Rattle.fb_types.proofs.lemmas.lists.ByIndex.{element_of_index}
+use Rattle.fb_types.proofs.lemmas.lists.ListTests.{passes_at}
+use Rattle.fb_types.proofs.lemmas.lists.Positions.{is_some-position}
+use Rattle.fb_types.proofs.lemmas.names.NameLaws.{same_name-Decides, same_from_same_name}
+use Rattle.fb_types.proofs.lemmas.lists.Options.{none_from_is_some}
+use Rattle.fb_types.proofs.lemmas.lists.Elements.{Contains-map, map-Contains}
 use Rattle.fb_check_names.specs.Listed.{each_at}
 use Rattle.fb_check_names.specs.Sites.{connections_of}
 use Rattle.fb_check_names.specs.declared.location.FlowKind.{FlowKind}
 use Rattle.fb_check_names.specs.declared.location.FlowKind.TheVariants.{Data, Events}
 use Rattle.fb_check_names.specs.declared.location.Unlinked.{Unlinked}
-use Rattle.fb_check_names.proofs.Listing.{all_each, all_unless, none_each, none_left, none_right, none_unless}
-use Rattle.fb_check_names.proofs.Repeating.{same_Decides}
+use Rattle.fb_check_names.proofs.lemmas.Listing.{all_each, all_unless, none_each, none_left, none_right, none_unless}
+use Rattle.fb_check_names.proofs.lemmas.twice.Repeating.{same_Decides}
 use Rattle.fb_check.specs.networks.Mapping.{IsHolding, resource_in, holder_in}
 use Rattle.fb_check.specs.networks.Links.{AreWays, IsUnlinkedAt, are_linked, is_joining, is_linked, names_of_link, pair_of, unlinked_all, unlinked_at}
 use Rattle.fb_check.specs.declared.networks.mapping.Mapping.{Mapping}

@@ -16,20 +16,20 @@ use Rattle.fb_types.specs.declared.library.Library.{Library}
 use Rattle.fb_types.specs.declared.library.Connection.{Connection}
 use Rattle.fb_types.specs.declared.library.PortName.{PortName}
 use Rattle.fb_types.specs.declared.deploy.Plan.{Plan}
-use Rattle.fb_types.proofs.ByIndex.{element_of_index}
-use Rattle.fb_types.proofs.ListTests.{passes_at, passes_somewhere}
-use Rattle.fb_types.proofs.Positions.{is_some-position}
-use Rattle.fb_types.proofs.NameLaws.{any_from_contains, contains_from_any}
-use Rattle.fb_types.proofs.PathLaws.{same_path_is, same_path_itself}
+use Rattle.fb_types.proofs.lemmas.lists.ByIndex.{element_of_index}
+use Rattle.fb_types.proofs.lemmas.lists.ListTests.{passes_at, passes_somewhere}
+use Rattle.fb_types.proofs.lemmas.lists.Positions.{is_some-position}
+use Rattle.fb_types.proofs.lemmas.names.NameLaws.{any_from_contains, contains_from_any}
+use Rattle.fb_types.proofs.lemmas.names.PathLaws.{same_path_is, same_path_itself}
 use Rattle.fb_check_names.specs.Numbers.{IsNetwork}
 use Rattle.fb_check_names.specs.declared.numbers.NetworkNumbers.{NetworkNumbers}
-use Rattle.fb_check_names.proofs.Listing.{all_each, all_unless, none_each, none_unless}
-use Rattle.fb_check_names.proofs.Repeating.{same_Decides}
+use Rattle.fb_check_names.proofs.lemmas.Listing.{all_each, all_unless, none_each, none_unless}
+use Rattle.fb_check_names.proofs.lemmas.twice.Repeating.{same_Decides}
 use Rattle.fb_check.specs.networks.Mapping.{IsHolding, resource_in}
 use Rattle.fb_check.specs.networks.Links.{pair_of}
 use Rattle.fb_check.specs.networks.Serving.{Lead, lead_cmp, Serves, AreServed, listed_with, withs_of}
 use Rattle.fb_check.specs.networks.Unserved.{IsUnservedAt, begin_together, brings, carries, end_together, is_served, unserved_all, unserved_at}
-use Rattle.fb_types.proofs.Elements.{Contains-nil, Contains-cons_cases, Contains-map, map-Contains}
+use Rattle.fb_types.proofs.lemmas.lists.Elements.{Contains-nil, Contains-cons_cases, Contains-map, map-Contains}
 use Rattle.fb_check.specs.declared.networks.mapping.Mapping.{Mapping}
 use Rattle.fb_check.proofs.lemmas.networks.CarriedData.{IsLead, lead-is}
 use Rattle.fb_check.proofs.lemmas.networks.Numbers.{data_known, known_port}

@@ -11,11 +11,11 @@ use Rattle.fb_types.specs.declared.library.Library.{Library}
 use Rattle.fb_types.specs.declared.library.Instance.{Instance}
 use Rattle.fb_types.specs.declared.library.Parameter.{Parameter}
 use Rattle.fb_types.specs.declared.library.Variable.{Variable}
-use Rattle.fb_types.proofs.Positions.{named-position}
+use Rattle.fb_types.proofs.lemmas.lists.Positions.{named-position}
 use Rattle.fb_check_names.specs.declared.numbers.TypeNumber.{TypeNumber}
 use Rattle.fb_check_names.specs.declared.numbers.NetworkNumbers.{NetworkNumbers}
 use Rattle.fb_check_names.specs.Numbers.{IsNetwork, each_or_none, index_of, type_number, kind_of_number, parameter_numbers}
-use Rattle.fb_check_names.proofs.Each as each
+use Rattle.fb_check_names.proofs.lemmas.Each as each
 use Rattle.fb_check_names.specs.Listed.{each_at, each_from, unless}
 use Rattle.fb_check_names.specs.declared.location.Misfit.{Misfit}
 use Rattle.fb_check_names.specs.declared.location.Misfit.TheVariants as misfit

@@ -14,11 +14,11 @@ use Rattle.fb_types.specs.declared.library.BlockType.{BlockType}
 use Rattle.fb_types.specs.declared.library.EventPort.{EventPort}
 use Rattle.fb_types.specs.declared.library.Variable.{Variable}
 use Rattle.fb_types.specs.declared.deploy.Plan.{Plan}
-use Rattle.fb_types.proofs.TwiceLaws.{Twice-append_left, Twice-append_right}
-use Rattle.fb_types.proofs.Options.{map_parts}
-use Rattle.fb_types.proofs.NameLaws.{contains_from_any, any_from_contains, same_from_same_name, named-Contains}
-use Rattle.fb_types.proofs.Elements.{Contains-nil, Contains-here, Contains-there, Contains-map}
-use Rattle.fb_types.proofs.EventNames.{events_once}
+use Rattle.fb_types.proofs.lemmas.lists.TwiceLaws.{Twice-append_left, Twice-append_right}
+use Rattle.fb_types.proofs.lemmas.lists.Options.{map_parts}
+use Rattle.fb_types.proofs.lemmas.names.NameLaws.{contains_from_any, any_from_contains, same_from_same_name, named-Contains}
+use Rattle.fb_types.proofs.lemmas.lists.Elements.{Contains-nil, Contains-here, Contains-there, Contains-map}
+use Rattle.fb_types.proofs.lemmas.events.EventNames.{events_once}
 use Rattle.fb_check.specs.networks.Serving.{listed_with}
 use Rattle.fb_check.proofs.lemmas.networks.ListElements.{Contains-filter, filter-Contains}
 

@@ -9,11 +9,11 @@ use Rattle.fb_types.specs.declared.library.BlockType.{BlockType}
 use Rattle.fb_types.specs.declared.library.BlockType.TheVariants as block
 use Rattle.fb_types.specs.declared.library.Library.{Library}
 use Rattle.fb_types.specs.declared.deploy.Plan.{Plan}
-use Rattle.fb_types.proofs.Elements.{Contains-nil, Contains-cons_cases, Contains-here, Contains-there, flat_map-Contains}
+use Rattle.fb_types.proofs.lemmas.lists.Elements.{Contains-nil, Contains-cons_cases, Contains-here, Contains-there, flat_map-Contains}
 use Rattle.fb_check.specs.types.Checks.{is_known_block}
 use Rattle.fb_check.proofs.lemmas.types.Checks.{known_answer}
 use Rattle.fb_check_names.specs.Unknown.{NetworkUnknown, DeploymentUnknown}
-use Rattle.fb_check_names.proofs.Resolving.{all_known}
+use Rattle.fb_check_names.proofs.lemmas.unknown.Resolving.{all_known}
 use Rattle.fb_check_names.specs.declared.location.UnknownName.{UnknownName}
 use Rattle.fb_check_names.specs.declared.location.UnknownName.TheVariants.{InstanceType, Parameter, End, With, Transition, Action, Guard, Body, Mapped, LinkEnd}
 use Rattle.fb_check.specs.types.Unknown.{IsUnknownIn, IsUnknownAt, IsBlockKnown}

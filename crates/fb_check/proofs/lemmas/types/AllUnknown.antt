@@ -22,8 +22,8 @@ use Rattle.fb_types.specs.declared.library.Transition.{Transition}
 use Rattle.fb_types.specs.declared.deploy.Link.{Link}
 use Rattle.fb_types.specs.declared.deploy.Plan.{Plan}
 use Rattle.fb_types.specs.declared.deploy.ResourceEntry.{ResourceEntry}
-use Rattle.fb_types.proofs.NameLaws.{contains_from_any}
-use Rattle.fb_types.proofs.Options.{map_parts}
+use Rattle.fb_types.proofs.lemmas.names.NameLaws.{contains_from_any}
+use Rattle.fb_types.proofs.lemmas.lists.Options.{map_parts}
 use Rattle.fb_check.specs.types.Checks.{guard_mentions, is_met}
 use Rattle.fb_check_names.specs.Types.{ports_of_block}
 use Rattle.fb_check.specs.declared.types.basics.Naming.{Naming}
@@ -46,7 +46,7 @@ use Rattle.fb_check_names.specs.Listed.{each_at, unless}
 use Rattle.fb_check_names.specs.Sites.{basic_at, basic_inside, connections_of, instance_at, network_at, network_inside}
 use Rattle.fb_check.specs.types.Unknown.{IsUnknownAt, IsUnknownEnd, IsUnknownMention, Unmet, body_at, events_of, guard_at, is_instance, is_resource, is_side_known, is_type_met, link_required, mapped_required, parameter_required, required_action, required_transition, side_of, type_required, variables_for, with_required}
 use Rattle.fb_check.specs.types.Unknowns.{mention_in, unknown_all, unknown_ends, unknown_in_action, unknown_in_block, unknown_in_body, unknown_in_chart, unknown_in_deployment, unknown_in_instance, unknown_in_network, unknown_in_state, unknown_in_transition, unknown_inside, unknown_mapped, unknown_mentions, unknown_names, unknown_parameters, unknown_sides, unknown_variables, unknown_withs, unmet_at}
-use Rattle.fb_check_names.proofs.Listing.{there_each, there_unless}
+use Rattle.fb_check_names.proofs.lemmas.Listing.{there_each, there_unless}
 use Rattle.fb_check.proofs.lemmas.types.NetworkLocations.{any_map}
 
 -- ---- One location

@@ -14,10 +14,10 @@ use Rattle.fb_check_names.specs.PortKinds.{AreIndexesOf}
 use Rattle.fb_check_names.specs.Types.{HasTypes}
 use Rattle.fb_check_names.specs.Unknown.{AreBlocks, IsBlockNumbers}
 use Rattle.fb_check_names.specs.declared.numbers.NetworkNumbers.{NetworkNumbers}
-use Rattle.fb_types.proofs.ByIndex.{slice_get-push, element_at}
-use Rattle.fb_check_names.proofs.Lookups.{block_indexes}
+use Rattle.fb_types.proofs.lemmas.lists.ByIndex.{slice_get-push, element_at}
+use Rattle.fb_check_names.proofs.lemmas.numbers.Lookups.{block_indexes}
 use Rattle.fb_check_names.specs.Listed.{each_at, each_from}
-use Rattle.fb_check_names.proofs.Listing.{none_left, none_right}
+use Rattle.fb_check_names.proofs.lemmas.Listing.{none_left, none_right}
 
 -- those of the first n types
 pub record AreFirst (lib : Library) (n : ℕ) (all : List (Option NetworkNumbers)) : Type 0 where

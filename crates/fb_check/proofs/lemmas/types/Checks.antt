@@ -19,8 +19,8 @@ use Rattle.fb_types.specs.declared.library.EventPort.{EventPort}
 use Rattle.fb_types.specs.declared.library.Ports.{Ports}
 use Rattle.fb_types.specs.declared.library.Transition.{Transition}
 use Rattle.fb_check_names.specs.Parts.{required_parts, ArePartsKnown, PartWrong}
-use Rattle.fb_types.proofs.NameLaws.{contains_from_any, any_from_contains}
-use Rattle.fb_types.proofs.ListTests.{list_all-flat_map, list_all-agree, fails_at, passes_at, passes_from}
+use Rattle.fb_types.proofs.lemmas.names.NameLaws.{contains_from_any, any_from_contains}
+use Rattle.fb_types.proofs.lemmas.lists.ListTests.{list_all-flat_map, list_all-agree, fails_at, passes_at, passes_from}
 use Rattle.fb_check.specs.types.Checks.{is_met, all_met, with_inputs, with_outputs, transition_met, actions_met, body_known, guard_known, algorithm_right, required_action, all_known, guard_mentions, is_known_block, is_guard_right, chart_right, is_right_block}
 
 -- ---- Truth values

@@ -14,8 +14,8 @@ use Rattle.fb_types.specs.declared.deploy.Plan.{Plan}
 use Rattle.fb_types.specs.declared.deploy.ResourceEntry.{ResourceEntry}
 use Rattle.fb_check.proofs.lemmas.types.Checks.{and_true}
 use Rattle.fb_check_names.specs.Unknown.{DeploymentUnknown}
-use Rattle.fb_types.proofs.ListTests.{list_all-flat_map, list_all-agree}
-use Rattle.fb_check_names.proofs.NetworkUnknown.{met, met_required, list_all-all_of}
+use Rattle.fb_types.proofs.lemmas.lists.ListTests.{list_all-flat_map, list_all-agree}
+use Rattle.fb_check_names.proofs.lemmas.unknown.NetworkUnknown.{met, met_required, list_all-all_of}
 use Rattle.fb_check_names.specs.declared.location.Side.{Side}
 use Rattle.fb_check.specs.types.Unknown.{Unmet, mapped_required, link_required, side_of, is_instance, is_resource, are_mapped, are_sides_met}
 use Rattle.fb_check.proofs.lemmas.types.NetworkLocations.{any_map, unmet_is}

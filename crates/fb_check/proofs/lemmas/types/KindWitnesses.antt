@@ -36,7 +36,7 @@ use Rattle.fb_check.specs.types.Misfits.{IsMisfitAt, are_set_right_inside, is_al
 use Rattle.fb_check_names.specs.Sites.{basic_at, network_at, variables_at}
 use Rattle.fb_check.specs.types.Statements.{choice_right, conditions_right, each_in_body, own_right, part_right, stands_right}
 use Rattle.fb_check.proofs.lemmas.types.Bodies.{body_each}
-use Rattle.fb_check_names.proofs.Listing.{all_each, all_unless, none_each, none_left, none_right, none_unless}
+use Rattle.fb_check_names.proofs.lemmas.Listing.{all_each, all_unless, none_each, none_left, none_right, none_unless}
 use Rattle.fb_check.proofs.lemmas.types.RightKinds.{none_wrong}
 use Rattle.fb_check.proofs.lemmas.types.UnknownWitnesses.{basic_there, network_there}
 

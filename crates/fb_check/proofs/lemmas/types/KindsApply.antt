@@ -12,9 +12,9 @@ use Rattle.fb_types.specs.declared.library.BlockType.{BlockType}
 use Rattle.fb_types.specs.declared.library.BlockType.TheVariants as block
 use Rattle.fb_types.specs.declared.library.Library.{Library}
 use Rattle.fb_types.specs.declared.library.Variable.{Variable}
-use Rattle.fb_types.proofs.ListTests.{fails_from}
-use Rattle.fb_types.proofs.ByIndex.{element_of_index}
-use Rattle.fb_types.proofs.Elements.{Contains-nil}
+use Rattle.fb_types.proofs.lemmas.lists.ListTests.{fails_from}
+use Rattle.fb_types.proofs.lemmas.lists.ByIndex.{element_of_index}
+use Rattle.fb_types.proofs.lemmas.lists.Elements.{Contains-nil}
 use Rattle.fb_check.specs.types.Checks.{algorithm_right, chart_right, in_place, is_guard_right, is_right_block}
 use Rattle.fb_check.proofs.lemmas.types.UnknownApplies.{basic_among}
 use Rattle.fb_check.proofs.lemmas.types.Checks.{chart_right_met, wrong_answer}
@@ -26,7 +26,7 @@ use Rattle.fb_check_names.specs.declared.location.Variables.{Variables}
 use Rattle.fb_check_names.specs.declared.location.Variables.TheVariants.{Inputs, Outputs, Internals}
 use Rattle.fb_check.specs.types.Misfits.{IsGuardMisfit, IsInitialMisfit, IsMisfitAt, IsParameterMisfit, IsStatementMisfit}
 use Rattle.fb_check_names.specs.Sites.{basic_at, variables_at}
-use Rattle.fb_check_names.proofs.InNetworks.{site_network}
+use Rattle.fb_check_names.proofs.lemmas.unknown.InNetworks.{site_network}
 use Rattle.fb_check.specs.types.Statements.{each_in_body, stands_right}
 use Rattle.fb_check.proofs.lemmas.types.Bodies.{body_each}
 use Rattle.fb_check.proofs.lemmas.types.StatementParts.{part_fails}

@@ -18,7 +18,7 @@ use Rattle.fb_check.specs.declared.types.mentions.Mention as gathered
 use Rattle.fb_check_names.specs.Listed.{each_at, unless}
 use Rattle.fb_check.specs.types.Mentions.{meant, meant_all, mentions_of_control}
 use Rattle.fb_check.specs.types.Unknowns.{mention_in, unknown_mentions}
-use Rattle.fb_check_names.proofs.Listing.{each_from-map}
+use Rattle.fb_check_names.proofs.lemmas.Listing.{each_from-map}
 use Rattle.fb_check.proofs.lemmas.types.Meanings.{assign_says, binary_says, branch_says, call_says, case_says, choice_says, for_says, group_says, if_says, repeat_says, unary_says, variable_says, while_says}
 
 -- ---- Expressions

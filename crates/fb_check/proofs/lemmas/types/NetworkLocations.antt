@@ -16,11 +16,11 @@ use Rattle.fb_types.specs.declared.library.Instance.{Instance}
 use Rattle.fb_types.specs.declared.library.Library.{Library}
 use Rattle.fb_types.specs.declared.library.Parameter.{Parameter}
 use Rattle.fb_types.specs.declared.library.Ports.{Ports}
-use Rattle.fb_types.proofs.NameLaws.{any_from_contains}
+use Rattle.fb_types.proofs.lemmas.names.NameLaws.{any_from_contains}
 use Rattle.fb_check.specs.types.Checks.{is_met}
-use Rattle.fb_types.proofs.ListTests.{list_all-map, list_all-flat_map}
+use Rattle.fb_types.proofs.lemmas.lists.ListTests.{list_all-map, list_all-flat_map}
 use Rattle.fb_check_names.specs.Unknown.{NetworkUnknown}
-use Rattle.fb_check_names.proofs.NetworkUnknown.{met, met_required, list_all-all_of}
+use Rattle.fb_check_names.proofs.lemmas.unknown.NetworkUnknown.{met, met_required, list_all-all_of}
 use Rattle.fb_check_names.specs.declared.location.FlowKind.{FlowKind}
 use Rattle.fb_check_names.specs.declared.location.FlowKind.TheVariants.{Events, Data}
 use Rattle.fb_check_names.specs.declared.location.Side.{Side}
@@ -30,7 +30,7 @@ use Rattle.fb_check_names.specs.declared.location.UnknownName.TheVariants as loc
 use Rattle.fb_check_names.specs.Listed.{each_at, unless}
 use Rattle.fb_check_names.specs.Sites.{network_at, instance_at, connections_of}
 use Rattle.fb_check.specs.types.Unknowns.{unknown_in_instance, unknown_parameters}
-use Rattle.fb_check_names.proofs.Listing.{each_from-map}
+use Rattle.fb_check_names.proofs.lemmas.Listing.{each_from-map}
 use Rattle.fb_check.specs.types.Unknown.{Unmet, UnmetParameter, IsUnknownEnd, type_required, parameter_required, is_type_met, are_parameters_met, is_side_known, are_ends_known}
 
 -- ---- Names that are required

@@ -6,8 +6,8 @@ use Rattle.fb_types.specs.Repeated.{OwnedNetwork, networks, networks_in}
 use Rattle.fb_types.specs.declared.library.BlockType.{BlockType}
 use Rattle.fb_types.specs.declared.library.BlockType.TheVariants as block
 use Rattle.fb_types.specs.declared.library.Library.{Library}
-use Rattle.fb_types.proofs.Elements.{flat_map-Contains, Contains-cons_cases, Contains-nil}
-use Rattle.fb_types.proofs.ListTests.{passes_at}
+use Rattle.fb_types.proofs.lemmas.lists.Elements.{flat_map-Contains, Contains-cons_cases, Contains-nil}
+use Rattle.fb_types.proofs.lemmas.lists.ListTests.{passes_at}
 use Rattle.fb_check_names.specs.Sites.{each_inside}
 
 inside_passes : (test : OwnedNetwork → Bool) (t : BlockType) (n : OwnedNetwork) → each_inside test t ≡ true → Contains (networks_in t) n → test n ≡ true

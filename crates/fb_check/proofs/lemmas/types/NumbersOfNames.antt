@@ -18,7 +18,7 @@ use Rattle.fb_types.specs.declared.library.Library.{Library}
 use Rattle.fb_types.specs.declared.library.Parameter.{Parameter}
 use Rattle.fb_types.specs.declared.library.PortName.{PortName}
 use Rattle.fb_types.specs.declared.library.Ports.{Ports}
-use Rattle.fb_types.proofs.Positions.{is_some-position, position_is}
+use Rattle.fb_types.proofs.lemmas.lists.Positions.{is_some-position, position_is}
 use Rattle.fb_check_names.specs.Indexes.{IsIndex, index_in}
 use Rattle.fb_check_names.specs.Numbers.{IsNetwork, IsResolved, each_or_none, end_at, held_numbers, index_of, kind_of_number, link_ends, parameter_numbers, ports_at_index, type_number}
 use Rattle.fb_check_names.specs.Types.{port_number}
@@ -27,9 +27,9 @@ use Rattle.fb_check_names.specs.declared.numbers.ConnectionEnd.{ConnectionEnd}
 use Rattle.fb_check_names.specs.declared.numbers.LinkEnds.{LinkEnds}
 use Rattle.fb_check_names.specs.declared.numbers.NetworkNumbers.{NetworkNumbers}
 use Rattle.fb_check_names.specs.declared.numbers.TypeNumber.{TypeNumber}
-use Rattle.fb_check_names.proofs.Each.{is_some-each}
-use Rattle.fb_check_names.proofs.Lookups.{kind_known, kind_of_numbered, no_parameters, parameters_are, type_named-number}
-use Rattle.fb_check_names.proofs.NetworkUnknown.{end_known, instance_met, type_met, wire_known}
+use Rattle.fb_check_names.proofs.lemmas.Each.{is_some-each}
+use Rattle.fb_check_names.proofs.lemmas.numbers.Lookups.{kind_known, kind_of_numbered, no_parameters, parameters_are, type_named-number}
+use Rattle.fb_check_names.proofs.lemmas.unknown.NetworkUnknown.{end_known, instance_met, type_met, wire_known}
 use Rattle.fb_check_names.specs.Listed.{each_at, unless}
 use Rattle.fb_check_names.specs.declared.location.FlowKind.{FlowKind}
 use Rattle.fb_check_names.specs.declared.location.FlowKind.TheVariants.{Events, Data}
@@ -39,7 +39,7 @@ use Rattle.fb_check_names.specs.declared.location.Site.{Site}
 use Rattle.fb_check_names.specs.declared.location.Site.TheVariants.{Application}
 use Rattle.fb_check_names.specs.declared.location.UnknownName.{UnknownName}
 use Rattle.fb_check_names.specs.declared.location.UnknownName.TheVariants as location
-use Rattle.fb_check_names.proofs.Listing.{alike, none_each, none_left, none_right, none_unless}
+use Rattle.fb_check_names.proofs.lemmas.Listing.{alike, none_each, none_left, none_right, none_unless}
 use Rattle.fb_check.specs.types.Scopes.{AreTyped, component_number, connection_number, inputs_in, inputs_of_type, number_in, number_or, number_past, side_number}
 use Rattle.fb_check.specs.types.Present.{each_some, ends_in, mapped_unless, sides_unless, some_of}
 use Rattle.fb_check.specs.types.Unknown.{inputs_of, is_instance, is_resource, is_side_known, is_type_met, outputs_of}

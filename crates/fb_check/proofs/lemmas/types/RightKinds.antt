@@ -5,7 +5,7 @@ use Rattle.std.proofs.lemmas.Bool.{true≢false, and_parts}
 use Rattle.fb_types.specs.Kinds.{KindWrong, parameters_right}
 use Rattle.fb_types.specs.declared.library.Library.{Library}
 use Rattle.fb_check_names.specs.Parts.{PartWrong}
-use Rattle.fb_types.proofs.ListTests.{list_all-both, passes_at}
+use Rattle.fb_types.proofs.lemmas.lists.ListTests.{list_all-both, passes_at}
 use Rattle.fb_check.specs.types.Checks.{is_right_block}
 use Rattle.fb_check.proofs.lemmas.types.Checks.{wrong_answer}
 use Rattle.fb_check.specs.types.Misfits.{are_set_right, are_set_right_inside, is_all_right}

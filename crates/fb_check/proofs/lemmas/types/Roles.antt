@@ -11,15 +11,15 @@ use Rattle.fb_types.specs.Repeated.{Twice}
 use Rattle.fb_types.specs.declared.library.EventPort.{EventPort}
 use Rattle.fb_types.specs.declared.library.Variable.{Variable}
 use Rattle.fb_types.specs.declared.value.Ty.{Ty}
-use Rattle.fb_types.proofs.Positions.{named-position}
-use Rattle.fb_types.proofs.NameLaws.{contains_from_any, same_name-flip}
+use Rattle.fb_types.proofs.lemmas.lists.Positions.{named-position}
+use Rattle.fb_types.proofs.lemmas.names.NameLaws.{contains_from_any, same_name-flip}
 use Rattle.fb_check_names.specs.PortKinds.{names_of_kind}
 use Rattle.fb_check_names.specs.declared.ports.PortKind.{PortKind}
 use Rattle.fb_check_names.specs.declared.ports.PortKind.TheVariants as value_kind
 use Rattle.fb_check.specs.declared.types.interface.Role.{Role}
-use Rattle.fb_types.proofs.ByIndex.{element_at}
-use Rattle.fb_types.proofs.Options.{none_from_is_some}
-use Rattle.fb_types.proofs.TwiceLaws.{Twice-both, Twice-append_right}
+use Rattle.fb_types.proofs.lemmas.lists.ByIndex.{element_at}
+use Rattle.fb_types.proofs.lemmas.lists.Options.{none_from_is_some}
+use Rattle.fb_types.proofs.lemmas.lists.TwiceLaws.{Twice-both, Twice-append_right}
 use Rattle.fb_check.specs.declared.types.interface.Role.TheVariants.{EventInput, EventOutput, Input, Output, Internal}
 use Rattle.fb_check.specs.types.Roles.{Declared, names_of, events_as, variables_as, with_roles, role_of, variables_of, is_event_input, is_event_output, is_input, is_output, is_port, type_in}
 

@@ -27,14 +27,14 @@ use Rattle.fb_types.specs.declared.library.Library.{Library}
 use Rattle.fb_types.specs.declared.library.Ports.{Ports}
 use Rattle.fb_types.specs.declared.library.State.{State}
 use Rattle.fb_types.specs.declared.library.Transition.{Transition}
-use Rattle.fb_types.proofs.ByIndex.{element_of_index}
-use Rattle.fb_types.proofs.Elements.{Contains-flat_map, Contains-here, Contains-map, Contains-there}
-use Rattle.fb_types.proofs.ListTests.{fails_at, fails_from, passes_at}
-use Rattle.fb_types.proofs.NameLaws.{any_from_contains, contains_from_any}
-use Rattle.fb_types.proofs.Options.{map_parts}
+use Rattle.fb_types.proofs.lemmas.lists.ByIndex.{element_of_index}
+use Rattle.fb_types.proofs.lemmas.lists.Elements.{Contains-flat_map, Contains-here, Contains-map, Contains-there}
+use Rattle.fb_types.proofs.lemmas.lists.ListTests.{fails_at, fails_from, passes_at}
+use Rattle.fb_types.proofs.lemmas.names.NameLaws.{any_from_contains, contains_from_any}
+use Rattle.fb_types.proofs.lemmas.lists.Options.{map_parts}
 use Rattle.fb_check_names.specs.Parts.{ArePartsKnown, required_parts}
 use Rattle.fb_check_names.specs.Types.{ports_of_block}
-use Rattle.fb_check_names.proofs.Resolving.{of_deployment, of_network}
+use Rattle.fb_check_names.proofs.lemmas.unknown.Resolving.{of_deployment, of_network}
 use Rattle.fb_check_names.specs.Sites.{basic_at, basic_inside, instance_at, network_at}
 use Rattle.fb_check_names.specs.declared.location.ActionPart.{ActionPart}
 use Rattle.fb_check_names.specs.declared.location.ActionPart.TheVariants as actions
@@ -49,7 +49,7 @@ use Rattle.fb_check_names.specs.declared.location.TransitionPart.{TransitionPart
 use Rattle.fb_check_names.specs.declared.location.TransitionPart.TheVariants as part
 use Rattle.fb_check_names.specs.declared.location.UnknownName.{UnknownName}
 use Rattle.fb_check_names.specs.declared.location.UnknownName.TheVariants as location
-use Rattle.fb_check_names.proofs.InNetworks.{site_network}
+use Rattle.fb_check_names.proofs.lemmas.unknown.InNetworks.{site_network}
 use Rattle.fb_check.specs.types.Checks.{action_met, actions_met, all_known, all_met, body_known, guard_known, guard_mentions, is_known_block, is_known_chart, is_met, transition_met, with_inputs, with_outputs}
 use Rattle.fb_check.specs.types.Unknown.{IsUnknownAt, IsUnknownEnd, IsUnknownMention, Unmet, are_ends_known, body_at, events_of, guard_at, is_side_known, link_required, mapped_required, parameter_required, required_action, required_transition, side_of, type_required, variables_for, with_required}
 use Rattle.fb_check.proofs.lemmas.types.AllUnknown.{not_met, not_met_of, then_some}

@@ -46,7 +46,7 @@ use Rattle.fb_check.specs.types.Unknowns.{mention_in, unknown_all, unknown_ends,
 use Rattle.fb_check.proofs.lemmas.types.AllLocations.{in_declaration, name_known}
 use Rattle.fb_check.proofs.lemmas.types.BlockLocations.{action_location, chart_known, mention_location, transition_location, with_location, withs_known}
 use Rattle.fb_check.proofs.lemmas.types.DeploymentLocations.{deployment_known, link_location, mapped_location}
-use Rattle.fb_check_names.proofs.Listing.{all_each, all_unless, none_each, none_each_of, none_left, none_right, none_unless}
+use Rattle.fb_check_names.proofs.lemmas.Listing.{all_each, all_unless, none_each, none_each_of, none_left, none_right, none_unless}
 use Rattle.fb_check.proofs.lemmas.types.NetworkLocations.{end_location, network_known, parameter_location, type_location, unmet_is}
 
 -- ---- One location

@@ -1,5 +1,5 @@
 use Rattle.std.proofs.Common.{rules, ℕ, map, ap, arith}
-use Rattle.fb_check_names.proofs.Listing.{some_says}
+use Rattle.fb_check_names.proofs.lemmas.Listing.{some_says}
 use Rattle.fb_check.specs.networks.Unserved.{IsUnservedAt}
 use Rattle.fb_check.proofs.lemmas.networks.Unserved.{unserved_applies}
 use Rattle.fb_check.specs.Refusals.{inputs_in}

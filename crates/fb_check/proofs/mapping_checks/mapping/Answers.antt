@@ -1,5 +1,5 @@
 use Rattle.std.proofs.Common.{rules, ◌≡◌, List, ◌++◌, map, sym, ap, ◌∙◌, arith}
-use Rattle.fb_check_names.proofs.Listing.{some_says}
+use Rattle.fb_check_names.proofs.lemmas.Listing.{some_says}
 use Rattle.fb_check_names.specs.declared.location.Unmapped.{Unmapped}
 use Rattle.fb_check.specs.networks.Unmapped.{IsUnmappedAt, unmapped_all}
 use Rattle.fb_check.proofs.lemmas.networks.Mapped.{each_unmapped, none_unmapped, unmapped_applies}

@@ -1,5 +1,5 @@
 use Rattle.std.proofs.Common.{rules, map, ap, arith}
-use Rattle.fb_check_names.proofs.Listing.{some_says}
+use Rattle.fb_check_names.proofs.lemmas.Listing.{some_says}
 use Rattle.fb_check_names.specs.declared.location.Misjoin.{Misjoin}
 use Rattle.fb_check.specs.networks.Misjoins.{IsMisjoinedAt}
 use Rattle.fb_check.proofs.lemmas.networks.Joined.{misjoin_applies}

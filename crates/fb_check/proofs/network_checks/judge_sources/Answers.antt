@@ -1,5 +1,5 @@
 use Rattle.std.proofs.Common.{rules, map, ap}
-use Rattle.fb_check_names.proofs.Listing.{some_says}
+use Rattle.fb_check_names.proofs.lemmas.Listing.{some_says}
 use Rattle.fb_check_names.specs.declared.location.Joined.{Joined}
 use Rattle.fb_check.specs.networks.Sources.{IsJoinedAt}
 use Rattle.fb_check.proofs.lemmas.networks.Targets.{joined_applies}

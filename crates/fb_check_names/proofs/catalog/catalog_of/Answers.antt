@@ -6,7 +6,7 @@ use Rattle.fb_check_names.specs.declared.location.Site.TheVariants as site
 use Rattle.fb_check_names.specs.declared.twice.GivenTwice.{GivenTwice}
 use Rattle.fb_check_names.specs.TwiceLists.{event_block_at, names_twice, twice_in_block, twice_in_network, twice_in_plan}
 use Rattle.fb_check_names.specs.declared.repeats.NameSpace.TheVariants as space
-use Rattle.fb_check_names.proofs.Catalogs.{all_added, catalog_made}
+use Rattle.fb_check_names.proofs.lemmas.numbers.Catalogs.{all_added, catalog_made}
 use Rattle.fb_check_names.proofs.catalog.catalog_of.Goals as goal
 
 pub returns-clause-found : goal.returns-clause-found

@@ -1,4 +1,4 @@
-use Rattle.fb_check_names.proofs.Applying.{twice_applies}
+use Rattle.fb_check_names.proofs.lemmas.numbers.Applying.{twice_applies}
 use Rattle.fb_check_names.proofs.laws.locations_apply.Goals as goal
 
 pub returns : goal.returns

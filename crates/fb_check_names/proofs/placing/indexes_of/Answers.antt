@@ -2,7 +2,7 @@ use Rattle.std.proofs.Common.{ℕ, List, ◌++◌, ◌∙◌, ap, vec_len}
 use Rattle.fb_types.specs.Names.{same_name}
 use Rattle.fb_check_names.specs.Repeats.{repeats}
 use Rattle.fb_check_names.specs.Indexes.{names_in}
-use Rattle.fb_check_names.proofs.LastIndexes.{index_of_last, no_pairs_say, pairs_say}
+use Rattle.fb_check_names.proofs.lemmas.numbers.LastIndexes.{index_of_last, no_pairs_say, pairs_say}
 use Rattle.fb_check_names.proofs.placing.indexes_of.Goals as goal
 
 pub returns-then-not-is_empty : goal.returns-then-not-is_empty

@@ -2,10 +2,10 @@ use Rattle.std.proofs.Common.{◌++◌, List, ℕ, refl, ◌∙◌, ap, map, sub
 use Rattle.std.specs.Borrow.{Bor}
 use Rattle.std.proofs.lemmas.List.{take_all}
 use Rattle.fb_types.specs.Names.{Name, same_name}
-use Rattle.fb_types.proofs.NameLaws.{same_name-Decides}
-use Rattle.fb_check_names.proofs.Seen.{name_cmp, name_cmp-exact}
-use Rattle.fb_check_names.proofs.Listing.{each_done, each_more}
-use Rattle.fb_check_names.proofs.Repeating.{AreLast, IsSame, agrees, last_more, last_none, pair_in, pairs_are, index_in_table}
+use Rattle.fb_types.proofs.lemmas.names.NameLaws.{same_name-Decides}
+use Rattle.fb_check_names.proofs.lemmas.comparisons.DecidedSame.{name_cmp, name_cmp-exact}
+use Rattle.fb_check_names.proofs.lemmas.Listing.{each_done, each_more}
+use Rattle.fb_check_names.proofs.lemmas.twice.Repeating.{AreLast, IsSame, agrees, last_more, last_none, pair_in, pairs_are, index_in_table}
 use Rattle.fb_check_names.proofs.placing.last_indexes.Goals as goal
 
 name_agrees : IsSame name_cmp (λ (n : Bor Name). n.now) same_name

@@ -1,9 +1,9 @@
 use Rattle.std.proofs.Common.{◌≡◌, ◌++◌, drop, map, take}
 use Rattle.std.specs.Borrow.{Bor}
 use Rattle.fb_types.specs.Names.{Name, same_name}
-use Rattle.fb_check_names.proofs.Seen.{name_cmp}
+use Rattle.fb_check_names.proofs.lemmas.comparisons.DecidedSame.{name_cmp}
 use Rattle.fb_check_names.specs.Listed.{each_at, each_from}
-use Rattle.fb_check_names.proofs.Repeating.{AreLast, pair_in}
+use Rattle.fb_check_names.proofs.lemmas.twice.Repeating.{AreLast, pair_in}
 use Rattle.fb_check_names.proofs.placing.last_indexes.Given as goal
 
 abbrev pub invariant-loop-second : goal.invariant-loop-second

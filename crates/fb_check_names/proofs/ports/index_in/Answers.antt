@@ -1,5 +1,5 @@
 use Rattle.std.proofs.Common.{refl}
-use Rattle.fb_check_names.proofs.Lookups.{is_index, of_event_inputs, of_event_outputs, of_inputs, of_outputs}
+use Rattle.fb_check_names.proofs.lemmas.numbers.Lookups.{is_index, of_event_inputs, of_event_outputs, of_inputs, of_outputs}
 use Rattle.fb_check_names.proofs.ports.index_in.Goals as goal
 
 pub returns-in-EventInput : goal.returns-in-EventInput

@@ -1,9 +1,9 @@
 use Rattle.std.proofs.Common.{◌++◌, List, ℕ, ◌∙◌, ap}
 use Rattle.fb_check_names.specs.Pairs.{ends_of, key_names, names_at, same_ends}
-use Rattle.fb_check_names.proofs.ConnectionKeys.{ends_compared, key_cmp, names_agree, same_names}
+use Rattle.fb_check_names.proofs.lemmas.comparisons.ConnectionKeys.{ends_compared, key_cmp, names_agree, same_names}
 use Rattle.fb_check_names.specs.Listed.{each_at}
-use Rattle.fb_check_names.proofs.Listing.{each_done, each_more}
-use Rattle.fb_check_names.proofs.Repeating.{last_more, last_none, pair_in, pairs_are, pairs_same, index_in_table}
+use Rattle.fb_check_names.proofs.lemmas.Listing.{each_done, each_more}
+use Rattle.fb_check_names.proofs.lemmas.twice.Repeating.{last_more, last_none, pair_in, pairs_are, pairs_same, index_in_table}
 use Rattle.fb_check_names.proofs.repeats.connection_pairs.Goals as goal
 
 pub loop-second-init : goal.loop-second-init

@@ -1,8 +1,8 @@
 use Rattle.std.proofs.Common.{◌≡◌, ◌++◌, drop, map, take}
 use Rattle.fb_check_names.specs.Listed.{each_at, each_from}
 use Rattle.fb_check_names.specs.Pairs.{key_names, names_at}
-use Rattle.fb_check_names.proofs.ConnectionKeys.{key_cmp, same_names}
-use Rattle.fb_check_names.proofs.Repeating.{AreLast, pair_in}
+use Rattle.fb_check_names.proofs.lemmas.comparisons.ConnectionKeys.{key_cmp, same_names}
+use Rattle.fb_check_names.proofs.lemmas.twice.Repeating.{AreLast, pair_in}
 use Rattle.fb_check_names.proofs.repeats.connection_pairs.Given as goal
 
 abbrev pub invariant-loop-second : goal.invariant-loop-second

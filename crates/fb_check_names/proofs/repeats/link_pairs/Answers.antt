@@ -1,11 +1,11 @@
 use Rattle.std.proofs.Common.{◌++◌, List, ℕ, ◌∙◌, ap}
 use Rattle.fb_check_names.specs.Ends.{link_ends}
 use Rattle.fb_check_names.specs.Pairs.{link_names, same_sides}
-use Rattle.fb_check_names.proofs.Seen.{link_cmp}
+use Rattle.fb_check_names.proofs.lemmas.comparisons.DecidedSame.{link_cmp}
 use Rattle.fb_check_names.specs.Listed.{each_at}
-use Rattle.fb_check_names.proofs.Listing.{each_done, each_more}
-use Rattle.fb_check_names.proofs.Repeating.{last_more, last_none, pair_in, pairs_are, index_in_table}
-use Rattle.fb_check_names.proofs.Same.{sides_agree}
+use Rattle.fb_check_names.proofs.lemmas.Listing.{each_done, each_more}
+use Rattle.fb_check_names.proofs.lemmas.twice.Repeating.{last_more, last_none, pair_in, pairs_are, index_in_table}
+use Rattle.fb_check_names.proofs.lemmas.comparisons.SameNames.{sides_agree}
 use Rattle.fb_check_names.proofs.repeats.link_pairs.Goals as goal
 
 pub loop-second-init : goal.loop-second-init

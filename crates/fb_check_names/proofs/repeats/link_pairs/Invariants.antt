@@ -2,8 +2,8 @@ use Rattle.std.proofs.Common.{◌≡◌, ◌++◌, drop, map, take}
 use Rattle.fb_check_names.specs.Listed.{each_at, each_from}
 use Rattle.fb_check_names.specs.Ends.{link_ends}
 use Rattle.fb_check_names.specs.Pairs.{link_names, same_sides}
-use Rattle.fb_check_names.proofs.Seen.{link_cmp}
-use Rattle.fb_check_names.proofs.Repeating.{AreLast, pair_in}
+use Rattle.fb_check_names.proofs.lemmas.comparisons.DecidedSame.{link_cmp}
+use Rattle.fb_check_names.proofs.lemmas.twice.Repeating.{AreLast, pair_in}
 use Rattle.fb_check_names.proofs.repeats.link_pairs.Given as goal
 
 abbrev pub invariant-loop-second : goal.invariant-loop-second

@@ -1,8 +1,8 @@
 use Rattle.std.proofs.Common.{◌∷◌, ◌++◌, [], ℕ, zero, List, ◌∙◌, ap, map, refl}
 use Rattle.fb_check_names.specs.TwiceLists.{given_in}
 use Rattle.fb_check_names.specs.declared.twice.GivenTwice.{GivenTwice}
-use Rattle.fb_check_names.proofs.Listing.{walk_done}
-use Rattle.fb_check_names.proofs.Repeating.{copied_more}
+use Rattle.fb_check_names.proofs.lemmas.Listing.{walk_done}
+use Rattle.fb_check_names.proofs.lemmas.twice.Repeating.{copied_more}
 use Rattle.fb_check_names.proofs.repeats.push_pairs.Goals as goal
 
 pub loop-pair-preserved : goal.loop-pair-preserved

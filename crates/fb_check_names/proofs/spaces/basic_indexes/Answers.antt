@@ -8,8 +8,8 @@ use Rattle.fb_check_names.specs.GivenTwice.{PortTwice, names_of_ports}
 use Rattle.fb_check_names.specs.Indexes.{IsIndex}
 use Rattle.fb_check_names.specs.TwiceLists.{names_twice, twice_in_ports}
 use Rattle.fb_check_names.specs.declared.repeats.NameSpace.TheVariants as space
-use Rattle.fb_check_names.proofs.AllBlocks.{after_two}
-use Rattle.fb_check_names.proofs.LastIndexes.{index_none}
+use Rattle.fb_check_names.proofs.lemmas.numbers.BlockIndexes.{after_two}
+use Rattle.fb_check_names.proofs.lemmas.numbers.LastIndexes.{index_none}
 use Rattle.fb_check_names.proofs.spaces.basic_indexes.Goals as goal
 
 pub returns-clause-found : goal.returns-clause-found

@@ -3,8 +3,8 @@ use Rattle.std.proofs.lemmas.List.{take_all}
 use Rattle.fb_types.specs.declared.library.BlockType.{BlockType}
 use Rattle.fb_check_names.specs.GivenTwice.{AreBlocks}
 use Rattle.fb_check_names.specs.TwiceLists.{twice_in_block}
-use Rattle.fb_check_names.proofs.Listing.{each_done, each_more}
-use Rattle.fb_check_names.proofs.AllBlocks.{blocks_more, blocks_none}
+use Rattle.fb_check_names.proofs.lemmas.Listing.{each_done, each_more}
+use Rattle.fb_check_names.proofs.lemmas.numbers.BlockIndexes.{blocks_more, blocks_none}
 use Rattle.fb_check_names.proofs.spaces.blocks_indexes.Goals as goal
 
 pub loop-block-init : goal.loop-block-init

@@ -2,8 +2,8 @@ use Rattle.std.proofs.Common.{List, [], inl, inr}
 use Rattle.fb_check_names.specs.declared.location.Site.TheVariants as site
 use Rattle.fb_check_names.specs.declared.twice.GivenTwice.{GivenTwice}
 use Rattle.fb_check_names.specs.TwiceLists.{twice_in_network, twice_in_ports}
-use Rattle.fb_check_names.proofs.AllBlocks.{after_one}
-use Rattle.fb_check_names.proofs.LastIndexes.{index_none}
+use Rattle.fb_check_names.proofs.lemmas.numbers.BlockIndexes.{after_one}
+use Rattle.fb_check_names.proofs.lemmas.numbers.LastIndexes.{index_none}
 use Rattle.fb_check_names.proofs.spaces.composite_indexes.Goals as goal
 
 pub returns-clause-found : goal.returns-clause-found

@@ -6,7 +6,7 @@ use Rattle.fb_check_names.specs.declared.twice.GivenTwice.{GivenTwice}
 use Rattle.fb_check_names.specs.GivenTwice.{names_of_ports}
 use Rattle.fb_check_names.specs.TwiceLists.{names_twice, with_twice}
 use Rattle.fb_check_names.specs.declared.repeats.NameSpace.TheVariants as space
-use Rattle.fb_check_names.proofs.AllBlocks.{after_two}
+use Rattle.fb_check_names.proofs.lemmas.numbers.BlockIndexes.{after_two}
 use Rattle.fb_check_names.proofs.spaces.interface_indexes.Goals as goal
 
 pub returns-clause-found : goal.returns-clause-found

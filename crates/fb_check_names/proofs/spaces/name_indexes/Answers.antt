@@ -3,7 +3,7 @@ use Rattle.fb_types.specs.Names.{same_name}
 use Rattle.fb_check_names.specs.Repeats.{repeats}
 use Rattle.fb_check_names.specs.Indexes.{names_in}
 use Rattle.fb_check_names.specs.TwiceLists.{given_in}
-use Rattle.fb_check_names.proofs.LastIndexes.{index_of_last}
+use Rattle.fb_check_names.proofs.lemmas.numbers.LastIndexes.{index_of_last}
 use Rattle.fb_check_names.proofs.spaces.name_indexes.Goals as goal
 
 pub returns-clause-found : goal.returns-clause-found

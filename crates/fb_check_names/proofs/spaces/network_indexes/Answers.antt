@@ -8,7 +8,7 @@ use Rattle.fb_check_names.specs.Indexes.{IsIndex}
 use Rattle.fb_check_names.specs.Pairs.{same_ends}
 use Rattle.fb_check_names.specs.TwiceLists.{names_twice, parameters_twice, twice_by}
 use Rattle.fb_check_names.specs.declared.repeats.NameSpace.TheVariants as space
-use Rattle.fb_check_names.proofs.AllBlocks.{after_two}
+use Rattle.fb_check_names.proofs.lemmas.numbers.BlockIndexes.{after_two}
 use Rattle.fb_check_names.proofs.spaces.network_indexes.Goals as goal
 
 pub returns-clause-found : goal.returns-clause-found

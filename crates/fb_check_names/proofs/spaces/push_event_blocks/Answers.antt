@@ -4,8 +4,8 @@ use Rattle.fb_types.specs.Blocks.{event_block_named}
 use Rattle.fb_check_names.specs.TwiceLists.{event_block_at}
 use Rattle.fb_check_names.specs.Twice.{is_own_name}
 use Rattle.fb_check_names.specs.declared.twice.GivenTwice.TheVariants as given
-use Rattle.fb_check_names.proofs.Listing.{added_unless, each_done, each_more}
-use Rattle.fb_check_names.proofs.Repeating.{no_more}
+use Rattle.fb_check_names.proofs.lemmas.Listing.{added_unless, each_done, each_more}
+use Rattle.fb_check_names.proofs.lemmas.twice.Repeating.{no_more}
 use Rattle.fb_check_names.proofs.spaces.push_event_blocks.Goals as goal
 
 pub loop-block-preserved : goal.loop-block-preserved

@@ -2,8 +2,8 @@ use Rattle.std.proofs.Common.{◌++◌, List, ◌∙◌, ap}
 use Rattle.fb_types.specs.Names.{Name}
 use Rattle.fb_check_names.specs.TwiceLists.{names_twice, with_twice}
 use Rattle.fb_check_names.specs.declared.repeats.NameSpace.TheVariants as space
-use Rattle.fb_check_names.proofs.Repeating.{map_itself}
-use Rattle.fb_check_names.proofs.Listing.{each_done, each_more}
+use Rattle.fb_check_names.proofs.lemmas.twice.Repeating.{map_itself}
+use Rattle.fb_check_names.proofs.lemmas.Listing.{each_done, each_more}
 use Rattle.fb_check_names.proofs.spaces.push_in_withs.Goals as goal
 
 pub loop-event-preserved : goal.loop-event-preserved

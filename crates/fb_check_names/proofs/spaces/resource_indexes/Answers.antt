@@ -9,7 +9,7 @@ use Rattle.fb_check_names.specs.Indexes.{IsIndex}
 use Rattle.fb_check_names.specs.Pairs.{same_sides}
 use Rattle.fb_check_names.specs.TwiceLists.{names_twice, twice_by}
 use Rattle.fb_check_names.specs.declared.repeats.NameSpace.TheVariants as space
-use Rattle.fb_check_names.proofs.AllBlocks.{after_one}
+use Rattle.fb_check_names.proofs.lemmas.numbers.BlockIndexes.{after_one}
 use Rattle.fb_check_names.proofs.spaces.resource_indexes.Goals as goal
 
 pub returns-clause-found : goal.returns-clause-found

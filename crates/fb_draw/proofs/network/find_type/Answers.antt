@@ -3,7 +3,7 @@ use Rattle.std.specs.List.{find}
 use Rattle.fb_types.specs.Names.{same_name}
 use Rattle.fb_types.specs.Flat.{type_name}
 use Rattle.fb_types.specs.declared.library.BlockType.{BlockType}
-use Rattle.fb_types.proofs.NameLaws.{find-named}
+use Rattle.fb_types.proofs.lemmas.names.NameLaws.{find-named}
 use Rattle.fb_draw.proofs.network.find_type.Goals as goal
 
 pub returns : goal.returns

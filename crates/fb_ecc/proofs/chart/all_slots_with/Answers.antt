@@ -4,7 +4,7 @@ use Rattle.fb_types.specs.Names.{Name}
 use Rattle.fb_types.specs.Blocks.{among, variable_names}
 use Rattle.fb_types.specs.declared.library.EventPort.{EventPort}
 use Rattle.fb_types.specs.declared.library.Variable.{Variable}
-use Rattle.fb_types.proofs.LoopSteps.{map_take_more}
+use Rattle.fb_types.proofs.lemmas.lists.LoopSteps.{map_take_more}
 use Rattle.fb_ecc.specs.Located.{slots_among}
 use Rattle.fb_ecc.proofs.lemmas.Indexing.{own_lists}
 use Rattle.fb_ecc.proofs.chart.all_slots_with.Goals as goal

@@ -1,6 +1,6 @@
 use Rattle.std.proofs.Common.{◌≡◌, ◌<◌, true, List, [], ◌∷◌, ◌++◌, length, map, take, get_or, sym, ◌∙◌, ap, subst}
 use Rattle.fb_types.specs.declared.library.State.{State}
-use Rattle.fb_types.proofs.LoopSteps.{map_take_more}
+use Rattle.fb_types.proofs.lemmas.lists.LoopSteps.{map_take_more}
 use Rattle.fb_ecc.specs.Indexed.{row_within}
 use Rattle.fb_ecc.specs.Numbered.{act_of}
 use Rattle.fb_ecc.specs.declared.chart.ChartState.{ChartState}

@@ -2,7 +2,7 @@ use Rattle.std.proofs.Common.{◌∙◌, map, take, arith}
 use Rattle.std.proofs.lemmas.Grind.{common_steps}
 use Rattle.fb_event.specs.Block.{state_of}
 use Rattle.fb_event.specs.Emissions.{emission_at}
-use Rattle.fb_event.proofs.Emissions.{push-IsWellFormed}
+use Rattle.fb_event.proofs.lemmas.Emissions.{push-IsWellFormed}
 use Rattle.fb_event.proofs.emission.emit_each_bare.Goals as goal
 
 pub loop-event-preserved : goal.loop-event-preserved

@@ -1,4 +1,4 @@
-use Rattle.fb_event.proofs.Emissions.{bare, shown}
+use Rattle.fb_event.proofs.lemmas.Emissions.{bare, shown}
 use Rattle.fb_event.proofs.emission.is_bare.Goals as goal
 
 pub returns-in-Flag-clause-bare : goal.returns-in-Flag-clause-bare

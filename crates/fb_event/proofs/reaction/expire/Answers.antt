@@ -1,5 +1,5 @@
 use Rattle.std.proofs.Common.{◌≡◌, [], arith}
-use Rattle.fb_event.proofs.Emissions.{silent-Performs, step_emissions}
+use Rattle.fb_event.proofs.lemmas.Emissions.{silent-Performs, step_emissions}
 use Rattle.fb_event.proofs.reaction.expire.Goals as goal
 
 pub returns-clause-emitted : goal.returns-clause-emitted

@@ -1,4 +1,4 @@
-use Rattle.fb_event.proofs.Performing.{first_there}
+use Rattle.fb_event.proofs.lemmas.Performing.{first_there}
 use Rattle.fb_event.proofs.reaction.first.Goals as goal
 
 pub returns-in-len1-up : goal.returns-in-len1-up

@@ -1,6 +1,6 @@
 use Rattle.std.proofs.Common.{◌≡◌, [], refl, arith}
-use Rattle.fb_event.proofs.Emissions.{silent-Performs, step_emissions}
-use Rattle.fb_event.proofs.Inputs.{inputs, silent_inputs}
+use Rattle.fb_event.proofs.lemmas.Emissions.{silent-Performs, step_emissions}
+use Rattle.fb_event.proofs.lemmas.Inputs.{inputs, silent_inputs}
 use Rattle.fb_event.proofs.reaction.react.Goals as goal
 
 pub returns-clause-memory : goal.returns-clause-memory

@@ -1,4 +1,4 @@
-use Rattle.fb_event.proofs.Performing.{count_full}
+use Rattle.fb_event.proofs.lemmas.Performing.{count_full}
 use Rattle.fb_event.proofs.step.count_up.Goals as goal
 
 pub returns-then-count : goal.returns-then-count

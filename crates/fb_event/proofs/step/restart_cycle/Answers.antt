@@ -1,5 +1,5 @@
 use Rattle.std.proofs.Common.{refl}
-use Rattle.fb_event.proofs.Performing.{cycled}
+use Rattle.fb_event.proofs.lemmas.Performing.{cycled}
 use Rattle.fb_event.proofs.step.restart_cycle.Goals as goal
 
 pub returns-in-Running : goal.returns-in-Running

@@ -1,5 +1,5 @@
 use Rattle.std.proofs.Common.{to_z-of_z}
-use Rattle.fb_event.proofs.Performing.{below_one}
+use Rattle.fb_event.proofs.lemmas.Performing.{below_one}
 use Rattle.fb_event.proofs.step.ticks.Goals as goal
 
 pub returns-then-time-lt1-clause-value : goal.returns-then-time-lt1-clause-value

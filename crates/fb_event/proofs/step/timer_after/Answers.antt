@@ -1,6 +1,6 @@
 use Rattle.fb_event.specs.Block.{as_time}
 use Rattle.fb_event.specs.Seen.{seen_memory}
-use Rattle.fb_event.proofs.Performing.{timer_kept, timer_stopped}
+use Rattle.fb_event.proofs.lemmas.Performing.{timer_kept, timer_stopped}
 use Rattle.fb_event.proofs.step.timer_after.Goals as goal
 
 pub returns-then-event-ne-START : goal.returns-then-event-ne-START

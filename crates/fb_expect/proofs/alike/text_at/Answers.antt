@@ -1,7 +1,7 @@
 use Rattle.std.proofs.Common.{sym, ap, ◌∙◌}
 use Rattle.fb_expect.specs.Pairing.{text_in}
-use Rattle.fb_expect.proofs.Alikeness.{text-first, text-last}
-use Rattle.fb_expect.proofs.Parts.{part_shorter}
+use Rattle.fb_expect.proofs.lemmas.traces.Alikeness.{text-first, text-last}
+use Rattle.fb_expect.proofs.lemmas.texts.TextParts.{part_shorter}
 use Rattle.fb_expect.proofs.alike.text_at.Goals as goal
 
 pub loop-word-smaller : goal.loop-word-smaller

@@ -1,5 +1,5 @@
 use Rattle.std.proofs.Common.{◌≡◌, length}
-use Rattle.fb_expect.proofs.Alikeness.{texts}
+use Rattle.fb_expect.proofs.lemmas.traces.Alikeness.{texts}
 use Rattle.fb_expect.proofs.alike.text_at.Given as goal
 
 abbrev pub invariant-loop-word : goal.invariant-loop-word

@@ -3,7 +3,7 @@ use Rattle.std.proofs.lemmas.List.{length-map, length-drop, map-append}
 use Rattle.toml.specs.View.{view}
 use Rattle.fb_expect.specs.Drafts.{RuleText, rule_text, text_of}
 use Rattle.fb_expect.specs.Lists.{each}
-use Rattle.fb_expect.proofs.Each.{done, fails, front_none, more, next_seen, with_front}
+use Rattle.fb_expect.proofs.lemmas.documents.EachMayFail.{done, fails, front_none, more, next_seen, with_front}
 use Rattle.fb_expect.proofs.document.each_draft.Goals as goal
 
 pub loop-value-init : goal.loop-value-init

@@ -2,7 +2,7 @@ use Rattle.std.proofs.Common.{◌≡◌, ◌≤◌, drop, length, map, vec_len, 
 use Rattle.toml.specs.View.{view}
 use Rattle.fb_expect.specs.Drafts.{rule_text, text_of}
 use Rattle.fb_expect.specs.Lists.{each}
-use Rattle.fb_expect.proofs.Each.{with_front}
+use Rattle.fb_expect.proofs.lemmas.documents.EachMayFail.{with_front}
 use Rattle.fb_expect.proofs.document.each_draft.Given as goal
 
 abbrev pub invariant-loop-value : goal.invariant-loop-value

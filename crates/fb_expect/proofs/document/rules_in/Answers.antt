@@ -3,7 +3,7 @@ use Rattle.std.proofs.lemmas.List.{length-map}
 use Rattle.std.specs.Prelude.{◌==◌, option_map}
 use Rattle.toml.specs.View.{table_view, view}
 use Rattle.toml.specs.declared.value.Value.{Value}
-use Rattle.fb_expect.proofs.Shapes.{no_values, none_there, rules_are}
+use Rattle.fb_expect.proofs.lemmas.documents.Shapes.{no_values, none_there, rules_are}
 use Rattle.fb_expect.proofs.document.rules_in.Goals as goal
 
 pub returns-then-not-is_empty : goal.returns-then-not-is_empty

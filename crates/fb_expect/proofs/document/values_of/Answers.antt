@@ -1,7 +1,7 @@
 use Rattle.std.proofs.Common.{List, Some, ap, map, ◌∙◌}
 use Rattle.toml.specs.View.{view}
 use Rattle.toml.specs.declared.value.Value.{Value}
-use Rattle.fb_expect.proofs.Values.{array_values}
+use Rattle.fb_expect.proofs.lemmas.documents.DocumentValues.{array_values}
 use Rattle.fb_expect.proofs.document.values_of.Goals as goal
 
 pub returns-in-Some : goal.returns-in-Some

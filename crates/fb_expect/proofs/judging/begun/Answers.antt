@@ -1,7 +1,7 @@
 use Rattle.std.proofs.Common.{◌+◌, [], length, ap, ◌∙◌, arith}
 use Rattle.std.proofs.lemmas.List.{take_all}
 use Rattle.fb_expect.specs.Judging.{rules_of}
-use Rattle.fb_expect.proofs.Following.{all-one, begun-one}
+use Rattle.fb_expect.proofs.lemmas.rules.Following.{all-one, begun-one}
 use Rattle.fb_expect.proofs.judging.begun.Goals as goal
 
 pub loop-rule-init : goal.loop-rule-init

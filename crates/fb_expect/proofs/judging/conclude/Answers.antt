@@ -3,7 +3,7 @@ use Rattle.std.proofs.lemmas.List.{length-map, length_push, take_all}
 use Rattle.fb_expect.specs.Judging.{AreJudged, Follows, IsJudged, rules_of}
 use Rattle.fb_expect.specs.declared.judging.Judged.{Judged}
 use Rattle.fb_expect.specs.declared.judging.Watcher.{Watcher}
-use Rattle.fb_expect.proofs.Following.{concluded-one}
+use Rattle.fb_expect.proofs.lemmas.rules.Following.{concluded-one}
 use Rattle.fb_expect.proofs.judging.conclude.Goals as goal
 
 pub loop-watcher-init : goal.loop-watcher-init

@@ -1,4 +1,4 @@
-use Rattle.fb_expect.proofs.Following.{concluded}
+use Rattle.fb_expect.proofs.lemmas.rules.Following.{concluded}
 use Rattle.fb_expect.proofs.judging.conclude_one.Goals as goal
 
 pub returns : goal.returns

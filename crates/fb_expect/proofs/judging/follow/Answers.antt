@@ -5,8 +5,8 @@ use Rattle.fb_expect.specs.Lines.{IsOneLine}
 use Rattle.fb_expect.specs.Traces.{IsLast}
 use Rattle.fb_expect.specs.Words.{Text}
 use Rattle.fb_expect.specs.declared.judging.Watcher.{Watcher}
-use Rattle.fb_expect.proofs.Following.{as-many, front}
-use Rattle.fb_expect.proofs.Gathering.{followed, read-one}
+use Rattle.fb_expect.proofs.lemmas.rules.Following.{as-many, front}
+use Rattle.fb_expect.proofs.lemmas.traces.Gathering.{followed, read-one}
 use Rattle.fb_expect.proofs.judging.follow.Goals as goal
 
 pub returns-in-Some-clause-followed : goal.returns-in-Some-clause-followed

@@ -1,7 +1,7 @@
 use Rattle.std.proofs.Common.{◌≡◌, ◌∙◌, List, length, ap, subst, sym}
 use Rattle.fb_expect.specs.Judging.{IsFollowed, rules_of}
 use Rattle.fb_expect.specs.declared.judging.Watcher.{Watcher}
-use Rattle.fb_expect.proofs.Gathering.{judges_all}
+use Rattle.fb_expect.proofs.lemmas.traces.Gathering.{judges_all}
 use Rattle.fb_expect.proofs.judging.judge.Goals as goal
 
 pub returns-clause-judged : goal.returns-clause-judged

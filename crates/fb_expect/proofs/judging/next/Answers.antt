@@ -1,6 +1,6 @@
 use Rattle.std.proofs.Common.{◌≡◌, Bool, false, sym, ◌∙◌}
 use Rattle.fb_expect.specs.Events.{event_of}
-use Rattle.fb_expect.proofs.Idle.{passed}
+use Rattle.fb_expect.proofs.lemmas.rules.Idle.{passed}
 use Rattle.fb_expect.proofs.judging.next.Goals as goal
 
 pub returns-else-may_have : goal.returns-else-may_have

@@ -1,5 +1,5 @@
 use Rattle.fb_expect.specs.Paired.{within_of}
-use Rattle.fb_expect.proofs.Following.{begin-alone, begin-paired}
+use Rattle.fb_expect.proofs.lemmas.rules.Following.{begin-alone, begin-paired}
 use Rattle.fb_expect.proofs.judging.state_of.Goals as goal
 
 pub returns-in-Some : goal.returns-in-Some

@@ -4,7 +4,7 @@ use Rattle.fb_expect.specs.Events.{event_of}
 use Rattle.fb_expect.specs.Judging.{StateOn}
 use Rattle.fb_expect.specs.declared.judging.State.{State}
 use Rattle.fb_expect.specs.declared.judging.State.TheVariants.{Alone, Paired}
-use Rattle.fb_expect.proofs.Following.{alone-on, paired-on-ok}
+use Rattle.fb_expect.proofs.lemmas.rules.Following.{alone-on, paired-on-ok}
 use Rattle.fb_expect.proofs.judging.state_on.Goals as goal
 
 pub returns-in-Alone : goal.returns-in-Alone

@@ -3,7 +3,7 @@ use Rattle.std.proofs.Math.Seq.{map-set_same}
 use Rattle.fb_expect.specs.Events.{event_of}
 use Rattle.fb_expect.specs.declared.judging.Watcher.{Watcher}
 use Rattle.fb_expect.specs.declared.rule.Rule.{Rule}
-use Rattle.fb_expect.proofs.Following.{at-all, at-none, at-one}
+use Rattle.fb_expect.proofs.lemmas.rules.Following.{at-all, at-none, at-one}
 use Rattle.fb_expect.proofs.judging.take_line.Goals as goal
 
 pub loop-watcher-init : goal.loop-watcher-init

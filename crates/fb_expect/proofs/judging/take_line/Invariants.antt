@@ -2,7 +2,7 @@ use Rattle.std.proofs.Common.{◌≡◌, ◌+◌, List, [], ◌∷◌, ◌++◌,
 use Rattle.fb_expect.specs.Events.{Event, event_of}
 use Rattle.fb_expect.specs.Judging.{AllFollow, rules_of}
 use Rattle.fb_expect.specs.Traces.{AreBelow}
-use Rattle.fb_expect.proofs.Following.{AreAt}
+use Rattle.fb_expect.proofs.lemmas.rules.Following.{AreAt}
 use Rattle.fb_expect.proofs.judging.take_line.Given as goal
 
 abbrev pub invariant-loop-watcher : goal.invariant-loop-watcher

@@ -2,7 +2,7 @@ use Rattle.std.proofs.Common.{ℕ, sym, subst}
 use Rattle.fb_expect.specs.Judging.{Concludes}
 use Rattle.fb_expect.specs.Paired.{PairsEnd}
 use Rattle.fb_expect.specs.declared.judging.State.{State}
-use Rattle.fb_expect.proofs.Following.{concludes-alone, concludes-paired}
+use Rattle.fb_expect.proofs.lemmas.rules.Following.{concludes-alone, concludes-paired}
 use Rattle.fb_expect.proofs.judging.verdict_at.Goals as goal
 
 pub returns-in-Alone : goal.returns-in-Alone

@@ -1,6 +1,6 @@
 use Rattle.std.proofs.Common.{codes, ◌∙◌}
 use Rattle.fb_expect.specs.Suites.{counts_text, with_count}
-use Rattle.fb_expect.proofs.Suiting.{counted}
+use Rattle.fb_expect.proofs.lemmas.documents.Suiting.{counted}
 use Rattle.fb_expect.proofs.junit.counts_text.Goals as goal
 
 pub returns : goal.returns

@@ -1,6 +1,6 @@
 use Rattle.std.proofs.Common.{List, ℕ, ◌++◌, codes, drop, length, ap, ◌∙◌, arith}
 use Rattle.fb_expect.specs.Suites.{cases_of, suite_head, suite_head_by}
-use Rattle.fb_expect.proofs.Suiting.{case-put, cases-end, suite-end}
+use Rattle.fb_expect.proofs.lemmas.documents.Suiting.{case-put, cases-end, suite-end}
 use Rattle.fb_expect.proofs.junit.put_suite.Goals as goal
 
 pub loop-index-init : goal.loop-index-init

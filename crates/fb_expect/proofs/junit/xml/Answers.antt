@@ -1,7 +1,7 @@
 use Rattle.std.proofs.Common.{List, ℕ, ◌++◌, append-nil, drop, sym, ap, ◌∙◌, arith}
 use Rattle.std.proofs.lemmas.List.{drop_all}
 use Rattle.fb_expect.specs.Suites.{xml}
-use Rattle.fb_expect.proofs.Suiting.{byte-put}
+use Rattle.fb_expect.proofs.lemmas.documents.Suiting.{byte-put}
 use Rattle.fb_expect.proofs.junit.xml.Goals as goal
 
 pub loop-byte-init : goal.loop-byte-init

@@ -1,6 +1,6 @@
 use Rattle.toml.specs.View.{table_view}
 use Rattle.fb_expect.specs.Locations.{IsFault}
-use Rattle.fb_expect.proofs.Locating.{the_one}
+use Rattle.fb_expect.proofs.lemmas.documents.Locating.{the_one}
 use Rattle.fb_expect.proofs.location.form_fault.Goals as goal
 
 pub returns-in-Some : goal.returns-in-Some

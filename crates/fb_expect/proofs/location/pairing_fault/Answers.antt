@@ -1,6 +1,6 @@
 use Rattle.toml.specs.View.{table_view}
 use Rattle.fb_expect.specs.Locations.{IsFault}
-use Rattle.fb_expect.proofs.Locating.{one_of}
+use Rattle.fb_expect.proofs.lemmas.documents.Locating.{one_of}
 use Rattle.fb_expect.proofs.location.pairing_fault.Goals as goal
 
 pub returns : goal.returns

@@ -3,8 +3,8 @@ use Rattle.std.proofs.lemmas.Bool.{true≢false}
 use Rattle.std.specs.Prelude.{is_some}
 use Rattle.toml.specs.Errors.{IsMemory}
 use Rattle.toml.specs.View.{table_view}
-use Rattle.fb_expect.proofs.Outcomes.{is_document, is_no_document}
-use Rattle.fb_expect.proofs.Locating.{located}
+use Rattle.fb_expect.proofs.lemmas.documents.Outcomes.{is_document, is_no_document}
+use Rattle.fb_expect.proofs.lemmas.documents.Locating.{located}
 use Rattle.fb_expect.proofs.location.rules_location.Goals as goal
 
 pub returns-in-Ok : goal.returns-in-Ok

@@ -1,7 +1,7 @@
 use Rattle.std.proofs.Common.{Bool, sym, ◌∙◌}
 use Rattle.fb_types.specs.declared.value.Value.{Value}
 use Rattle.fb_expect.specs.Patterns.{are_as, is_value_of}
-use Rattle.fb_expect.proofs.Parts.{any-first, any-last, part_shorter}
+use Rattle.fb_expect.proofs.lemmas.texts.TextParts.{any-first, any-last, part_shorter}
 use Rattle.fb_expect.proofs.meeting.has_other.Goals as goal
 
 pub loop-word-smaller : goal.loop-word-smaller

@@ -1,6 +1,6 @@
 use Rattle.std.proofs.Common.{sym, ◌∙◌}
 use Rattle.fb_expect.specs.Words.{is_name}
-use Rattle.fb_expect.proofs.Parts.{all-first, all-last, part_shorter}
+use Rattle.fb_expect.proofs.lemmas.texts.TextParts.{all-first, all-last, part_shorter}
 use Rattle.fb_expect.proofs.names.is_path.Goals as goal
 
 pub loop-name-smaller : goal.loop-name-smaller

@@ -1,5 +1,5 @@
 use Rattle.std.proofs.Common.{◌<◌, length, sym, arith}
-use Rattle.fb_expect.proofs.Digits.{over}
+use Rattle.fb_expect.proofs.lemmas.texts.Digits.{over}
 use Rattle.fb_expect.proofs.number.natural.Goals as goal
 
 pub returns-then-value-most-clause-value : goal.returns-then-value-most-clause-value

@@ -1,5 +1,5 @@
 use Rattle.std.proofs.Common.{arith, rules}
-use Rattle.fb_expect.proofs.Parts.{sign_at, sign_none}
+use Rattle.fb_expect.proofs.lemmas.texts.TextParts.{sign_at, sign_none}
 use Rattle.fb_expect.proofs.pattern.at_comparison.Goals as goal
 
 pub returns-then-is_sign : goal.returns-then-is_sign

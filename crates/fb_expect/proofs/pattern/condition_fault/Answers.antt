@@ -5,7 +5,7 @@ use Rattle.fb_expect.specs.Words.{Text}
 use Rattle.fb_expect.specs.Written.{condition, condition_of}
 use Rattle.fb_expect.specs.declared.pattern.PatternFault.{PatternFault}
 use Rattle.fb_expect.specs.declared.pattern.PatternPart.TheVariants.{Condition}
-use Rattle.fb_expect.proofs.Joining.{part_at}
+use Rattle.fb_expect.proofs.lemmas.texts.JoinedTexts.{part_at}
 use Rattle.fb_expect.proofs.pattern.condition_fault.Goals as goal
 
 at : (ws : List (Bor Text)) (i : ℕ) (f : PatternFault) → i < length ws → f.part ≡ Condition → f.word ≡ part_at ws i → condition_of (part_at ws i) ≡ None

@@ -3,8 +3,8 @@ use Rattle.std.proofs.lemmas.List.{length-map, length-drop}
 use Rattle.fb_expect.specs.Lists.{each}
 use Rattle.fb_expect.specs.Written.{condition_of}
 use Rattle.fb_expect.specs.declared.pattern.Condition.{Condition}
-use Rattle.fb_expect.proofs.Each.{done, fails, more, next_at, with_front}
-use Rattle.fb_expect.proofs.Joining.{part_at}
+use Rattle.fb_expect.proofs.lemmas.documents.EachMayFail.{done, fails, more, next_at, with_front}
+use Rattle.fb_expect.proofs.lemmas.texts.JoinedTexts.{part_at}
 use Rattle.fb_expect.proofs.pattern.conditions_of.Goals as goal
 
 abbrev now : Bor (List ℕ) → List ℕ

@@ -1,7 +1,7 @@
 use Rattle.std.proofs.Common.{◌≡◌, drop, map}
 use Rattle.fb_expect.specs.Lists.{each}
 use Rattle.fb_expect.specs.Written.{condition_of}
-use Rattle.fb_expect.proofs.Each.{with_front}
+use Rattle.fb_expect.proofs.lemmas.documents.EachMayFail.{with_front}
 use Rattle.fb_expect.proofs.pattern.conditions_of.Given as goal
 
 abbrev pub invariant-loop-word : goal.invariant-loop-word

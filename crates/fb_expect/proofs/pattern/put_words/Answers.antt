@@ -1,6 +1,6 @@
 use Rattle.std.proofs.Common.{◌∙◌, List, ℕ, map, refl}
 use Rattle.std.specs.Borrow.{Bor}
-use Rattle.fb_expect.proofs.Parts.{all-words, part_shorter, with-first}
+use Rattle.fb_expect.proofs.lemmas.texts.TextParts.{all-words, part_shorter, with-first}
 use Rattle.fb_expect.proofs.pattern.put_words.Goals as goal
 
 abbrev now_of : List (Bor (List ℕ)) → List (List ℕ)

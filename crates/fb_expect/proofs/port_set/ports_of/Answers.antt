@@ -1,4 +1,4 @@
-use Rattle.fb_expect.proofs.Marked.{covers, covers-all}
+use Rattle.fb_expect.proofs.lemmas.patterns.Marked.{covers, covers-all}
 use Rattle.fb_expect.proofs.port_set.ports_of.Goals as goal
 
 pub returns-then-has_windows : goal.returns-then-has_windows

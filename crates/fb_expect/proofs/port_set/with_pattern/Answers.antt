@@ -2,7 +2,7 @@ use Rattle.std.proofs.Common.{◌%◌, List, Bool, true, set, sym, ap, ◌∙◌
 use Rattle.fb_expect.specs.Passing.{Adds}
 use Rattle.fb_expect.specs.Fingerprints.{fingerprint}
 use Rattle.fb_expect.specs.Words.{Text}
-use Rattle.fb_expect.proofs.Marked.{adds-all, adds-one}
+use Rattle.fb_expect.proofs.lemmas.patterns.Marked.{adds-all, adds-one}
 use Rattle.fb_expect.proofs.port_set.with_pattern.Goals as goal
 
 pub returns-in-Whole : goal.returns-in-Whole

@@ -2,7 +2,7 @@ use Rattle.std.proofs.Common.{sym, ◌∙◌, refl}
 use Rattle.std.proofs.lemmas.Bool.{false≢true}
 use Rattle.toml.specs.Errors.{IsMemory}
 use Rattle.toml.specs.View.{table_view}
-use Rattle.fb_expect.proofs.Outcomes.{is_document, is_no_document}
+use Rattle.fb_expect.proofs.lemmas.documents.Outcomes.{is_document, is_no_document}
 use Rattle.fb_expect.proofs.rules.document.Goals as goal
 
 pub returns-in-Ok : goal.returns-in-Ok

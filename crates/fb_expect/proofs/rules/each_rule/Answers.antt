@@ -4,7 +4,7 @@ use Rattle.fb_expect.specs.Drafts.{text_of}
 use Rattle.fb_expect.specs.Lists.{each}
 use Rattle.fb_expect.specs.Needs.{rule_of}
 use Rattle.fb_expect.specs.declared.rule.Rule.{Rule}
-use Rattle.fb_expect.proofs.Each.{done, fails, more, next_seen, with_front}
+use Rattle.fb_expect.proofs.lemmas.documents.EachMayFail.{done, fails, more, next_seen, with_front}
 use Rattle.fb_expect.proofs.rules.each_rule.Goals as goal
 
 pub loop-draft-preserved : goal.loop-draft-preserved

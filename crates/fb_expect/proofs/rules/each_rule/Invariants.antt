@@ -2,7 +2,7 @@ use Rattle.std.proofs.Common.{◌≡◌, drop, map}
 use Rattle.fb_expect.specs.Drafts.{text_of}
 use Rattle.fb_expect.specs.Lists.{each}
 use Rattle.fb_expect.specs.Needs.{rule_of}
-use Rattle.fb_expect.proofs.Each.{with_front}
+use Rattle.fb_expect.proofs.lemmas.documents.EachMayFail.{with_front}
 use Rattle.fb_expect.proofs.rules.each_rule.Given as goal
 
 abbrev pub invariant-loop-draft : goal.invariant-loop-draft

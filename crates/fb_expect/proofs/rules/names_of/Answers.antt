@@ -5,7 +5,7 @@ use Rattle.fb_types.specs.Names.{Name}
 use Rattle.fb_expect.specs.Drafts.{text_in, texts_in}
 use Rattle.fb_expect.specs.Lists.{each}
 use Rattle.fb_expect.specs.Needs.{name_of}
-use Rattle.fb_expect.proofs.Each.{done, fails, more, next_seen, with_front}
+use Rattle.fb_expect.proofs.lemmas.documents.EachMayFail.{done, fails, more, next_seen, with_front}
 use Rattle.fb_expect.proofs.rules.names_of.Goals as goal
 
 pub loop-value-preserved : goal.loop-value-preserved

@@ -3,7 +3,7 @@ use Rattle.toml.specs.View.{view}
 use Rattle.fb_expect.specs.Drafts.{texts_in}
 use Rattle.fb_expect.specs.Lists.{each}
 use Rattle.fb_expect.specs.Needs.{name_of}
-use Rattle.fb_expect.proofs.Each.{with_front}
+use Rattle.fb_expect.proofs.lemmas.documents.EachMayFail.{with_front}
 use Rattle.fb_expect.proofs.rules.names_of.Given as goal
 
 abbrev pub invariant-loop-value : goal.invariant-loop-value

@@ -3,7 +3,7 @@ use Rattle.std.proofs.lemmas.Result.{err_from_is_err_and}
 use Rattle.toml.specs.View.{table_view}
 use Rattle.fb_expect.specs.Reading.{document, most_bytes, of_document}
 use Rattle.fb_expect.specs.Refusals.{no_document, or_refuse}
-use Rattle.fb_expect.proofs.Outcomes.{passed_on, read_rules_of, short_rules}
+use Rattle.fb_expect.proofs.lemmas.documents.Outcomes.{passed_on, read_rules_of, short_rules}
 use Rattle.fb_expect.proofs.rules.read_rules.Goals as goal
 
 pub returns-in_err-keys : goal.returns-in_err-keys

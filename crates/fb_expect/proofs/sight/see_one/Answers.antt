@@ -6,7 +6,7 @@ use Rattle.fb_expect.specs.Patterns.{has_all, has_kinds, is_at, meets}
 use Rattle.fb_expect.specs.Sights.{sight_of}
 use Rattle.fb_expect.specs.declared.pattern.Pattern.{Pattern}
 use Rattle.fb_expect.specs.declared.sight.Sight.{Sight}
-use Rattle.fb_expect.proofs.Sighting.{fitting-stays, lacks-all, lacks-kinds, met-now, met-stays, named-fits, named-stays, nothing-at, nothing-stays, port-more, seen, sight-more}
+use Rattle.fb_expect.proofs.lemmas.patterns.Sighting.{fitting-stays, lacks-all, lacks-kinds, met-now, met-stays, named-fits, named-stays, nothing-at, nothing-stays, port-more, seen, sight-more}
 use Rattle.fb_expect.proofs.sight.see_one.Goals as goal
 
 -- what is seen with one more line, where this is it of the four parts

@@ -1,6 +1,6 @@
 use Rattle.std.proofs.Common.{sym, ◌∙◌}
-use Rattle.fb_expect.proofs.Parts.{part_shorter}
-use Rattle.fb_expect.proofs.Starred.{fits-end, fits-first, fits-rest, fits-short}
+use Rattle.fb_expect.proofs.lemmas.texts.TextParts.{part_shorter}
+use Rattle.fb_expect.proofs.lemmas.patterns.Starred.{fits-end, fits-first, fits-rest, fits-short}
 use Rattle.fb_expect.proofs.stars.fits.Goals as goal
 
 pub loop-one-smaller : goal.loop-one-smaller

@@ -1,6 +1,6 @@
 use Rattle.std.proofs.Common.{◌≡◌, length}
 use Rattle.fb_expect.specs.Stars.{fits}
-use Rattle.fb_expect.proofs.Starred.{parts}
+use Rattle.fb_expect.proofs.lemmas.patterns.Starred.{parts}
 use Rattle.fb_expect.proofs.stars.fits.Given as goal
 
 abbrev pub invariant-loop-one : goal.invariant-loop-one

@@ -1,6 +1,6 @@
 use Rattle.std.proofs.Common.{sym, ◌∙◌}
-use Rattle.fb_expect.proofs.Parts.{part_shorter}
-use Rattle.fb_expect.proofs.Starred.{later-first, later-last}
+use Rattle.fb_expect.proofs.lemmas.texts.TextParts.{part_shorter}
+use Rattle.fb_expect.proofs.lemmas.patterns.Starred.{later-first, later-last}
 use Rattle.fb_expect.proofs.stars.fits_later.Goals as goal
 
 pub loop-after-smaller : goal.loop-after-smaller

@@ -1,6 +1,6 @@
 use Rattle.std.proofs.Common.{◌≡◌, length}
 use Rattle.fb_expect.specs.Stars.{fits_later}
-use Rattle.fb_expect.proofs.Starred.{parts}
+use Rattle.fb_expect.proofs.lemmas.patterns.Starred.{parts}
 use Rattle.fb_expect.proofs.stars.fits_later.Given as goal
 
 abbrev pub invariant-loop-after : goal.invariant-loop-after

@@ -1,5 +1,5 @@
 use Rattle.std.proofs.Common.{sym, ◌∙◌}
-use Rattle.fb_expect.proofs.Starred.{form-one, form-plain, form-star}
+use Rattle.fb_expect.proofs.lemmas.patterns.Starred.{form-one, form-plain, form-star}
 use Rattle.fb_expect.proofs.stars.has_form.Goals as goal
 
 pub returns-then-is_star : goal.returns-then-is_star

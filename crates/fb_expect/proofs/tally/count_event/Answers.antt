@@ -1,5 +1,5 @@
 use Rattle.std.proofs.Common.{arith}
-use Rattle.fb_expect.proofs.Tallying.{counts-first, counts-same}
+use Rattle.fb_expect.proofs.lemmas.rules.Tallying.{counts-first, counts-same}
 use Rattle.fb_expect.proofs.tally.count_event.Goals as goal
 
 pub returns-then-hit : goal.returns-then-hit

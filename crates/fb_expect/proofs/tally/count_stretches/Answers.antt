@@ -1,5 +1,5 @@
 use Rattle.std.proofs.Common.{◌^◌}
-use Rattle.fb_expect.proofs.Tallying.{counts-inside}
+use Rattle.fb_expect.proofs.lemmas.rules.Tallying.{counts-inside}
 use Rattle.fb_expect.proofs.tally.count_stretches.Goals as goal
 
 pub returns : goal.returns

@@ -1,7 +1,7 @@
 use Rattle.std.proofs.Common.{◌^◌, sym, subst, arith}
 use Rattle.fb_expect.specs.Deciding.{Decides}
 use Rattle.fb_expect.specs.declared.tally.Tally.{Tally}
-use Rattle.fb_expect.proofs.Tallying.{decides-events, decides-inside, decides-windows}
+use Rattle.fb_expect.proofs.lemmas.rules.Tallying.{decides-events, decides-inside, decides-windows}
 use Rattle.fb_expect.proofs.tally.decided_by.Goals as goal
 
 pub returns-in-Events : goal.returns-in-Events

@@ -1,4 +1,4 @@
-use Rattle.fb_expect.proofs.Numbering.{product, room}
+use Rattle.fb_expect.proofs.lemmas.traces.Numbering.{product, room}
 use Rattle.fb_expect.proofs.tap.product.Goals as goal
 
 pub overflow_mul-result : goal.overflow_mul-result

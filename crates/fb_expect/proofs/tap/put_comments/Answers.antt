@@ -1,5 +1,5 @@
 use Rattle.fb_expect.specs.Reports.{comment, may_comment}
-use Rattle.fb_expect.proofs.Joining.{three-put}
+use Rattle.fb_expect.proofs.lemmas.texts.JoinedTexts.{three-put}
 use Rattle.fb_expect.proofs.tap.put_comments.Goals as goal
 
 pub returns : goal.returns

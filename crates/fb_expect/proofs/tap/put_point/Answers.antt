@@ -1,6 +1,6 @@
 use Rattle.std.proofs.Common.{Bool, ap, ◌∙◌}
 use Rattle.fb_expect.specs.Reports.{comments, head, how_often, is_well, point, tail}
-use Rattle.fb_expect.proofs.Joining.{point-put}
+use Rattle.fb_expect.proofs.lemmas.texts.JoinedTexts.{point-put}
 use Rattle.fb_expect.proofs.tap.put_point.Goals as goal
 
 pub returns : goal.returns

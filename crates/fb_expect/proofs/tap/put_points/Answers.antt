@@ -1,5 +1,5 @@
 use Rattle.std.proofs.Common.{ℕ, List, ◌*◌, ◌++◌, length, ap, ◌∙◌, arith}
-use Rattle.fb_expect.proofs.Joining.{point-added, points-all}
+use Rattle.fb_expect.proofs.lemmas.texts.JoinedTexts.{point-added, points-all}
 use Rattle.fb_expect.proofs.tap.put_points.Goals as goal
 
 pub overflow_add-number : goal.overflow_add-number

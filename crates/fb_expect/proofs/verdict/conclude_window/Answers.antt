@@ -5,7 +5,7 @@ use Rattle.fb_expect.specs.declared.rule.Need.TheVariants as need
 use Rattle.fb_expect.specs.declared.verdict.Fault.TheVariants.{Fewer}
 use Rattle.fb_expect.specs.declared.verdict.Verdict.TheVariants.{Broken}
 use Rattle.fb_expect.specs.declared.watch.Watch.TheVariants as watch
-use Rattle.fb_expect.proofs.Verdicts.{window-amid, window-fewer, window-holds}
+use Rattle.fb_expect.proofs.lemmas.rules.Verdicts.{window-amid, window-fewer, window-holds}
 use Rattle.fb_expect.proofs.verdict.conclude_window.Goals as goal
 
 pub returns-then-lacks : goal.returns-then-lacks

@@ -7,7 +7,7 @@ use Rattle.fb_expect.specs.declared.verdict.Verdict.{Verdict}
 use Rattle.fb_expect.specs.declared.verdict.Verdict.TheVariants.{Holds}
 use Rattle.fb_expect.specs.declared.watch.Watch.{Watch}
 use Rattle.fb_expect.specs.declared.watch.Watch.TheVariants as watch
-use Rattle.fb_expect.proofs.Verdicts.{before-left, broken-ends, count-left, never-left, not-left, see-left}
+use Rattle.fb_expect.proofs.lemmas.rules.Verdicts.{before-left, broken-ends, count-left, never-left, not-left, see-left}
 use Rattle.fb_expect.proofs.verdict.verdict_of.Goals as goal
 
 -- what comes of a rule and a state comes of those that are the same

@@ -5,7 +5,7 @@ use Rattle.fb_expect.specs.Watching.{IsPast, Steps}
 use Rattle.fb_expect.specs.declared.rule.Need.TheVariants as need
 use Rattle.fb_expect.specs.declared.watch.Watch.{Watch}
 use Rattle.fb_expect.specs.declared.watch.Watch.TheVariants as watch
-use Rattle.fb_expect.proofs.Stepping.{before-breaks, before-other, before-second}
+use Rattle.fb_expect.proofs.lemmas.rules.Stepping.{before-breaks, before-other, before-second}
 use Rattle.fb_expect.proofs.watch.before.Goals as goal
 use Rattle.fb_expect.proofs.watch.before.Goals.{else-hit-via-then-hit+else-is_long_past, else-hit-via-else-hit}
 

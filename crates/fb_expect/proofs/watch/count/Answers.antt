@@ -4,7 +4,7 @@ use Rattle.fb_expect.specs.Watching.{Steps}
 use Rattle.fb_expect.specs.declared.rule.Need.TheVariants as need
 use Rattle.fb_expect.specs.declared.watch.Watch.{Watch}
 use Rattle.fb_expect.specs.declared.watch.Watch.TheVariants as watch
-use Rattle.fb_expect.proofs.Stepping.{count-breaks, count-goes}
+use Rattle.fb_expect.proofs.lemmas.rules.Stepping.{count-breaks, count-goes}
 use Rattle.fb_expect.proofs.watch.count.Goals as goal
 use Rattle.fb_expect.proofs.watch.count.Goals.{then-window-next, else-window-next}
 

@@ -2,7 +2,7 @@ use Rattle.std.proofs.Common.{sym, subst, arith}
 use Rattle.std.proofs.lemmas.Bool.{both_ways}
 use Rattle.fb_expect.specs.Watching.{CountsOn}
 use Rattle.fb_expect.specs.declared.watch.Watch.{Watch}
-use Rattle.fb_expect.proofs.Stepping.{count-more, count-next, count-none}
+use Rattle.fb_expect.proofs.lemmas.rules.Stepping.{count-more, count-next, count-none}
 use Rattle.fb_expect.proofs.watch.count_on.Goals as goal
 
 pub returns-then-is_over : goal.returns-then-is_over

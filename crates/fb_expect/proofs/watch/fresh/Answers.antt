@@ -1,4 +1,4 @@
-use Rattle.fb_expect.proofs.Seeing.{none-new, waits-new}
+use Rattle.fb_expect.proofs.lemmas.rules.RulesOfAfter.{none-new, waits-new}
 use Rattle.fb_expect.proofs.watch.fresh.Goals as goal
 
 pub returns-then-hit : goal.returns-then-hit

@@ -2,8 +2,8 @@ use Rattle.std.proofs.Common.{subst}
 use Rattle.std.specs.Prelude.{Option}
 use Rattle.fb_expect.specs.declared.watch.Mark.{Mark}
 use Rattle.fb_expect.specs.Watching.{KnowsSee}
-use Rattle.fb_expect.proofs.Seeing.{answers, none-waits}
-use Rattle.fb_expect.proofs.Stepping.{wait-on}
+use Rattle.fb_expect.proofs.lemmas.rules.RulesOfAfter.{answers, none-waits}
+use Rattle.fb_expect.proofs.lemmas.rules.Stepping.{wait-on}
 use Rattle.fb_expect.proofs.watch.mark_after.Goals as goal
 
 pub returns-then-hit : goal.returns-then-hit

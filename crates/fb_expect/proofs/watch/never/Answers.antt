@@ -4,7 +4,7 @@ use Rattle.fb_expect.specs.declared.rule.Need.TheVariants as need
 use Rattle.fb_expect.specs.declared.watch.Watch.{Watch}
 use Rattle.fb_expect.specs.declared.watch.Watch.TheVariants as watch
 use Rattle.std.proofs.lemmas.Bool.{and_cases, and_parts}
-use Rattle.fb_expect.proofs.Stepping.{never-breaks, never-goes}
+use Rattle.fb_expect.proofs.lemmas.rules.Stepping.{never-breaks, never-goes}
 use Rattle.fb_expect.proofs.watch.never.Goals as goal
 
 pub returns-then-both : goal.returns-then-both

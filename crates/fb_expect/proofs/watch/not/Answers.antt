@@ -5,7 +5,7 @@ use Rattle.fb_expect.specs.Watching.{IsPast, Steps}
 use Rattle.fb_expect.specs.declared.rule.Need.TheVariants as need
 use Rattle.fb_expect.specs.declared.watch.Watch.{Watch}
 use Rattle.fb_expect.specs.declared.watch.Watch.TheVariants as watch
-use Rattle.fb_expect.proofs.Stepping.{not-breaks, not-first, not-other}
+use Rattle.fb_expect.proofs.lemmas.rules.Stepping.{not-breaks, not-first, not-other}
 use Rattle.fb_expect.proofs.watch.not.Goals as goal
 use Rattle.fb_expect.proofs.watch.not.Goals.{else-hit-via-then-hit+else-not-is_long_past, else-hit-via-else-hit}
 

@@ -3,7 +3,7 @@ use Rattle.fb_expect.specs.Watching.{Steps}
 use Rattle.fb_expect.specs.declared.rule.Need.TheVariants as need
 use Rattle.fb_expect.specs.declared.watch.Watch.{Watch}
 use Rattle.fb_expect.specs.declared.watch.Watch.TheVariants as watch
-use Rattle.fb_expect.proofs.Stepping.{see-late}
+use Rattle.fb_expect.proofs.lemmas.rules.Stepping.{see-late}
 use Rattle.fb_expect.proofs.watch.see.Goals as goal
 
 pub returns-in-Some : goal.returns-in-Some

@@ -1,5 +1,5 @@
 use Rattle.std.proofs.Common.{arith, rules}
-use Rattle.fb_expect.proofs.Parts.{end_at, end_none}
+use Rattle.fb_expect.proofs.lemmas.texts.TextParts.{end_at, end_none}
 use Rattle.fb_expect.proofs.words.cut.Goals as goal
 
 pub returns-then-is_end-clause-exact : goal.returns-then-is_end-clause-exact

@@ -1,5 +1,5 @@
 use Rattle.std.proofs.Common.{arith, rules}
-use Rattle.fb_expect.proofs.Parts.{parted_at, parted_none}
+use Rattle.fb_expect.proofs.lemmas.texts.TextParts.{parted_at, parted_none}
 use Rattle.fb_expect.proofs.words.split_at_mark.Goals as goal
 
 pub returns-then-text-at : goal.returns-then-text-at

@@ -1,7 +1,7 @@
 use Rattle.std.proofs.Common.{◌==◌, ◌||◌, ℕ, sym, ◌∙◌}
 use Rattle.fb_inputs.specs.Counts.{at}
 use Rattle.fb_inputs.specs.Lines.{is_blank}
-use Rattle.fb_inputs.proofs.Counting.{all_more}
+use Rattle.fb_inputs.proofs.lemmas.positions.Counting.{all_more}
 use Rattle.fb_inputs.proofs.arrays.array_begin.Goals as goal
 
 pub loop-at-preserved : goal.loop-at-preserved

@@ -1,5 +1,5 @@
 use Rattle.fb_inputs.specs.Arrays.{closes, opens}
-use Rattle.fb_inputs.proofs.Counting.{counts, fits, free_more, quote_more}
+use Rattle.fb_inputs.proofs.lemmas.positions.Counting.{counts, fits, free_more, quote_more}
 use Rattle.fb_inputs.proofs.arrays.passed_after.Goals as goal
 
 pub returns : goal.returns

@@ -1,7 +1,7 @@
 use Rattle.std.proofs.Common.{refl, arith}
 use Rattle.fb_inputs.specs.Counts.{count_below}
 use Rattle.fb_inputs.specs.Records.{begins_word}
-use Rattle.fb_inputs.proofs.Counting.{counts, fits}
+use Rattle.fb_inputs.proofs.lemmas.positions.Counting.{counts, fits}
 use Rattle.fb_inputs.proofs.csv_records.word_begin.Goals as goal
 
 pub loop-at-init : goal.loop-at-init

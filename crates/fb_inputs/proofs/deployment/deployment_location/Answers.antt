@@ -1,4 +1,4 @@
-use Rattle.fb_inputs.proofs.DeployLaws.{refused-at}
+use Rattle.fb_inputs.proofs.lemmas.deployments.DeployLaws.{refused-at}
 use Rattle.fb_inputs.proofs.deployment.deployment_location.Goals as goal
 
 pub returns-in-Ok : goal.returns-in-Ok

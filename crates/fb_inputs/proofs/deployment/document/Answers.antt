@@ -3,7 +3,7 @@ use Rattle.std.proofs.lemmas.Bool.{true≢false}
 use Rattle.std.specs.Prelude.{is_some}
 use Rattle.toml.specs.Errors.{IsMemory}
 use Rattle.toml.specs.View.{table_view}
-use Rattle.fb_inputs.proofs.Outcomes.{is_document, is_no_document}
+use Rattle.fb_inputs.proofs.lemmas.deployments.Outcomes.{is_document, is_no_document}
 use Rattle.fb_inputs.proofs.deployment.document.Goals as goal
 
 pub returns-in-Ok-clause-found : goal.returns-in-Ok-clause-found

@@ -1,7 +1,7 @@
 use Rattle.std.proofs.Common.{◌≡◌, false, Option, Ok, length, sym, ap, ◌∙◌}
 use Rattle.fb_inputs.specs.declared.deploy_location.DeployLocation.{DeployLocation}
 use Rattle.fb_inputs.specs.Deployments.{fault_in, plan_of, unless}
-use Rattle.fb_inputs.proofs.Tables.{judged_by, no_fault, right_counts, within_limits}
+use Rattle.fb_inputs.proofs.lemmas.deployments.Tables.{judged_by, no_fault, right_counts, within_limits}
 use Rattle.fb_inputs.proofs.deployment.judge.Goals as goal
 
 pub returns-in-Some : goal.returns-in-Some

@@ -1,4 +1,4 @@
-use Rattle.fb_inputs.proofs.Outcomes.{deploy_number}
+use Rattle.fb_inputs.proofs.lemmas.deployments.Outcomes.{deploy_number}
 use Rattle.fb_inputs.proofs.deployment.read_deploy.Goals as goal
 
 pub returns-in-Err : goal.returns-in-Err

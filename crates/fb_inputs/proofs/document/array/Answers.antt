@@ -1,5 +1,5 @@
 use Rattle.toml.specs.View.{view}
-use Rattle.fb_inputs.proofs.Values.{array_view}
+use Rattle.fb_inputs.proofs.lemmas.deployments.DocumentValues.{array_view}
 use Rattle.fb_inputs.proofs.document.array.Goals as goal
 
 pub returns-in-Some : goal.returns-in-Some

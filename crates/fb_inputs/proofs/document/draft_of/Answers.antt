@@ -6,8 +6,8 @@ use Rattle.fb_inputs.specs.declared.deploy_location.DeployKey.TheVariants as key
 use Rattle.fb_inputs.specs.declared.deploy_location.DeployLocation.{DeployLocation}
 use Rattle.fb_inputs.specs.DeployLocations.{location_of, value_at}
 use Rattle.fb_inputs.specs.Documents.{count_of, known_keys}
-use Rattle.fb_inputs.proofs.Drafts.{drafted, further_keys, no_resources, refused_links, refused_resources, resources_by, without_resource}
-use Rattle.fb_inputs.proofs.Placing.{if-some}
+use Rattle.fb_inputs.proofs.lemmas.deployments.Drafts.{drafted, further_keys, no_resources, refused_links, refused_resources, resources_by, without_resource}
+use Rattle.fb_inputs.proofs.lemmas.deployments.TableResults.{if-some}
 use Rattle.fb_inputs.proofs.document.draft_of.Goals as goal
 
 pub returns-in_default-clause-value : goal.returns-in_default-clause-value

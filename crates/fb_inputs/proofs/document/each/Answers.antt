@@ -4,9 +4,9 @@ use Rattle.std.proofs.lemmas.Result.{err_from_is_err_and}
 use Rattle.toml.specs.View.{view}
 use Rattle.fb_inputs.specs.DeployLocations.{element_at, fault_of}
 use Rattle.fb_inputs.specs.declared.deploy_location.TableFault.{TableFault}
-use Rattle.fb_inputs.proofs.Each.{nothing_before, more_at, fails_at, not_refused, done_at}
-use Rattle.fb_inputs.proofs.Placing.{if-some}
-use Rattle.fb_inputs.proofs.Values.{next_view}
+use Rattle.fb_inputs.proofs.lemmas.Each.{nothing_before, more_at, fails_at, not_refused, done_at}
+use Rattle.fb_inputs.proofs.lemmas.deployments.TableResults.{if-some}
+use Rattle.fb_inputs.proofs.lemmas.deployments.DocumentValues.{next_view}
 use Rattle.fb_inputs.proofs.document.each.Goals as goal
 
 pub loop-value-init : goal.loop-value-init

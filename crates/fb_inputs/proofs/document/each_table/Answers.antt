@@ -7,9 +7,9 @@ use Rattle.fb_inputs.specs.Documents.{of_table}
 use Rattle.fb_inputs.specs.DeployLocations.{location_of, shape_in}
 use Rattle.fb_inputs.specs.Lists.{placed}
 use Rattle.fb_inputs.specs.declared.deploy_location.DeployLocation.{DeployLocation}
-use Rattle.fb_inputs.proofs.Each.{nothing_before, more_in, fails_in, done_in}
-use Rattle.fb_inputs.proofs.Placing.{if-some, placed-ok, placed-err}
-use Rattle.fb_inputs.proofs.Values.{next_view}
+use Rattle.fb_inputs.proofs.lemmas.Each.{nothing_before, more_in, fails_in, done_in}
+use Rattle.fb_inputs.proofs.lemmas.deployments.TableResults.{if-some, placed-ok, placed-err}
+use Rattle.fb_inputs.proofs.lemmas.deployments.DocumentValues.{next_view}
 use Rattle.fb_inputs.proofs.document.each_table.Goals as goal
 
 pub loop-value-init : goal.loop-value-init

@@ -1,6 +1,6 @@
 use Rattle.toml.specs.View.{view}
 use Rattle.fb_inputs.specs.Documents.{of_table}
-use Rattle.fb_inputs.proofs.Values.{tables_view}
+use Rattle.fb_inputs.proofs.lemmas.deployments.DocumentValues.{tables_view}
 use Rattle.fb_inputs.proofs.document.tables.Goals as goal
 
 pub returns-in-Some : goal.returns-in-Some

@@ -1,7 +1,7 @@
 use Rattle.std.proofs.Common.{refl, arith}
 use Rattle.fb_inputs.specs.Counts.{count_below}
 use Rattle.fb_inputs.specs.Lines.{begins_table, is_first}
-use Rattle.fb_inputs.proofs.Counting.{counts, first_more, fits}
+use Rattle.fb_inputs.proofs.lemmas.positions.Counting.{counts, first_more, fits}
 use Rattle.fb_inputs.proofs.lines.heading_begin.Goals as goal
 
 pub loop-at-init : goal.loop-at-init

@@ -1,6 +1,6 @@
 use Rattle.std.proofs.Common.{sym, ◌∙◌}
 use Rattle.fb_inputs.specs.Lines.{begins_any, begins_key}
-use Rattle.fb_inputs.proofs.Counting.{first_more, none_more}
+use Rattle.fb_inputs.proofs.lemmas.positions.Counting.{first_more, none_more}
 use Rattle.fb_inputs.proofs.lines.key_from.Goals as goal
 
 pub loop-at-preserved : goal.loop-at-preserved

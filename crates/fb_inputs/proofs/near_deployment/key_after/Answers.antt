@@ -1,5 +1,5 @@
 use Rattle.std.proofs.Common.{sym}
-use Rattle.fb_inputs.proofs.Counting.{first_more, left}
+use Rattle.fb_inputs.proofs.lemmas.positions.Counting.{first_more, left}
 use Rattle.fb_inputs.proofs.near_deployment.key_after.Goals as goal
 
 pub key_from-requires-clause-known : goal.key_from-requires-clause-known

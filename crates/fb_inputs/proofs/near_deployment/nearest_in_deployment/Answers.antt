@@ -2,7 +2,7 @@ use Rattle.std.proofs.Common.{inl, inr, subst}
 use Rattle.fb_inputs.specs.NearSpans.{IsInDeployment}
 use Rattle.fb_inputs.specs.Positions.{around_deploy}
 use Rattle.fb_inputs.specs.declared.position.DeployPosition.{DeployPosition}
-use Rattle.fb_inputs.proofs.Around.{next_step, no_step}
+use Rattle.fb_inputs.proofs.lemmas.positions.StepsAround.{next_step, no_step}
 use Rattle.fb_inputs.proofs.near_deployment.nearest_in_deployment.Goals as goal
 
 pub loop-init : goal.loop-init

@@ -3,7 +3,7 @@ use Rattle.std.specs.List.{AllZip}
 use Rattle.std.proofs.lemmas.List.{take_all}
 use Rattle.fb_inputs.specs.NearSpans.{IsNearInStimuli}
 use Rattle.fb_inputs.specs.declared.position.StimuliPosition.{StimuliPosition}
-use Rattle.fb_inputs.proofs.Nearest.{one_near}
+use Rattle.fb_inputs.proofs.lemmas.positions.NearestSpans.{one_near}
 use Rattle.fb_inputs.proofs.near_stimuli.all_nearest.Goals as goal
 
 pub push_reserved-requires : goal.push_reserved-requires

@@ -2,7 +2,7 @@ use Rattle.std.proofs.Common.{inl, inr, subst}
 use Rattle.fb_inputs.specs.NearSpans.{IsInStimuli}
 use Rattle.fb_inputs.specs.Positions.{around_stimuli}
 use Rattle.fb_inputs.specs.declared.position.StimuliPosition.{StimuliPosition}
-use Rattle.fb_inputs.proofs.Around.{next_step, no_step}
+use Rattle.fb_inputs.proofs.lemmas.positions.StepsAround.{next_step, no_step}
 use Rattle.fb_inputs.proofs.near_stimuli.nearest_at.Goals as goal
 
 pub loop-init : goal.loop-init

@@ -1,5 +1,5 @@
 use Rattle.std.proofs.Common.{◌+◌, refl, arith}
-use Rattle.fb_inputs.proofs.Parts.{from_there}
+use Rattle.fb_inputs.proofs.lemmas.stimuli.TextParts.{from_there}
 use Rattle.fb_inputs.proofs.near_stimuli.scanned_field.Goals as goal
 
 pub returns : goal.returns

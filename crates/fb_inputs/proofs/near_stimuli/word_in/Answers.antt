@@ -1,5 +1,5 @@
 use Rattle.std.proofs.Common.{◌+◌, ℕ, refl, ap}
-use Rattle.fb_inputs.proofs.Parts.{from_there}
+use Rattle.fb_inputs.proofs.lemmas.stimuli.TextParts.{from_there}
 use Rattle.fb_inputs.proofs.near_stimuli.word_in.Goals as goal
 
 pub returns : goal.returns

@@ -2,7 +2,7 @@ use Rattle.std.proofs.Common.{◌≡◌, ◌+◌, ◌*◌, ◌≤◌, ℕ, true,
 use Rattle.std.specs.Char.{is_ascii_digit}
 use Rattle.std.specs.List.{fold}
 use Rattle.fb_inputs.specs.Numbers.{with_digit}
-use Rattle.fb_inputs.proofs.Digits.{all_read, digit_within, digits_on, limit_passed, no_digit, none_read, not_digits, one_digit, read_on}
+use Rattle.fb_inputs.proofs.lemmas.stimuli.Digits.{all_read, digit_within, digits_on, limit_passed, no_digit, none_read, not_digits, one_digit, read_on}
 use Rattle.fb_inputs.proofs.number.natural.Goals.{then-value-most, else-value-most}
 use Rattle.fb_inputs.proofs.number.natural.Goals as goal
 

@@ -9,8 +9,8 @@ use Rattle.fb_inputs.specs.StimuliLocations.{fault_of, word_at}
 use Rattle.fb_inputs.specs.Rows.{word, words}
 use Rattle.fb_inputs.specs.Words.{Text}
 use Rattle.fb_inputs.specs.declared.location.RowFault.{RowFault}
-use Rattle.fb_inputs.proofs.Each.{nothing_before, more_at, fails_at, not_refused, done_at, filter_skips, filter_takes}
-use Rattle.fb_inputs.proofs.Placing.{if-some}
+use Rattle.fb_inputs.proofs.lemmas.Each.{nothing_before, more_at, fails_at, not_refused, done_at, filter_skips, filter_takes}
+use Rattle.fb_inputs.proofs.lemmas.deployments.TableResults.{if-some}
 use Rattle.fb_inputs.proofs.row.words.Goals as goal
 
 pub loop-part-init : goal.loop-part-init

@@ -1,5 +1,5 @@
 use Rattle.csv.specs.Records.{fields_of}
-use Rattle.fb_inputs.proofs.Records.{at_end, at_more}
+use Rattle.fb_inputs.proofs.lemmas.stimuli.Records.{at_end, at_more}
 use Rattle.fb_inputs.proofs.row_positions.next_row.Goals as goal
 
 pub returns-in_default : goal.returns-in_default

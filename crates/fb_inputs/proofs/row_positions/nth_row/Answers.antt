@@ -1,5 +1,5 @@
 use Rattle.std.proofs.Common.{◌≡◌, ◌≤◌, arith}
-use Rattle.fb_inputs.proofs.ReadOn.{last_row, none_passed, none_there, one_passed}
+use Rattle.fb_inputs.proofs.lemmas.stimuli.RecordsReadOn.{last_row, none_passed, none_there, one_passed}
 use Rattle.fb_inputs.proofs.row_positions.nth_row.Goals as goal
 
 pub loop-init : goal.loop-init

@@ -1,4 +1,4 @@
-use Rattle.fb_inputs.proofs.ReadOn.{ArePassed}
+use Rattle.fb_inputs.proofs.lemmas.stimuli.RecordsReadOn.{ArePassed}
 use Rattle.fb_inputs.proofs.row_positions.nth_row.Given as goal
 
 abbrev pub invariant-loop : goal.invariant-loop

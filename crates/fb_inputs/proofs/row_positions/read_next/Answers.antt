@@ -1,4 +1,4 @@
-use Rattle.fb_inputs.proofs.ReadOn.{one_read}
+use Rattle.fb_inputs.proofs.lemmas.stimuli.RecordsReadOn.{one_read}
 use Rattle.fb_inputs.proofs.row_positions.read_next.Goals as goal
 
 pub next_row-requires : goal.next_row-requires

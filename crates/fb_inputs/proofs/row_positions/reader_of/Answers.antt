@@ -3,7 +3,7 @@ use Rattle.std.specs.Prelude.{slice_get}
 use Rattle.csv.specs.Reading.{default_config, records, strip_bom}
 use Rattle.fb_inputs.specs.Readers.{rows_from}
 use Rattle.fb_inputs.specs.Rows.{Row}
-use Rattle.fb_inputs.proofs.Rows.{start_read}
+use Rattle.fb_inputs.proofs.lemmas.stimuli.Rows.{start_read}
 use Rattle.fb_inputs.proofs.row_positions.reader_of.Goals as goal
 
 pub returns : goal.returns

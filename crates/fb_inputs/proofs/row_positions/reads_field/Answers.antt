@@ -1,4 +1,4 @@
-use Rattle.fb_inputs.proofs.ReadOn.{field_read}
+use Rattle.fb_inputs.proofs.lemmas.stimuli.RecordsReadOn.{field_read}
 use Rattle.fb_inputs.proofs.row_positions.reads_field.Goals as goal
 
 pub returns-clause-read : goal.returns-clause-read

@@ -4,7 +4,7 @@ use Rattle.csv.specs.Reading.{strip_bom}
 use Rattle.csv.specs.Records.{fields_of}
 use Rattle.fb_inputs.specs.Readers.{rows_from}
 use Rattle.fb_inputs.specs.Rows.{Row}
-use Rattle.fb_inputs.proofs.Rows.{start_read}
+use Rattle.fb_inputs.proofs.lemmas.stimuli.Rows.{start_read}
 use Rattle.fb_inputs.proofs.row_positions.record_at.Goals as goal
 
 pub nth_row-requires : goal.nth_row-requires

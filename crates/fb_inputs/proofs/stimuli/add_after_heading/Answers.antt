@@ -1,7 +1,7 @@
 use Rattle.std.proofs.lemmas.Result.{err_from_is_err_and}
 use Rattle.csv.specs.Reading.{strip_bom}
 use Rattle.fb_inputs.specs.Readers.{rows_from}
-use Rattle.fb_inputs.proofs.Rows.{no_heading, headed, empty}
+use Rattle.fb_inputs.proofs.lemmas.stimuli.Rows.{no_heading, headed, empty}
 use Rattle.fb_inputs.proofs.stimuli.add_after_heading.Goals as goal
 
 pub take_heading-requires : goal.take_heading-requires

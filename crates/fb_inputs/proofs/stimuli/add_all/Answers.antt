@@ -3,9 +3,9 @@ use Rattle.std.proofs.lemmas.Result.{err_from_is_err_and}
 use Rattle.fb_inputs.specs.Lists.{all_after}
 use Rattle.fb_inputs.specs.Stimuli.{stimuli_from}
 use Rattle.fb_inputs.specs.Readers.{rows_from}
-use Rattle.fb_inputs.proofs.Records.{at_end, failed_reading}
-use Rattle.fb_inputs.proofs.Rows.{none_left}
-use Rattle.fb_inputs.proofs.Turns.{one_left, turn_more, turn_refused}
+use Rattle.fb_inputs.proofs.lemmas.stimuli.Records.{at_end, failed_reading}
+use Rattle.fb_inputs.proofs.lemmas.stimuli.Rows.{none_left}
+use Rattle.fb_inputs.proofs.lemmas.stimuli.NextRecords.{one_left, turn_more, turn_refused}
 use Rattle.fb_inputs.proofs.stimuli.add_all.Goals as goal
 
 pub loop-read-init : goal.loop-read-init

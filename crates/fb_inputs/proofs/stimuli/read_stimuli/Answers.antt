@@ -1,4 +1,4 @@
-use Rattle.fb_inputs.proofs.Rows.{refused_number, taken}
+use Rattle.fb_inputs.proofs.lemmas.stimuli.Rows.{refused_number, taken}
 use Rattle.fb_inputs.proofs.stimuli.read_stimuli.Goals as goal
 
 pub returns-in-Ok : goal.returns-in-Ok

@@ -1,6 +1,6 @@
 use Rattle.std.proofs.Common.{◌≡◌, false, true, ◌∙◌, rules}
 use Rattle.csv.specs.Reading.{strip_bom, with_flexible, with_names_headers}
-use Rattle.fb_inputs.proofs.Records.{at_start}
+use Rattle.fb_inputs.proofs.lemmas.stimuli.Records.{at_start}
 use Rattle.fb_inputs.proofs.stimuli.records_of.Goals as goal
 
 pub returns : goal.returns

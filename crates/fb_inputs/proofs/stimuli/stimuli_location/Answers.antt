@@ -1,4 +1,4 @@
-use Rattle.fb_inputs.proofs.FaultLaws.{refused-at}
+use Rattle.fb_inputs.proofs.lemmas.stimuli.StimulusFaults.{refused-at}
 use Rattle.fb_inputs.proofs.stimuli.stimuli_location.Goals as goal
 
 pub returns-in-Ok : goal.returns-in-Ok

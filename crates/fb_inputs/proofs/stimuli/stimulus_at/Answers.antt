@@ -1,5 +1,5 @@
 use Rattle.csv.specs.Records.{fields_of}
-use Rattle.fb_inputs.proofs.Rows.{refused_at_row}
+use Rattle.fb_inputs.proofs.lemmas.stimuli.Rows.{refused_at_row}
 use Rattle.fb_inputs.proofs.stimuli.stimulus_at.Goals as goal
 
 pub returns-in-Err : goal.returns-in-Err

@@ -2,7 +2,7 @@ use Rattle.std.proofs.Common.{List, ℕ, sym, subst}
 use Rattle.csv.specs.Records.{fields_of}
 use Rattle.fb_inputs.specs.StimuliLocations.{AnswersInRow}
 use Rattle.fb_inputs.specs.Stimuli.{stimulus}
-use Rattle.fb_inputs.proofs.Fields.{three_row}
+use Rattle.fb_inputs.proofs.lemmas.stimuli.Fields.{three_row}
 use Rattle.fb_inputs.proofs.stimuli.stimulus_in.Goals as goal
 
 pub returns-in-Some : goal.returns-in-Some

@@ -1,7 +1,7 @@
 use Rattle.csv.specs.Reading.{strip_bom}
-use Rattle.fb_inputs.proofs.Records.{at_end, failed_reading}
-use Rattle.fb_inputs.proofs.Rows.{start_read}
-use Rattle.fb_inputs.proofs.Turns.{heading_found}
+use Rattle.fb_inputs.proofs.lemmas.stimuli.Records.{at_end, failed_reading}
+use Rattle.fb_inputs.proofs.lemmas.stimuli.Rows.{start_read}
+use Rattle.fb_inputs.proofs.lemmas.stimuli.NextRecords.{heading_found}
 use Rattle.fb_inputs.proofs.stimuli.take_heading.Goals as goal
 
 pub is_headed-requires : goal.is_headed-requires

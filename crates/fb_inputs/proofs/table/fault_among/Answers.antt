@@ -1,6 +1,6 @@
 use Rattle.std.proofs.Common.{sym, ◌∙◌}
 use Rattle.fb_inputs.specs.Deployments.{fault_of_link}
-use Rattle.fb_inputs.proofs.Tested.{links_done, links_here, links_on}
+use Rattle.fb_inputs.proofs.lemmas.deployments.Tested.{links_done, links_here, links_on}
 use Rattle.fb_inputs.proofs.table.fault_among.Goals as goal
 
 pub returns-in-Some : goal.returns-in-Some

@@ -1,6 +1,6 @@
 use Rattle.std.proofs.Common.{pos, sym, ◌∙◌}
 use Rattle.fb_inputs.specs.declared.document.LatencyDraft.{LatencyDraft}
-use Rattle.fb_inputs.proofs.Tested.{order_done, order_here, order_on}
+use Rattle.fb_inputs.proofs.lemmas.deployments.Tested.{order_done, order_here, order_on}
 use Rattle.fb_inputs.proofs.table.wrong_start.Goals as goal
 
 abbrev blank : LatencyDraft

@@ -1,6 +1,6 @@
 use Rattle.std.proofs.Common.{◌∙◌, Option, is_some, ap}
 use Rattle.fb_read.specs.declared.token.Mark.{Mark}
-use Rattle.fb_inputs.proofs.Keywords.{same_keywords}
+use Rattle.fb_inputs.proofs.lemmas.deployments.Keywords.{same_keywords}
 use Rattle.fb_inputs.proofs.text.is_keyword.Goals as goal
 
 pub returns : goal.returns

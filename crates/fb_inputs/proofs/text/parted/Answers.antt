@@ -1,5 +1,5 @@
 use Rattle.std.proofs.Common.{arith, rules}
-use Rattle.fb_inputs.proofs.Parts.{parted_at, parted_none}
+use Rattle.fb_inputs.proofs.lemmas.stimuli.TextParts.{parted_at, parted_none}
 use Rattle.fb_inputs.proofs.text.parted.Goals as goal
 
 pub returns-then-text-at : goal.returns-then-text-at

@@ -11,8 +11,8 @@ use Rattle.fb_types.specs.Systems.{System}
 use Rattle.fb_types.specs.Values.{Values, same_value}
 use Rattle.fb_types.specs.declared.value.Value.{Value}
 use Rattle.fb_types.specs.declared.library.BasicType.{BasicType}
-use Rattle.fb_types.proofs.ByIndex.{element_at}
-use Rattle.fb_types.proofs.NameLaws.{same_from_same_name, same_name-itself}
+use Rattle.fb_types.proofs.lemmas.lists.ByIndex.{element_at}
+use Rattle.fb_types.proofs.lemmas.names.NameLaws.{same_from_same_name, same_name-itself}
 use Rattle.fb_inspect.specs.walk.Chains.{is_loss}
 use Rattle.fb_wave.specs.Scopes.{declares}
 use Rattle.fb_inspect.specs.walk.Looks.{Look, Seen, Taking}

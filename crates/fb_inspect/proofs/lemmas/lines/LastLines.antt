@@ -14,9 +14,9 @@ use Rattle.fb_types.specs.Text.{last_line, reason_text, tick_and_resource_text}
 use Rattle.fb_types.specs.declared.deploy.ResourceEntry.{ResourceEntry}
 use Rattle.fb_types.specs.declared.value.Reason.{Reason}
 use Rattle.fb_types.specs.declared.value.Reason.TheVariants.{Steps, Divide, Range}
-use Rattle.fb_types.proofs.Elements.{Contains-here}
-use Rattle.fb_types.proofs.Positions.{position_of_once}
-use Rattle.fb_laws.proofs.Indexes.{has_at, map_has}
+use Rattle.fb_types.proofs.lemmas.lists.Elements.{Contains-here}
+use Rattle.fb_types.proofs.lemmas.lists.Positions.{position_of_once}
+use Rattle.fb_laws.proofs.lemmas.lists.Indexes.{has_at, map_has}
 use Rattle.fb_wave.proofs.lemmas.Numerals.{number_once}
 
 -- ---- Texts from their ends

@@ -22,13 +22,13 @@ use Rattle.fb_types.specs.declared.library.Variable.{Variable}
 use Rattle.fb_types.specs.declared.run.Line as run
 use Rattle.fb_types.specs.declared.value.Ty.TheVariants.{Bool as Boolean}
 use Rattle.fb_types.specs.declared.value.Value.{Value}
-use Rattle.fb_types.proofs.NameLaws.{any_from_contains}
-use Rattle.fb_types.proofs.Options.{some_from_is_some}
-use Rattle.fb_types.proofs.Positions.{is_some-position, named-position, position_is}
+use Rattle.fb_types.proofs.lemmas.names.NameLaws.{any_from_contains}
+use Rattle.fb_types.proofs.lemmas.lists.Options.{some_from_is_some}
+use Rattle.fb_types.proofs.lemmas.lists.Positions.{is_some-position, named-position, position_is}
 use Rattle.fb_laws.specs.Sound.{AreGood}
 use Rattle.fb_laws.specs.Typed.{AllFit}
-use Rattle.fb_laws.proofs.Accepting.{sound_of}
-use Rattle.fb_laws.proofs.Indexes.{is_at}
+use Rattle.fb_laws.proofs.lemmas.soundness.Accepting.{sound_of}
+use Rattle.fb_laws.proofs.lemmas.lists.Indexes.{is_at}
 use Rattle.fb_system.specs.IndexLists.{AreIndexes, variable_at}
 use Rattle.fb_system.specs.Lines.{line_variables}
 use Rattle.fb_system.specs.Networks.{AreNarrow}

@@ -7,10 +7,10 @@ use Rattle.fb_types.specs.Headline.{AreAccepted, Inputs, system_of}
 use Rattle.fb_types.specs.Names.{Name, Path}
 use Rattle.fb_types.specs.Repeated.{Twice, networks_in}
 use Rattle.fb_types.specs.Systems.{System}
-use Rattle.fb_types.proofs.Elements.{Contains-cons_cases, Contains-here, Contains-nil}
-use Rattle.fb_laws.proofs.Indexes.{has_at}
-use Rattle.fb_system.proofs.Distinct.{paths_once, position_of_path}
-use Rattle.fb_system.proofs.Sites.{all_once}
+use Rattle.fb_types.proofs.lemmas.lists.Elements.{Contains-cons_cases, Contains-here, Contains-nil}
+use Rattle.fb_laws.proofs.lemmas.lists.Indexes.{has_at}
+use Rattle.fb_system.proofs.lemmas.networks.Distinct.{paths_once, position_of_path}
+use Rattle.fb_system.proofs.lemmas.networks.Sites.{all_once}
 use Rattle.fb_wave.specs.Named.{HasNames}
 use Rattle.fb_wave.specs.Nested.{AreNumbered}
 use Rattle.fb_wave.specs.Ports.{IsPortOf, port_text}

@@ -16,9 +16,9 @@ use Rattle.fb_types.specs.declared.library.BlockType.TheVariants as block
 use Rattle.fb_types.specs.declared.library.Library.{Library}
 use Rattle.fb_types.specs.declared.library.Transition.{Transition}
 use Rattle.fb_types.specs.declared.run.Line.{Line}
-use Rattle.fb_types.proofs.ByIndex.{element_of_index}
-use Rattle.fb_types.proofs.Elements.{Contains-cons_cases, Contains-here, Contains-map, Contains-nil, Contains-there}
-use Rattle.fb_types.proofs.TwiceLaws.{Twice-append_right}
+use Rattle.fb_types.proofs.lemmas.lists.ByIndex.{element_of_index}
+use Rattle.fb_types.proofs.lemmas.lists.Elements.{Contains-cons_cases, Contains-here, Contains-map, Contains-nil, Contains-there}
+use Rattle.fb_types.proofs.lemmas.lists.TwiceLaws.{Twice-append_right}
 use Rattle.fb_coverage.specs.Additions.{AddsFlags}
 use Rattle.fb_coverage.specs.Sets.{with_port, with_taken}
 use Rattle.fb_coverage.specs.declared.marks.ChartMarks.{ChartMarks}

@@ -20,11 +20,11 @@ use Rattle.fb_types.specs.declared.library.Variable.{Variable}
 use Rattle.fb_types.specs.declared.value.Reason.{Reason}
 use Rattle.fb_types.specs.declared.value.Reason.TheVariants.{Steps}
 use Rattle.fb_types.specs.declared.value.Value.{Value}
-use Rattle.fb_types.proofs.EachLaws.{each_append}
+use Rattle.fb_types.proofs.lemmas.lists.EachLaws.{each_append}
 use Rattle.fb_laws.specs.Typed.{AllFit, IsTypedMemory, variable_named}
-use Rattle.fb_laws.proofs.Bodies.{Keeps, body-keeps}
-use Rattle.fb_laws.proofs.EventBlocks.{outputs-fit}
-use Rattle.fb_laws.proofs.Values.{with_value-fits}
+use Rattle.fb_laws.proofs.lemmas.typing.Bodies.{Keeps, body-keeps}
+use Rattle.fb_laws.proofs.lemmas.typing.EventBlocks.{outputs-fit}
+use Rattle.fb_laws.proofs.lemmas.typing.Values.{with_value-fits}
 use Rattle.fb_inspect.specs.walk.RunLines.{HasOutput}
 
 -- An emission of an event output of an interface, with values of the types of the variables WITH it.

@@ -28,11 +28,11 @@ use Rattle.fb_types.specs.declared.library.Connection.{Connection}
 use Rattle.fb_types.specs.declared.library.Library.{Library}
 use Rattle.fb_types.specs.declared.library.Network.{Network}
 use Rattle.fb_types.specs.declared.library.State.{State}
-use Rattle.fb_types.proofs.EachLaws.{each_append, each_map}
-use Rattle.fb_types.proofs.Elements.{Contains-flat_map, Contains-here, Contains-there}
-use Rattle.fb_types.proofs.EventCounts.{event_block_narrow}
-use Rattle.fb_types.proofs.NameLaws.{any_from_contains, named-Contains}
-use Rattle.fb_laws.proofs.Declared.{IsDeclared, IsNetworkAt, kind-declared, network-declared}
+use Rattle.fb_types.proofs.lemmas.lists.EachLaws.{each_append, each_map}
+use Rattle.fb_types.proofs.lemmas.lists.Elements.{Contains-flat_map, Contains-here, Contains-there}
+use Rattle.fb_types.proofs.lemmas.events.EventCounts.{event_block_narrow}
+use Rattle.fb_types.proofs.lemmas.names.NameLaws.{any_from_contains, named-Contains}
+use Rattle.fb_laws.proofs.lemmas.typing.Declared.{IsDeclared, IsNetworkAt, kind-declared, network-declared}
 use Rattle.fb_system.specs.Networks.{AreNarrow}
 use Rattle.fb_inspect.specs.walk.RunTakings.{AreThere, IsThere}
 use Rattle.fb_inspect.specs.walk.RunLines.{HasOutput, IsEventOf, IsEventPort}

@@ -9,7 +9,7 @@ use Rattle.fb_types.specs.declared.library.BasicType.{BasicType}
 use Rattle.fb_types.specs.declared.library.Transition.{Transition}
 use Rattle.fb_types.specs.declared.value.Reason.{Reason}
 use Rattle.fb_types.specs.declared.value.Reason.TheVariants.{Steps, Divide, Range}
-use Rattle.fb_types.proofs.BodyLaws.{body-one}
+use Rattle.fb_types.proofs.lemmas.determined.BodyLaws.{body-one}
 use Rattle.fb_ecc.specs.Steps.{first_true}
 use Rattle.fb_inspect.specs.walk.Chains.{Piece, Showing, Silent, ShowsAfter, ShowsPerform, ShowsEmission, ShowsActs, ShowsOr, ShowsEnters, ShowsLinks, ShowsReaction}
 use Rattle.fb_inspect.proofs.lemmas.reactions.MoreReactions.{Next, acts_longer, enters_out, later, later_trial, trial_longer}

@@ -18,14 +18,14 @@ use Rattle.fb_types.specs.declared.key.Key.{Key}
 use Rattle.fb_types.specs.declared.library.Action.{Action}
 use Rattle.fb_types.specs.declared.library.BasicType.{BasicType}
 use Rattle.fb_types.specs.declared.library.CompositeType.{CompositeType}
-use Rattle.fb_types.proofs.EachLaws.{each_append}
-use Rattle.fb_types.proofs.PathLaws.{same_path_itself}
-use Rattle.fb_types.proofs.ReactionLaws.{emitted_all-lines}
+use Rattle.fb_types.proofs.lemmas.lists.EachLaws.{each_append}
+use Rattle.fb_types.proofs.lemmas.names.PathLaws.{same_path_itself}
+use Rattle.fb_types.proofs.lemmas.events.ReactionLaws.{emitted_all-lines}
 use Rattle.fb_laws.specs.Typed.{AllFit, AreTyped, IsTypedEvent, IsTypedSystem}
-use Rattle.fb_laws.proofs.EventBlocks.{expiry-typed, reaction-typed}
-use Rattle.fb_laws.proofs.Kept.{held_typed, slots_typed, taking_typed}
-use Rattle.fb_laws.proofs.Values.{input-found, output-found, port-found}
-use Rattle.fb_laws.proofs.Worlds.{shown-fits}
+use Rattle.fb_laws.proofs.lemmas.typing.EventBlocks.{expiry-typed, reaction-typed}
+use Rattle.fb_laws.proofs.lemmas.typing.ReactionTypes.{held_typed, slots_typed, taking_typed}
+use Rattle.fb_laws.proofs.lemmas.typing.Values.{input-found, output-found, port-found}
+use Rattle.fb_laws.proofs.lemmas.typing.Worlds.{shown-fits}
 use Rattle.fb_inspect.specs.walk.RunLines.{HasOutput, IsEventOf, IsEventPort, IsGiven}
 use Rattle.fb_inspect.proofs.lemmas.reactions.Emissions.{IsEmitted, chart_emits, emissions_emitted, expiry_known, reaction_known}
 

@@ -16,7 +16,7 @@ use Rattle.fb_types.specs.declared.run.Emission as run
 use Rattle.fb_types.specs.declared.run.Line.{Line}
 use Rattle.fb_event.specs.Reactions.{IsWellFormed, meanings}
 use Rattle.fb_system.specs.Lines.{IsEmission as IsEmissionOf}
-use Rattle.fb_net.proofs.Sampling.{ports-of_kind}
+use Rattle.fb_net.proofs.lemmas.values.Sampling.{ports-of_kind}
 use Rattle.fb_wave.specs.Named.{HasNames}
 use Rattle.fb_wave.specs.declared.table.PortTable.{PortTable}
 use Rattle.fb_inspect.specs.walk.Looks.{Seen, emission_line, emissions_by}

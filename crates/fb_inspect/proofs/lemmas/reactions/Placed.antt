@@ -2,7 +2,7 @@
 use Rattle.std.proofs.Common.{◌≡◌, ◌<◌, get_or, length, ℕ, List, [], Option, Some, None, Result, Ok, Err, refl, sym, ◌∙◌, ap, subst}
 use Rattle.std.specs.Prelude.{IfOk, IfSome, OnErr, OnOk, option_map, slice_get}
 use Rattle.std.proofs.lemmas.Option.{get_or_from_slice_get}
-use Rattle.fb_types.proofs.ByIndex.{element_at}
+use Rattle.fb_types.proofs.lemmas.lists.ByIndex.{element_at}
 use Rattle.fb_types.specs.Headline.{Inputs}
 use Rattle.fb_types.specs.Names.{Name}
 use Rattle.fb_types.specs.declared.library.BasicType.{BasicType}

@@ -12,9 +12,9 @@ use Rattle.fb_types.specs.declared.event_kind.EventKind.TheVariants as kind
 use Rattle.fb_types.specs.declared.library.Variable.{Variable}
 use Rattle.fb_types.specs.declared.value.Ty.{Ty}
 use Rattle.fb_types.specs.declared.value.Value.{Value}
-use Rattle.fb_types.proofs.ByIndex.{all_at}
-use Rattle.fb_types.proofs.EventCounts.{one_input}
-use Rattle.fb_types.proofs.NameLaws.{same_name-itself}
+use Rattle.fb_types.proofs.lemmas.lists.ByIndex.{all_at}
+use Rattle.fb_types.proofs.lemmas.events.EventCounts.{one_input}
+use Rattle.fb_types.proofs.lemmas.names.NameLaws.{same_name-itself}
 use Rattle.fb_event.specs.Reactions.{FitTheirTypes}
 use Rattle.fb_laws.specs.Typed.{AllFit, variable_named}
 use Rattle.fb_system.specs.IndexLists.{AreIndexes}

@@ -10,7 +10,7 @@ use Rattle.fb_types.specs.declared.library.BasicType.{BasicType}
 use Rattle.fb_types.specs.declared.library.Transition.{Transition}
 use Rattle.fb_types.specs.declared.value.Reason.{Reason}
 use Rattle.fb_types.specs.declared.value.Reason.TheVariants.{Steps}
-use Rattle.fb_types.proofs.BodyLaws.{body-one}
+use Rattle.fb_types.proofs.lemmas.determined.BodyLaws.{body-one}
 use Rattle.fb_ecc.specs.Steps.{first_by, first_true}
 use Rattle.fb_inspect.specs.walk.Chains.{Piece, Clears_by, Ran, Showing, Silent, emission_pieces, ShowsAfter, ShowsPerform, ShowsEmission, ShowsActs, ShowsOr, ShowsEnters, ShowsLinks, ShowsChain, ShowsReaction, rest_pieces, stop_pieces}
 

@@ -19,8 +19,8 @@ use Rattle.fb_types.specs.declared.run.Form.{Form}
 use Rattle.fb_types.specs.declared.run.Line.{Line}
 use Rattle.fb_types.specs.declared.value.Value.{Value}
 use Rattle.fb_event.specs.Reactions.{FitInputs, meanings, reaction_to}
-use Rattle.fb_net.proofs.Leaves.{reads_inputs}
-use Rattle.fb_net.proofs.Sampling.{ports-of_kind}
+use Rattle.fb_net.proofs.lemmas.blocks.Leaves.{reads_inputs}
+use Rattle.fb_net.proofs.lemmas.values.Sampling.{ports-of_kind}
 use Rattle.fb_system.specs.IndexLists.{AreIndexes}
 use Rattle.fb_system.specs.Lines.{line_variables}
 use Rattle.fb_wave.specs.Lines.{line_side}

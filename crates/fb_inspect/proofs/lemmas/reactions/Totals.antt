@@ -10,7 +10,7 @@ use Rattle.fb_types.specs.declared.library.BasicType.{BasicType}
 use Rattle.fb_types.specs.declared.library.Transition.{Transition}
 use Rattle.fb_types.specs.declared.value.Reason.{Reason}
 use Rattle.fb_types.specs.declared.value.Reason.TheVariants.{Steps}
-use Rattle.fb_laws.proofs.BodyTotal.{body_total}
+use Rattle.fb_laws.proofs.lemmas.existence.BodyTotal.{body_total}
 use Rattle.fb_inspect.specs.walk.Chains.{Piece, Clears_by, Ran, Showing, ShowsActs, ShowsAfter, ShowsChain, ShowsEmission, ShowsPerform, emission_pieces, rest_pieces}
 use Rattle.fb_inspect.proofs.lemmas.reactions.Showing.{chain_fails, chain_goes_on, chain_rests, chain_stops}
 use Rattle.fb_inspect.proofs.lemmas.reactions.ShowingLaws.{first_clears}

@@ -16,8 +16,8 @@ use Rattle.fb_types.specs.declared.event_kind.EventKind.TheVariants.{Restart}
 use Rattle.fb_types.specs.declared.key.Key.{Key}
 use Rattle.fb_types.specs.declared.value.Reason.{Reason}
 use Rattle.fb_types.specs.declared.value.Reason.TheVariants.{Steps, Divide, Range}
-use Rattle.fb_types.proofs.EachLaws.{each_append}
-use Rattle.fb_laws.proofs.Agendas.{Holds, holds_none, holds_or_else}
+use Rattle.fb_types.proofs.lemmas.lists.EachLaws.{each_append}
+use Rattle.fb_laws.proofs.lemmas.takings.Agendas.{Holds, holds_none, holds_or_else}
 use Rattle.fb_inspect.specs.Inspections.{AreTakings, EndsSo, IsOneOf, KeepSteps, KeepsLimit, NoneStops, NothingAfter, RunsOut, all_lines, last_look, limited, stop_of}
 use Rattle.fb_inspect.specs.walk.Looks.{IsTaking, IsTakingWith, Left, Look, Taking, first_due, left_at, most, opening_look}
 use Rattle.fb_inspect.specs.walk.RunTakings.{AreThere, CanReact, IsSeenIn, IsTakingOf, IsThere, due_before}

@@ -10,15 +10,15 @@ use Rattle.fb_types.specs.Names.{Name, Path, same_path}
 use Rattle.fb_types.specs.declared.library.Instance.{Instance}
 use Rattle.fb_types.specs.declared.library.Library.{Library}
 use Rattle.fb_types.specs.declared.library.Network.{Network}
-use Rattle.fb_types.proofs.Elements.{Contains-cons_cases, Contains-flat_map, Contains-here, Contains-nil, Contains-there}
-use Rattle.fb_types.proofs.NameLaws.{named-Contains}
-use Rattle.fb_types.proofs.Options.{and_then_parts}
-use Rattle.fb_types.proofs.PathLaws.{same_path_is, same_path_itself}
-use Rattle.fb_types.proofs.Positions.{position-first, position-later}
-use Rattle.fb_laws.proofs.Declared.{named-name}
-use Rattle.fb_laws.proofs.Indexes.{is_at}
-use Rattle.fb_system.proofs.Distinct.{below, paths_from}
-use Rattle.fb_system.proofs.Sites.{IsDeep, deep_inside, never_deeper}
+use Rattle.fb_types.proofs.lemmas.lists.Elements.{Contains-cons_cases, Contains-flat_map, Contains-here, Contains-nil, Contains-there}
+use Rattle.fb_types.proofs.lemmas.names.NameLaws.{named-Contains}
+use Rattle.fb_types.proofs.lemmas.lists.Options.{and_then_parts}
+use Rattle.fb_types.proofs.lemmas.names.PathLaws.{same_path_is, same_path_itself}
+use Rattle.fb_types.proofs.lemmas.lists.Positions.{position-first, position-later}
+use Rattle.fb_laws.proofs.lemmas.typing.Declared.{named-name}
+use Rattle.fb_laws.proofs.lemmas.lists.Indexes.{is_at}
+use Rattle.fb_system.proofs.lemmas.networks.Distinct.{below, paths_from}
+use Rattle.fb_system.proofs.lemmas.networks.Sites.{IsDeep, deep_inside, never_deeper}
 
 -- ---- Where a path is among others
 

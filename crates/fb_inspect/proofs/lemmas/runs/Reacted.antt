@@ -17,9 +17,9 @@ use Rattle.fb_types.specs.declared.library.CompositeType.{CompositeType}
 use Rattle.fb_types.specs.declared.library.Ports.{Ports}
 use Rattle.fb_types.specs.declared.run.TimerAsk.{TimerAsk}
 use Rattle.fb_types.specs.declared.value.Reason.{Reason}
-use Rattle.fb_types.proofs.PathLaws.{same_path_is, same_path_itself}
-use Rattle.fb_types.proofs.ReactionLaws.{emitted_all-left, emitted_all-lines, emitted_all-publishes, emitted_all-stop, emitted_all-timer, kept_at}
-use Rattle.fb_net.proofs.Sampling.{sampled-paired, sampled-wrote}
+use Rattle.fb_types.proofs.lemmas.names.PathLaws.{same_path_is, same_path_itself}
+use Rattle.fb_types.proofs.lemmas.events.ReactionLaws.{emitted_all-left, emitted_all-lines, emitted_all-publishes, emitted_all-stop, emitted_all-timer, kept_at}
+use Rattle.fb_net.proofs.lemmas.values.Sampling.{sampled-paired, sampled-wrote}
 use Rattle.fb_inspect.specs.walk.Chains.{Piece, ShowsReaction}
 use Rattle.fb_inspect.specs.walk.Looks.{IsTakingAt, Look, Seen, Taking, due_after, emissions_by, emits_pieces, memory_pieces, reacted, with_left, with_seen}
 use Rattle.fb_inspect.specs.walk.RunTakings.{CanReact, GoesOff, IsLeaf, IsSeenIn, IsTakingOf, MayHaveMore, RunsAfter, due_before}

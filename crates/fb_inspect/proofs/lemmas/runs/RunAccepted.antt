@@ -13,10 +13,10 @@ use Rattle.fb_types.specs.declared.run.Form.{Form}
 use Rattle.fb_types.specs.declared.run.Form.TheVariants.{One, Two}
 use Rattle.fb_types.specs.declared.run.Line as run
 use Rattle.fb_types.specs.declared.value.Reason.TheVariants.{Steps, Divide, Range}
-use Rattle.fb_types.proofs.EachLaws.{each_append, each_both, each_map}
+use Rattle.fb_types.proofs.lemmas.lists.EachLaws.{each_append, each_both, each_map}
 use Rattle.fb_laws.specs.Sound.{AreGood}
-use Rattle.fb_laws.proofs.Accepting.{sound_of}
-use Rattle.fb_laws.proofs.KeysRise.{keys_rise}
+use Rattle.fb_laws.proofs.lemmas.soundness.Accepting.{sound_of}
+use Rattle.fb_laws.proofs.lemmas.takings.KeysRise.{keys_rise}
 use Rattle.fb_system.specs.Networks.{AreNarrow}
 use Rattle.fb_wave.specs.Lines.{IsEndOf, IsInRange, IsLineOf}
 use Rattle.fb_wave.specs.Waves.{EndsAfter}

@@ -18,13 +18,13 @@ use Rattle.fb_types.specs.declared.library.Action.{Action}
 use Rattle.fb_types.specs.declared.library.BasicType.{BasicType}
 use Rattle.fb_types.specs.declared.run.TimerAsk.{TimerAsk}
 use Rattle.fb_types.specs.declared.run.TimerAsk.TheVariants.{Keep, Clear, At}
-use Rattle.fb_types.proofs.EachLaws.{each_append}
-use Rattle.fb_types.proofs.KeyLaws.{same_key_is}
+use Rattle.fb_types.proofs.lemmas.lists.EachLaws.{each_append}
+use Rattle.fb_types.proofs.lemmas.events.KeyLaws.{same_key_is}
 use Rattle.fb_laws.specs.Simulations.{BeginsTyped, IsTypedStimulus}
 use Rattle.fb_laws.specs.Typed.{IsTypedEvent, IsTypedSystem}
-use Rattle.fb_laws.proofs.Accepted.{accepted_typed}
-use Rattle.fb_laws.proofs.Agendas.{Holds, holds_changed, holds_if, holds_none, holds_or_else, holds_put, holds_some, holds_without}
-use Rattle.fb_laws.proofs.Simulated.{IsTypedConfig, opening_agenda-typed, opening_state-typed, takes-typed}
+use Rattle.fb_laws.proofs.lemmas.typing.Accepted.{accepted_typed}
+use Rattle.fb_laws.proofs.lemmas.takings.Agendas.{Holds, holds_changed, holds_if, holds_none, holds_or_else, holds_put, holds_some, holds_without}
+use Rattle.fb_laws.proofs.lemmas.typing.Simulated.{IsTypedConfig, opening_agenda-typed, opening_state-typed, takes-typed}
 use Rattle.fb_inspect.specs.walk.RunLines.{HasOutput, IsEventPort, IsGiven}
 use Rattle.fb_inspect.proofs.lemmas.runs.Followed.{taken_so}
 use Rattle.fb_inspect.proofs.lemmas.reactions.GivenLines.{Comes, reacts_given}

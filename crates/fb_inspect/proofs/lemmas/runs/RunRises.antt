@@ -11,8 +11,8 @@ use Rattle.fb_types.specs.Systems.{System}
 use Rattle.fb_types.specs.declared.key.Key.{Key}
 use Rattle.fb_types.specs.declared.run.Line as run
 use Rattle.fb_types.specs.declared.value.Reason.{Reason}
-use Rattle.fb_types.proofs.EachLaws.{each_map}
-use Rattle.fb_types.proofs.Lookups.{before_tick, edit_some, none_some, or_else_some, tick_before, without_some}
+use Rattle.fb_types.proofs.lemmas.lists.EachLaws.{each_map}
+use Rattle.fb_types.proofs.lemmas.lists.Lookups.{before_tick, edit_some, none_some, or_else_some, tick_before, without_some}
 use Rattle.fb_laws.specs.ResourceLaw.{PutsLater}
 use Rattle.fb_wave.specs.Dumps.{last_tick}
 use Rattle.fb_wave.specs.Lines.{IsEndOf}

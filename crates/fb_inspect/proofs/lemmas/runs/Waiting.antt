@@ -18,10 +18,10 @@ use Rattle.fb_types.specs.declared.library.CompositeType.{CompositeType}
 use Rattle.fb_types.specs.declared.run.TimerAsk.{TimerAsk}
 use Rattle.fb_types.specs.declared.run.TimerAsk.TheVariants.{Keep, Clear, At}
 use Rattle.fb_types.specs.declared.value.Value.{Value}
-use Rattle.fb_types.proofs.EachLaws.{each_append}
-use Rattle.fb_types.proofs.KeyLaws.{same_key_from, same_key_is}
-use Rattle.fb_types.proofs.PathLaws.{same_path_is}
-use Rattle.fb_laws.proofs.Agendas.{Holds, holds_none, holds_or_else, holds_some}
+use Rattle.fb_types.proofs.lemmas.lists.EachLaws.{each_append}
+use Rattle.fb_types.proofs.lemmas.events.KeyLaws.{same_key_from, same_key_is}
+use Rattle.fb_types.proofs.lemmas.names.PathLaws.{same_path_is}
+use Rattle.fb_laws.proofs.lemmas.takings.Agendas.{Holds, holds_none, holds_or_else, holds_some}
 use Rattle.fb_inspect.specs.walk.Looks.{Look, Seen, Taking, due_after}
 use Rattle.fb_inspect.specs.walk.RunTakings.{AreThere, CanReact, IsTakingOf, IsThere, MayRun, RunsAfter, due_before}
 use Rattle.fb_inspect.proofs.lemmas.reactions.TimerKept.{emits_some}

@@ -24,7 +24,7 @@ use Rattle.fb_inspect.specs.declared.walk.charts.ChartTaking.{ChartTaking}
 use Rattle.fb_inspect.specs.declared.walk.reading.Reading.{Reading}
 use Rattle.fb_inspect.proofs.lemmas.results.Refused.{reads_then}
 use Rattle.fb_inspect.proofs.lemmas.reactions.Timed.{taken_is}
-use Rattle.fb_net.proofs.Sampling.{ports-of_kind}
+use Rattle.fb_net.proofs.lemmas.values.Sampling.{ports-of_kind}
 use Rattle.fb_inspect.proofs.lemmas.walk.Walked.{begun, started, starts}
 
 -- ---- Where no taking begins

@@ -15,8 +15,8 @@ use Rattle.fb_types.specs.declared.library.CompositeType.{CompositeType}
 use Rattle.fb_types.specs.declared.library.Ports.{Ports}
 use Rattle.fb_types.specs.declared.library.Variable.{Variable}
 use Rattle.fb_types.specs.declared.value.Value.{Value}
-use Rattle.fb_types.proofs.ByIndex.{element_at, slice_get-push}
-use Rattle.fb_types.proofs.LoopSteps.{map_take_more}
+use Rattle.fb_types.proofs.lemmas.lists.ByIndex.{element_at, slice_get-push}
+use Rattle.fb_types.proofs.lemmas.lists.LoopSteps.{map_take_more}
 use Rattle.fb_ecc.specs.declared.state.BasicState.{BasicState}
 use Rattle.fb_event.specs.Reactions.{FitInputs}
 use Rattle.fb_event.specs.State.{State}
@@ -27,8 +27,8 @@ use Rattle.fb_net.specs.declared.block.Block.{Block}
 use Rattle.fb_net.specs.declared.block.Block.TheOpen.{Block-F}
 use Rattle.fb_net.specs.declared.block.Block.TheVariants as block
 use Rattle.fb_net.specs.declared.block.Block.TheViews.{out-Block, the_lemmas}
-use Rattle.fb_net.proofs.Components.{out_roll, own_basic, own_event}
-use Rattle.fb_net.proofs.Sampling.{ports-of_kind}
+use Rattle.fb_net.proofs.lemmas.opening.Components.{out_roll, own_basic, own_event}
+use Rattle.fb_net.proofs.lemmas.values.Sampling.{ports-of_kind}
 use Rattle.fb_system.specs.Stimuli.{initial_inputs}
 use Rattle.fb_inspect.specs.walk.Looks.{Seen, first_due, most, opening_look}
 use Rattle.fb_inspect.specs.walk.Counted.{left_of}

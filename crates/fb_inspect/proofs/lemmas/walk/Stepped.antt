@@ -27,7 +27,7 @@ use Rattle.fb_wave.specs.Copying.{IsAfter}
 use Rattle.fb_wave.specs.Dumps.{last_tick}
 use Rattle.fb_wave.specs.Lines.{IsLast, IsLineOf, IsTextOf}
 use Rattle.fb_coverage.specs.declared.marks.Marks.{Marks}
-use Rattle.fb_net.proofs.Others.{get_set_other, get_set_same}
+use Rattle.fb_net.proofs.lemmas.blocks.OtherBlocks.{get_set_other, get_set_same}
 use Rattle.fb_inspect.specs.walk.Counted.{left_of}
 use Rattle.fb_inspect.specs.Inspections.{AreLimited, AreTaken, AreTakings, EndsBySteps, EndsByStop, EndsSo, KeepSteps, KeepsLimit, NoneStops, RunsOut, all_text, last_look, limited, stop_of}
 use Rattle.fb_inspect.specs.Selections.{Selection, is_shown_at}

@@ -27,14 +27,14 @@ use Rattle.fb_types.specs.declared.library.Ports.{Ports}
 use Rattle.fb_types.specs.declared.run.Form.{Form}
 use Rattle.fb_types.specs.declared.run.Line.{Line}
 use Rattle.fb_types.specs.declared.value.Reason.{Reason}
-use Rattle.fb_types.proofs.ByIndex.{element_at}
-use Rattle.fb_types.proofs.PathLaws.{same_path_is, same_path_itself}
+use Rattle.fb_types.proofs.lemmas.lists.ByIndex.{element_at}
+use Rattle.fb_types.proofs.lemmas.names.PathLaws.{same_path_is, same_path_itself}
 use Rattle.fb_st.specs.Frames.{values_of}
 use Rattle.fb_ecc.specs.Indexes.{sampled}
 use Rattle.fb_ecc.specs.Sound.{IsSound}
 use Rattle.fb_event.specs.Reactions.{FitInputs}
-use Rattle.fb_net.proofs.Others.{get_set_other, get_set_same}
-use Rattle.fb_net.proofs.Sampling.{ports-of_kind}
+use Rattle.fb_net.proofs.lemmas.blocks.OtherBlocks.{get_set_other, get_set_same}
+use Rattle.fb_net.proofs.lemmas.values.Sampling.{ports-of_kind}
 use Rattle.fb_wave.specs.Lines.{IsLineOf}
 use Rattle.fb_coverage.specs.Sets.{with_taken}
 use Rattle.fb_coverage.specs.declared.marks.ChartMarks.{ChartMarks}

@@ -1,4 +1,4 @@
-use Rattle.fb_laws.proofs.Accepting.{sound_of}
+use Rattle.fb_laws.proofs.lemmas.soundness.Accepting.{sound_of}
 use Rattle.fb_laws.proofs.soundness.accepted_are_sound.Goals as goal
 
 pub returns : goal.returns

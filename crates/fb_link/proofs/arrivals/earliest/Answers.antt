@@ -1,5 +1,5 @@
 use Rattle.std.proofs.Common.{◌∙◌}
-use Rattle.fb_link.proofs.EarliestIs.{earliest_none, earliest_taken, earliest_kept, earliest_all, earliest_within}
+use Rattle.fb_link.proofs.lemmas.EarliestIs.{earliest_none, earliest_taken, earliest_kept, earliest_all, earliest_within}
 use Rattle.fb_link.proofs.arrivals.earliest.Goals as goal
 use Rattle.fb_link.proofs.arrivals.earliest.Goals.{then-from-entry, else-from-entry}
 

@@ -1,5 +1,5 @@
 use Rattle.std.proofs.Common.{take}
-use Rattle.fb_link.proofs.EarliestIs.{IsEarliestOf}
+use Rattle.fb_link.proofs.lemmas.EarliestIs.{IsEarliestOf}
 use Rattle.fb_link.proofs.arrivals.earliest.Given as goal
 
 abbrev pub invariant-loop-entry : goal.invariant-loop-entry

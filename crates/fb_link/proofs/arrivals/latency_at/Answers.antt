@@ -1,5 +1,5 @@
 use Rattle.std.proofs.Common.{◌∙◌, arith}
-use Rattle.fb_link.proofs.LatencyTables.{latency_taken, latency_kept, latency_all, latency_within}
+use Rattle.fb_link.proofs.lemmas.LatencyTables.{latency_taken, latency_kept, latency_all, latency_within}
 use Rattle.fb_link.proofs.arrivals.latency_at.Goals as goal
 use Rattle.fb_link.proofs.arrivals.latency_at.Goals.{then-entry-sent_tick, else-entry-sent_tick}
 

@@ -5,9 +5,9 @@ use Rattle.std.proofs.lemmas.List.{length-set}
 use Rattle.std.proofs.lemmas.Option.{slice_get_read}
 use Rattle.fb_types.specs.Headline.{system_of}
 use Rattle.fb_types.specs.Numbers.{path_at}
-use Rattle.fb_laws.proofs.Accepting.{sound_of}
+use Rattle.fb_laws.proofs.lemmas.soundness.Accepting.{sound_of}
 use Rattle.fb_link.specs.Exchanges.{AreDealt}
-use Rattle.fb_link.proofs.Dealt.{dealt_more}
+use Rattle.fb_link.proofs.lemmas.Dealt.{dealt_more}
 use Rattle.fb_link.proofs.inboxes.deal.Goals as goal
 
 pub index_mut-requires : goal.index_mut-requires

@@ -3,7 +3,7 @@ use Rattle.std.specs.Prelude.{slice_get}
 use Rattle.std.specs.declared.alloc.Global.{Global}
 use Rattle.std.proofs.lemmas.Option.{slice_get_within}
 use Rattle.fb_types.specs.declared.run.Message.{Message}
-use Rattle.fb_types.proofs.ByIndex.{slice_get-push}
+use Rattle.fb_types.proofs.lemmas.lists.ByIndex.{slice_get-push}
 use Rattle.fb_link.proofs.inboxes.empty_lists.Goals as goal
 
 pub loop-init : goal.loop-init

@@ -6,8 +6,8 @@ use Rattle.std.proofs.lemmas.Option.{slice_get_read}
 use Rattle.fb_types.specs.Headline.{system_of}
 use Rattle.fb_link.specs.Exchanges.{all_of, AreDealt}
 use Rattle.fb_types.specs.declared.run.Message.{Message}
-use Rattle.fb_link.proofs.Dealt.{all_snoc, sorted_all, sorted_more, sorted_none}
-use Rattle.fb_link.proofs.Lists.{next_of}
+use Rattle.fb_link.proofs.lemmas.Dealt.{all_snoc, sorted_all, sorted_more, sorted_none}
+use Rattle.fb_link.proofs.lemmas.Lists.{next_of}
 use Rattle.fb_link.proofs.inboxes.exchange.Goals as goal
 
 pub deal-requires-clause-targets : goal.deal-requires-clause-targets

@@ -1,6 +1,6 @@
 use Rattle.std.proofs.Common.{ap, ◌∙◌}
 use Rattle.fb_net.specs.Worlds.{seat_in}
-use Rattle.fb_net.proofs.HeldRows.{room_kept}
+use Rattle.fb_net.proofs.lemmas.values.HeldRows.{room_kept}
 use Rattle.fb_net.proofs.held_copies.make_room.Goals as goal
 
 pub loop-indexes-preserved : goal.loop-indexes-preserved

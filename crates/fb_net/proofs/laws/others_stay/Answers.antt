@@ -1,4 +1,4 @@
-use Rattle.fb_net.proofs.Others as others
+use Rattle.fb_net.proofs.lemmas.blocks.OtherBlocks as others
 use Rattle.fb_net.proofs.laws.others_stay.Goals as goal
 
 pub returns : goal.returns

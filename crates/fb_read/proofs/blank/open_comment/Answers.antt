@@ -1,7 +1,7 @@
 use Rattle.std.proofs.Common.{◌≡◌, ◌+◌, Some, None, drop, get_or, refl, sym, ap, ◌∙◌, rules}
 use Rattle.fb_read.specs.Blank.{at, skip, step, stepped}
-use Rattle.fb_read.proofs.Comments.{begins-comment, in-comment, may-not-end, none-within, since-begun}
-use Rattle.fb_read.proofs.Skips.{skip_turn, skip_end}
+use Rattle.fb_read.proofs.lemmas.tokens.Comments.{begins-comment, in-comment, may-not-end, none-within, since-begun}
+use Rattle.fb_read.proofs.lemmas.tokens.Skips.{skip_turn, skip_end}
 use Rattle.fb_read.proofs.blank.open_comment.Goals as goal
 
 pub unreachable-requires : goal.unreachable-requires

@@ -1,6 +1,6 @@
 use Rattle.std.proofs.Common.{◌≡◌, drop}
 use Rattle.fb_read.specs.Blank.{at, skip, start}
-use Rattle.fb_read.proofs.Comments.{InComment}
+use Rattle.fb_read.proofs.lemmas.tokens.Comments.{InComment}
 use Rattle.fb_read.proofs.blank.open_comment.Given as goal
 
 abbrev pub invariant-loop-i : goal.invariant-loop-i

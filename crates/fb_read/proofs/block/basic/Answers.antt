@@ -5,7 +5,7 @@ use Rattle.fb_read.specs.Parser.{Reads, run_after}
 use Rattle.fb_read.specs.Blocks.{basic}
 use Rattle.fb_read.specs.Charts.{algorithm, algorithms}
 use Rattle.fb_read.specs.declared.token.Mark.TheVariants as mark
-use Rattle.fb_read.proofs.Reading.{stops, stops_later, went_on}
+use Rattle.fb_read.proofs.lemmas.rules.Reading.{stops, stops_later, went_on}
 use Rattle.fb_read.proofs.block.basic.Goals as goal
 
 pub returns-in_err-internals : goal.returns-in_err-internals

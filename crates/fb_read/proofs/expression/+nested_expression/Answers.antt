@@ -1,6 +1,6 @@
 use Rattle.std.proofs.Common.{◌≡◌, ap, arith}
 use Rattle.fb_read.specs.Expressions.{nested_expression}
-use Rattle.fb_read.proofs.Turns.{deeper}
+use Rattle.fb_read.proofs.lemmas.rules.CountedLoops.{deeper}
 use Rattle.fb_read.proofs.expression.+nested_expression.Goals as goal
 
 pub returns-then-depth-eq0 : goal.returns-then-depth-eq0

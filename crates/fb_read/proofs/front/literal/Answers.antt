@@ -1,7 +1,7 @@
 use Rattle.std.proofs.Common.{arith, rules}
 use Rattle.std.proofs.lemmas.Grind.{common_steps}
 use Rattle.fb_read.specs.Front.{literal}
-use Rattle.fb_read.proofs.FrontLaws.{len-within}
+use Rattle.fb_read.proofs.lemmas.tokens.FrontLaws.{len-within}
 use Rattle.fb_read.proofs.front.literal.Goals as goal
 
 pub returns-in-None-clause-within : goal.returns-in-None-clause-within

@@ -1,5 +1,5 @@
 use Rattle.std.proofs.Common.{◌∙◌}
-use Rattle.fb_read.proofs.Keywords.{in_group}
+use Rattle.fb_read.proofs.lemmas.tokens.Keywords.{in_group}
 use Rattle.fb_read.proofs.keyword.keyword.Goals as goal
 
 pub returns : goal.returns

@@ -1,4 +1,4 @@
-use Rattle.fb_read.proofs.CutLaws.{cuts-exactly}
+use Rattle.fb_read.proofs.lemmas.tokens.CutLaws.{cuts-exactly}
 use Rattle.fb_read.proofs.laws.cuts_exactly.Goals as goal
 
 pub returns : goal.returns

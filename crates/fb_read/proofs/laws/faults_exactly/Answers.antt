@@ -1,4 +1,4 @@
-use Rattle.fb_read.proofs.FaultLaws.{faults-exactly}
+use Rattle.fb_read.proofs.lemmas.texts.FaultLaws.{faults-exactly}
 use Rattle.fb_read.proofs.laws.faults_exactly.Goals as goal
 
 pub returns : goal.returns

@@ -1,6 +1,6 @@
 use Rattle.std.proofs.Common.{arith}
 use Rattle.std.proofs.lemmas.Grind.{common_steps}
-use Rattle.fb_read.proofs.NumberLaws.{too_large}
+use Rattle.fb_read.proofs.lemmas.tokens.NumberLaws.{too_large}
 use Rattle.fb_read.proofs.number.number.Goals as goal
 
 pub returns-in_default-clause-value : goal.returns-in_default-clause-value

@@ -1,5 +1,5 @@
 use Rattle.std.proofs.Common.{arith}
-use Rattle.fb_read.proofs.Counts.{events-count}
+use Rattle.fb_read.proofs.lemmas.rules.Counts.{events-count}
 use Rattle.fb_read.proofs.ports.numbered_events.Goals as goal
 
 pub new-requires : goal.new-requires

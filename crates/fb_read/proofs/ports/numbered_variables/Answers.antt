@@ -1,5 +1,5 @@
 use Rattle.std.proofs.Common.{arith}
-use Rattle.fb_read.proofs.Counts.{variables-count}
+use Rattle.fb_read.proofs.lemmas.rules.Counts.{variables-count}
 use Rattle.fb_read.proofs.ports.numbered_variables.Goals as goal
 
 pub new-requires : goal.new-requires

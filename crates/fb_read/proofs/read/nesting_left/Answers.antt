@@ -1,4 +1,4 @@
-use Rattle.fb_read.proofs.RefusalLaws.{deep-is, read-not-deep, stuck-not-deep}
+use Rattle.fb_read.proofs.lemmas.texts.RefusalLaws.{deep-is, read-not-deep, stuck-not-deep}
 use Rattle.fb_read.proofs.read.nesting_left.Goals as goal
 
 pub returns-in-Ok : goal.returns-in-Ok

@@ -1,6 +1,6 @@
 use Rattle.std.proofs.Common.{sym, ap, ◌∙◌}
 use Rattle.fb_read.specs.Whole.{ended}
-use Rattle.fb_read.proofs.RefusalLaws.{left-over, refused-rule, whole-declared}
+use Rattle.fb_read.proofs.lemmas.texts.RefusalLaws.{left-over, refused-rule, whole-declared}
 use Rattle.fb_read.proofs.read.parse.Goals as goal
 
 pub returns-then-left-eq0-clause-declared : goal.returns-then-left-eq0-clause-declared

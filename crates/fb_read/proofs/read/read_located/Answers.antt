@@ -2,7 +2,7 @@ use Rattle.std.proofs.Common.{List, length, sym, subst, arith}
 use Rattle.std.proofs.lemmas.List.{take_all}
 use Rattle.fb_read.specs.declared.token.Located.{Located}
 use Rattle.fb_read.specs.Refusals.{IsTooDeep}
-use Rattle.fb_read.proofs.RefusalLaws.{same-refused}
+use Rattle.fb_read.proofs.lemmas.texts.RefusalLaws.{same-refused}
 use Rattle.fb_read.proofs.read.read_located.Goals as goal
 
 pub refused_nesting-requires-clause-deep : goal.refused_nesting-requires-clause-deep

@@ -1,6 +1,6 @@
 use Rattle.std.proofs.Common.{◌≡◌, ◌-◌, length, take, sym, subst, ◌∙◌, arith}
 use Rattle.fb_read.specs.Refusals.{IsDeepLen, IsTooDeep}
-use Rattle.fb_read.proofs.RefusalLaws.{all-deep, deep-len}
+use Rattle.fb_read.proofs.lemmas.texts.RefusalLaws.{all-deep, deep-len}
 use Rattle.fb_read.proofs.read.refused_len.Goals as goal
 
 pub returns-then-left-eq0 : goal.returns-then-left-eq0

@@ -1,6 +1,6 @@
 use Rattle.std.proofs.Common.{◌+◌, ◌-◌, length, take, arith}
 use Rattle.fb_read.specs.Refusals.{IsFirstDeep}
-use Rattle.fb_read.proofs.RefusalLaws.{first-front, front-deep, over-deep}
+use Rattle.fb_read.proofs.lemmas.texts.RefusalLaws.{first-front, front-deep, over-deep}
 use Rattle.fb_read.proofs.read.refused_nesting.Goals as goal
 
 pub returns-in-Ok : goal.returns-in-Ok

@@ -1,6 +1,6 @@
 use Rattle.std.proofs.Common.{◌-◌, ◌<◌, length, drop, arith}
 use Rattle.std.proofs.lemmas.List.{length-drop, length-take}
-use Rattle.fb_read.proofs.NextLaws.{at-end, at-front, first-before}
+use Rattle.fb_read.proofs.lemmas.rules.NextLaws.{at-end, at-front, first-before}
 use Rattle.fb_read.proofs.read.span_at.Goals as goal
 
 pub returns-in_default : goal.returns-in_default

@@ -1,5 +1,5 @@
 use Rattle.fb_read.specs.Tokens.{after_mark}
-use Rattle.fb_read.proofs.NextLaws.{located-left, span-left}
+use Rattle.fb_read.proofs.lemmas.rules.NextLaws.{located-left, span-left}
 use Rattle.fb_read.proofs.read.span_before.Goals as goal
 
 pub span_at-requires : goal.span_at-requires

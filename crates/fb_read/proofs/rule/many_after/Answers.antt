@@ -2,9 +2,9 @@ use Rattle.std.proofs.Common.{◌≡◌, ◌-◌, ℕ, false, length, Ok, ap, sy
 use Rattle.std.proofs.lemmas.Result.{err_from_is_err_and}
 use Rattle.fb_read.specs.Tokens.{Tokens}
 use Rattle.fb_read.specs.Parser.{sees, after, many_after, many_from}
-use Rattle.fb_read.proofs.Turns.{one_more, no_more}
-use Rattle.fb_read.proofs.Reading.{stops_as}
-use Rattle.fb_read.proofs.Turning.{many_fault, many_more, many_over}
+use Rattle.fb_read.proofs.lemmas.rules.CountedLoops.{one_more, no_more}
+use Rattle.fb_read.proofs.lemmas.rules.Reading.{stops_as}
+use Rattle.fb_read.proofs.lemmas.rules.ItemLoops.{many_fault, many_more, many_over}
 use Rattle.fb_read.proofs.rule.many_after.Goals as goal
 
 pub loop-turn-init : goal.loop-turn-init

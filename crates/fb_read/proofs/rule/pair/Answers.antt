@@ -1,6 +1,6 @@
 use Rattle.std.proofs.lemmas.Result.{err_from_is_err_and}
 use Rattle.fb_read.specs.Parser.{pair}
-use Rattle.fb_read.proofs.Reading.{goes_on, stops}
+use Rattle.fb_read.proofs.lemmas.rules.Reading.{goes_on, stops}
 use Rattle.fb_read.proofs.rule.pair.Goals as goal
 
 pub returns-in_err-first : goal.returns-in_err-first

@@ -2,9 +2,9 @@ use Rattle.std.proofs.Common.{◌≡◌, ◌-◌, ℕ, true, false, [], length, 
 use Rattle.std.proofs.lemmas.Result.{err_from_is_err_and}
 use Rattle.fb_read.specs.declared.token.Mark.TheVariants as mark
 use Rattle.fb_read.specs.Parser.{sees, separated, separated_from}
-use Rattle.fb_read.proofs.Turns.{one_more, no_more}
-use Rattle.fb_read.proofs.Reading.{stops_as}
-use Rattle.fb_read.proofs.Turning.{separated_fault, separated_last, separated_more}
+use Rattle.fb_read.proofs.lemmas.rules.CountedLoops.{one_more, no_more}
+use Rattle.fb_read.proofs.lemmas.rules.Reading.{stops_as}
+use Rattle.fb_read.proofs.lemmas.rules.ItemLoops.{separated_fault, separated_last, separated_more}
 use Rattle.fb_read.proofs.rule.separated.Goals as goal
 
 pub loop-turn-init : goal.loop-turn-init

@@ -1,7 +1,7 @@
 use Rattle.std.proofs.Common.{refl}
 use Rattle.std.proofs.lemmas.Result.{err_from_is_err_and}
 use Rattle.fb_read.specs.Parser.{then_read}
-use Rattle.fb_read.proofs.Reading.{stops, stops_later, went_on}
+use Rattle.fb_read.proofs.lemmas.rules.Reading.{stops, stops_later, went_on}
 use Rattle.fb_read.proofs.rule.then_read.Goals as goal
 
 pub returns-in_err-expect : goal.returns-in_err-expect

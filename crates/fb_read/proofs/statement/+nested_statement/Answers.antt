@@ -1,6 +1,6 @@
 use Rattle.std.proofs.Common.{◌≡◌, ap, arith}
 use Rattle.fb_read.specs.Statements.{nested_statement}
-use Rattle.fb_read.proofs.Turns.{deeper}
+use Rattle.fb_read.proofs.lemmas.rules.CountedLoops.{deeper}
 use Rattle.fb_read.proofs.statement.+nested_statement.Goals as goal
 
 pub returns-then-depth-eq0 : goal.returns-then-depth-eq0

@@ -5,8 +5,8 @@ use Rattle.fb_types.specs.declared.text.Stmt.TheVariants as s
 use Rattle.fb_read.specs.declared.token.Mark.TheVariants as mark
 use Rattle.fb_read.specs.Parser.{Reads, ended}
 use Rattle.fb_read.specs.Statements.{simple}
-use Rattle.fb_read.proofs.Pairs.{simple_is}
-use Rattle.fb_read.proofs.Reading.{begun, begun_is, goes_on, passed, read_as, stops, stops_as}
+use Rattle.fb_read.proofs.lemmas.rules.Pairs.{simple_is}
+use Rattle.fb_read.proofs.lemmas.rules.Reading.{begun, begun_is, goes_on, passed, read_as, stops, stops_as}
 use Rattle.fb_read.proofs.statement.simple.Goals as goal
 
 pub returns-then-eat : goal.returns-then-eat

@@ -1,4 +1,4 @@
-use Rattle.fb_read.proofs.Ends.{end-rest}
+use Rattle.fb_read.proofs.lemmas.tokens.TextEnds.{end-rest}
 use Rattle.fb_read.proofs.tokens.after_mark.Goals as goal
 
 pub returns-then-at-eq191-clause-end : goal.returns-then-at-eq191-clause-end

@@ -1,6 +1,6 @@
 use Rattle.std.proofs.Common.{◌+◌, ◌≤◌, length}
 use Rattle.fb_read.specs.Located.{IsEnd}
-use Rattle.fb_read.proofs.TokenLaws.{Reading}
+use Rattle.fb_read.proofs.lemmas.tokens.TokenLaws.{Reading}
 use Rattle.fb_read.proofs.tokens.lex.Given as goal
 
 abbrev pub invariant-tokens : goal.invariant-tokens

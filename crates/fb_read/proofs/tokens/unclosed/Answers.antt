@@ -1,6 +1,6 @@
 use Rattle.std.proofs.Common.{refl, arith}
-use Rattle.fb_read.proofs.Ends.{end-length}
-use Rattle.fb_read.proofs.TokenLaws.{unclosed-in}
+use Rattle.fb_read.proofs.lemmas.tokens.TextEnds.{end-length}
+use Rattle.fb_read.proofs.lemmas.tokens.TokenLaws.{unclosed-in}
 use Rattle.fb_read.proofs.tokens.unclosed.Goals as goal
 
 pub overflow_sub-before : goal.overflow_sub-before

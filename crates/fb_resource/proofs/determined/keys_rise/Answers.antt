@@ -1,6 +1,6 @@
 use Rattle.fb_types.specs.Headline.{system_of, stimuli_of}
-use Rattle.fb_laws.proofs.Accepting.{sound_of}
-use Rattle.fb_laws.proofs.KeysRise.{keys_rise}
+use Rattle.fb_laws.proofs.lemmas.soundness.Accepting.{sound_of}
+use Rattle.fb_laws.proofs.lemmas.takings.KeysRise.{keys_rise}
 use Rattle.fb_resource.proofs.determined.keys_rise.Goals as goal
 
 pub returns : goal.returns

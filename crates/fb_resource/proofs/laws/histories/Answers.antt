@@ -1,6 +1,6 @@
 use Rattle.fb_types.specs.Headline.{system_of, stimuli_of}
-use Rattle.fb_laws.proofs.Accepting.{sound_of}
-use Rattle.fb_laws.proofs.OneResource.{histories_law, one_run, lines_law, stops_law}
+use Rattle.fb_laws.proofs.lemmas.soundness.Accepting.{sound_of}
+use Rattle.fb_laws.proofs.lemmas.resources.OneResource.{histories_law, one_run, lines_law, stops_law}
 use Rattle.fb_resource.proofs.laws.histories.Goals as goal
 
 pub returns : goal.returns

@@ -9,7 +9,7 @@ use Rattle.fb_net.specs.Outs.{IsOut}
 use Rattle.fb_net.specs.Events.{IsEventIn, event_of}
 use Rattle.fb_types.specs.States.{path_of}
 use Rattle.fb_types.specs.OfSystem.{IsResource}
-use Rattle.fb_laws.proofs.Accepted.{accepted_typed}
+use Rattle.fb_laws.proofs.lemmas.typing.Accepted.{accepted_typed}
 use Rattle.fb_types.specs.declared.value.Reason.TheVariants.{Steps}
 use Rattle.fb_resource.specs.Counts.{IsMetered, before_step, meter_of}
 use Rattle.fb_resource.specs.Takings.{AreReady, IsTakenHere, with_event}

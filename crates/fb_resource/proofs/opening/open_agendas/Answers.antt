@@ -1,7 +1,7 @@
 use Rattle.std.proofs.Common.{rules, ◌≡◌, ◌+◌, ◌<◌, ◌∷◌, [], Some, length, length-append, refl, sym, ap, subst, ◌∙◌, arith}
 use Rattle.std.specs.Prelude.{slice_get}
 use Rattle.std.proofs.lemmas.Option.{slice_get_read}
-use Rattle.fb_types.proofs.ByIndex.{slice_get-push}
+use Rattle.fb_types.proofs.lemmas.lists.ByIndex.{slice_get-push}
 use Rattle.fb_types.specs.Headline.{system_of}
 use Rattle.fb_resource.specs.Openings.{HasRestarts, HasStimuli, IsOpened, OneEach}
 use Rattle.fb_resource.proofs.lemmas.Apart.{each_more, restart_apart, stimulus_apart}

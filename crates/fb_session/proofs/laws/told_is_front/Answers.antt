@@ -1,4 +1,4 @@
-use Rattle.fb_session.proofs.EndingIs as laws
+use Rattle.fb_session.proofs.lemmas.EndingIs as laws
 use Rattle.fb_session.proofs.laws.told_is_front.Goals as goal
 
 pub returns : goal.returns

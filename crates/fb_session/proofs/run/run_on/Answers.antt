@@ -7,7 +7,7 @@ use Rattle.fb_sim_machine.specs.Pauses.{Stands}
 use Rattle.fb_session.specs.Running.{RunsOn}
 use Rattle.fb_session.specs.declared.fault.SessionFault.{SessionFault}
 use Rattle.fb_session.specs.declared.fault.SessionFault.TheVariants as fault
-use Rattle.fb_session.proofs.RunIs.{break_here, cut_off, end_here, gone_first, gone_more, out_of_memory, run_more, stop_here}
+use Rattle.fb_session.proofs.lemmas.RunIs.{break_here, cut_off, end_here, gone_first, gone_more, out_of_memory, run_more, stop_here}
 use Rattle.fb_session.proofs.run.run_on.Goals as goal
 
 memory_in : {T : Type 0} (P : Result T SessionFault → Type 0) (r : Result T SessionFault) → IsErrAnd r (λ e. e ≡ fault.Memory) → P (Err fault.Memory) → P r

@@ -2,7 +2,7 @@ use Rattle.std.proofs.Common.{◌≡◌, ℕ}
 use Rattle.fb_types.specs.States.{Config}
 use Rattle.fb_sim_machine.specs.Counts.{fuel_of_all}
 use Rattle.fb_sim_machine.specs.Machines.{IsAt, IsReady}
-use Rattle.fb_session.proofs.RunIs.{Gone}
+use Rattle.fb_session.proofs.lemmas.RunIs.{Gone}
 use Rattle.fb_session.proofs.run.run_on.Given as goal
 
 abbrev pub invariant-loop-pause : goal.invariant-loop-pause

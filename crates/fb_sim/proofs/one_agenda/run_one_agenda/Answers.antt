@@ -1,7 +1,7 @@
 use Rattle.fb_sim.specs.declared.outcome.RunError.TheVariants.{Memory}
 use Rattle.fb_sim.specs.Rounds.{FailsRun}
 use Rattle.fb_trace.specs.End as trace
-use Rattle.fb_sim.proofs.RunIs.{err_is, fails_at, fails_on, fails_wanting, writes_all}
+use Rattle.fb_sim.proofs.lemmas.rounds.RunIs.{err_is, fails_at, fails_on, fails_wanting, writes_all}
 use Rattle.fb_sim.proofs.one_agenda.run_one_agenda.Goals as goal
 
 pub returns-in_err-machine-clause-failed : goal.returns-in_err-machine-clause-failed

@@ -1,7 +1,7 @@
 use Rattle.std.proofs.Common.{◌≡◌, [], ℕ}
 use Rattle.fb_sim_machine.specs.Counts.{fuel_of_all}
 use Rattle.fb_sim_machine.specs.Machines.{IsReady}
-use Rattle.fb_sim.proofs.OneAgendaIs.{Gone}
+use Rattle.fb_sim.proofs.lemmas.runs.OneAgendaIs.{Gone}
 use Rattle.fb_sim.proofs.one_agenda.run_through.Given as goal
 
 abbrev pub invariant-loop-pause : goal.invariant-loop-pause

@@ -1,7 +1,7 @@
 use Rattle.std.proofs.Common.{◌≡◌, subst}
 use Rattle.fb_types.specs.Headline.{Inputs, AreAccepted, inputs}
 use Rattle.fb_check.specs.Refusals as judge
-use Rattle.fb_sim.proofs.Refused.{check_fault}
+use Rattle.fb_sim.proofs.lemmas.runs.Refused.{check_fault}
 use Rattle.fb_sim.proofs.reading.judge_reading.Goals as goal
 
 pub returns-in-Ok-clause-accepted : goal.returns-in-Ok-clause-accepted

@@ -1,6 +1,6 @@
 use Rattle.std.proofs.Common.{List, ℕ, ap, subst}
 use Rattle.fb_sim.specs.Serial.{IsReadFault}
-use Rattle.fb_sim.proofs.Refused.{read_fault}
+use Rattle.fb_sim.proofs.lemmas.runs.Refused.{read_fault}
 use Rattle.fb_sim.proofs.reading.library_of.Goals as goal
 
 pub returns-in-Memory-clause-refused : goal.returns-in-Memory-clause-refused

@@ -1,4 +1,4 @@
-use Rattle.fb_sim.proofs.Refused.{check_fault}
+use Rattle.fb_sim.proofs.lemmas.runs.Refused.{check_fault}
 use Rattle.fb_sim.proofs.reading.open.Goals as goal
 
 pub returns-in_default-clause-refused : goal.returns-in_default-clause-refused

@@ -2,7 +2,7 @@ use Rattle.std.proofs.Common.{◌≡◌, ℕ, List, All, Ok, map, ◌^◌, ◌�
 use Rattle.std.specs.Io.KnownBytes.{Appends}
 use denote.Param.Send.{sendable}
 use Rattle.fb_resource.proofs.lemmas.Sends.{done_send}
-use Rattle.fb_window.proofs.Sends.{job_send}
+use Rattle.fb_window.proofs.lemmas.messages.JobsCross.{job_send}
 use Rattle.fb_types.specs.Headline.{system_of}
 use Rattle.fb_types.specs.Numbers.{line_of}
 use Rattle.fb_types.specs.declared.run.Line.{Line}
@@ -13,8 +13,8 @@ use Rattle.fb_window.specs.Reaching.{OfEachCore}
 use Rattle.fb_sim.specs.Rounds.{Rounds, WritesPartOf, text_of}
 use Rattle.fb_sim.specs.declared.outcome.RunError.TheVariants.{Memory}
 use Rattle.fb_sim.specs.declared.progress.Round.{Round}
-use Rattle.fb_sim.proofs.OnePhase.{all_done, out_belongs}
-use Rattle.fb_sim.proofs.WindowIs.{is_home_once, on_its_way, round_failed, round_passed, round_wanting, round_whole}
+use Rattle.fb_sim.proofs.lemmas.rounds.OnePhase.{all_done, out_belongs}
+use Rattle.fb_sim.proofs.lemmas.rounds.WindowIs.{is_home_once, on_its_way, round_failed, round_passed, round_wanting, round_whole}
 use Rattle.fb_sim.proofs.rounds.round.Goals as goal
 
 pub jobs-requires-clause-system : goal.jobs-requires-clause-system

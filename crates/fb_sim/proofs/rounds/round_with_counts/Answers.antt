@@ -8,9 +8,9 @@ use Rattle.fb_trace.specs.Progress.{bounded}
 use Rattle.fb_sim.specs.Rounds.{WritesPartOf}
 use Rattle.fb_sim.specs.MergedText.{all_bytes}
 use Rattle.fb_sim.specs.declared.outcome.RunError.TheVariants.{Memory}
-use Rattle.fb_sim.proofs.HandedOut.{part_by_text, whole_by_text}
-use Rattle.fb_sim.proofs.Texts.{merged_list}
-use Rattle.fb_sim.proofs.WindowIs.{held_failed, unwritten_out_of_memory, held_passed, unwritten_whole, home_since, walk_keeps, walked_on}
+use Rattle.fb_sim.proofs.lemmas.text.HandedOut.{part_by_text, whole_by_text}
+use Rattle.fb_sim.proofs.lemmas.text.Texts.{merged_list}
+use Rattle.fb_sim.proofs.lemmas.rounds.WindowIs.{held_failed, unwritten_out_of_memory, held_passed, unwritten_whole, home_since, walk_keeps, walked_on}
 use Rattle.fb_sim.proofs.rounds.round_with_counts.Goals as goal
 
 pub walk-requires-clause-system : goal.walk-requires-clause-system

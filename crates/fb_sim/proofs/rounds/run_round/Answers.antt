@@ -1,6 +1,6 @@
 use denote.Param.Send.{sendable}
-use Rattle.fb_window.proofs.Sends.{job_send}
-use Rattle.fb_sim.proofs.TextedSends.{texted_send}
+use Rattle.fb_window.proofs.lemmas.messages.JobsCross.{job_send}
+use Rattle.fb_sim.proofs.lemmas.text.TextedSends.{texted_send}
 use Rattle.fb_sim.proofs.rounds.run_round.Goals as goal
 
 pub begin-requires-send-W-Job : goal.begin-requires-send-W-Job

@@ -13,8 +13,8 @@ use Rattle.fb_window.specs.Reaching.{OfEachCore}
 use Rattle.fb_window.specs.Settling.{IsMerged}
 use Rattle.fb_sim.specs.Texts.{AreTextsFrom, AreTextsOf}
 use Rattle.fb_sim.specs.declared.rounds.job_texts.FinalTexts.{FinalTexts}
-use Rattle.fb_sim.proofs.TextsAre.{jobs_are_of, texts_if_used}
-use Rattle.fb_sim.proofs.WindowIs.{are_done, is_home, keep}
+use Rattle.fb_sim.proofs.lemmas.text.TextsAre.{jobs_are_of, texts_if_used}
+use Rattle.fb_sim.proofs.lemmas.rounds.WindowIs.{are_done, is_home, keep}
 use Rattle.fb_sim.proofs.rounds.window.Goals as goal
 
 -- the lists belong to the system

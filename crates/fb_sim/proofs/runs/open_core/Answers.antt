@@ -1,4 +1,4 @@
-use Rattle.fb_sim.proofs.RoundIs.{opened_come}
+use Rattle.fb_sim.proofs.lemmas.rounds.RoundIs.{opened_come}
 use Rattle.fb_sim.proofs.runs.open_core.Goals as goal
 
 pub returns : goal.returns

@@ -7,7 +7,7 @@ use Rattle.fb_trace.specs.declared.last.Outcome.{Outcome}
 use Rattle.fb_sim.specs.declared.outcome.RunError.{RunError}
 use Rattle.fb_sim.specs.declared.outcome.RunError.TheVariants.{Memory}
 use Rattle.fb_sim.specs.Rounds.{FailsRun, IsShort}
-use Rattle.fb_sim.proofs.RunIs.{ended, ended_short, err_is, fails_on, fails_wanting, stop_counted}
+use Rattle.fb_sim.proofs.lemmas.rounds.RunIs.{ended, ended_short, err_is, fails_on, fails_wanting, stop_counted}
 use Rattle.fb_sim.proofs.runs.run_rounds.Goals as goal
 
 pub run_first-requires-clause-options : goal.run_first-requires-clause-options

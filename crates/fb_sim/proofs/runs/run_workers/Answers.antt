@@ -7,9 +7,9 @@ use denote.Struct.Tuple.{type_at}
 use mir.Syntax.{ty_struct, ty_ptr, tcons, tnil, named}
 use Rattle.std.proofs.Common.{[]}
 use Rattle.std.proofs.Crossing.{sync}
-use Rattle.fb_window.proofs.Sends.{job_send}
-use Rattle.fb_sim.proofs.TextedSends.{texted_send}
-use Rattle.fb_sim.proofs.CrewCrossing.{crew_sync}
+use Rattle.fb_window.proofs.lemmas.messages.JobsCross.{job_send}
+use Rattle.fb_sim.proofs.lemmas.text.TextedSends.{texted_send}
+use Rattle.fb_sim.proofs.lemmas.runs.CrewCrossing.{crew_sync}
 use Rattle.fb_sim.proofs.rounds.workers.TextJobs.TheSendSync as windows
 use Rattle.fb_sim.specs.contracts.rounds.workers.TextJobs as TextJobs
 use Rattle.fb_sim.proofs.runs.run_workers.Lts.{arg-4-1, name-35, of-22}

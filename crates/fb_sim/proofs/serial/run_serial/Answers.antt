@@ -1,6 +1,6 @@
 use Rattle.std.proofs.Common.{rules}
 use Rattle.fb_sim.specs.Rounds.{FailsRun}
-use Rattle.fb_sim.proofs.RunIs.{err_is, fails_open}
+use Rattle.fb_sim.proofs.lemmas.rounds.RunIs.{err_is, fails_open}
 use Rattle.fb_sim.proofs.serial.run_serial.Goals as goal
 
 pub returns-in_err-system-clause-failed : goal.returns-in_err-system-clause-failed

@@ -5,7 +5,7 @@ use Rattle.fb_sim.specs.Views.{SimulationView}
 use Rattle.fb_trace.specs.declared.last.Outcome.{Outcome}
 use Rattle.fb_trace.specs.declared.last.Outcome.TheVariants.{End}
 use Rattle.fb_sim.specs.Reports.{Came, Comes, hundredth, view_at}
-use Rattle.fb_sim.proofs.Coming.{at_own, came_first, comes_so, hundredth_first}
+use Rattle.fb_sim.proofs.lemmas.rounds.HundredthSteps.{at_own, came_first, comes_so, hundredth_first}
 use Rattle.fb_sim.proofs.with_progress.go_far.Goals as goal
 
 pub loop-count-init : goal.loop-count-init

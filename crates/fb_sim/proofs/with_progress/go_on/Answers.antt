@@ -1,7 +1,7 @@
 use Rattle.std.proofs.Common.{Err, refl, sym, subst}
 use Rattle.fb_sim.specs.Reports.{GoesOn}
 use Rattle.fb_sim.specs.declared.outcome.RunError.{RunError}
-use Rattle.fb_sim.proofs.Onward.{goes_short, goes_well}
+use Rattle.fb_sim.proofs.lemmas.runs.LaterTicks.{goes_short, goes_well}
 use Rattle.fb_sim.proofs.with_progress.go_on.Goals as goal
 
 pub returns-in-Ok : goal.returns-in-Ok

@@ -1,5 +1,5 @@
 use Rattle.std.proofs.Common.{rules}
-use Rattle.fb_sim.proofs.Ending.{fails_if, no_reports, reports_of}
+use Rattle.fb_sim.proofs.lemmas.runs.Ending.{fails_if, no_reports, reports_of}
 use Rattle.fb_sim.proofs.with_progress.run_with_progress.Goals as goal
 
 pub returns-in-Ok-clause-failed : goal.returns-in-Ok-clause-failed

@@ -8,7 +8,7 @@ use Rattle.fb_types.specs.declared.run.Event.TheVariants.{Arrival}
 use Rattle.fb_resource.specs.Posts.{IsMessage, IsPut, arriving, key_of}
 use Rattle.fb_resource.specs.Waiting.{meaning}
 use Rattle.fb_resource.proofs.lemmas.PostLaws.{next_of, order_put}
-use Rattle.fb_sim_machine.proofs.DeliverIs.{delivered_more, message_waits, none_left, only_popped}
+use Rattle.fb_sim_machine.proofs.lemmas.DeliverIs.{delivered_more, message_waits, none_left, only_popped}
 use Rattle.fb_sim_machine.proofs.deliver.deliver.Goals as goal
 
 -- ---- Several messages

@@ -10,7 +10,7 @@ use Rattle.fb_resource.specs.Posts.{IsMessage, IsPut, arriving, key_of}
 use Rattle.fb_resource.specs.Waiting.{meaning}
 use Rattle.fb_resource.proofs.lemmas.Lists.{slice_all}
 use Rattle.fb_resource.proofs.lemmas.PostLaws.{next_of, order_put}
-use Rattle.fb_sim_machine.proofs.DeliverIs.{delivered_more, message_waits}
+use Rattle.fb_sim_machine.proofs.lemmas.DeliverIs.{delivered_more, message_waits}
 use Rattle.fb_sim_machine.proofs.deliver.deliver_all.Goals as goal
 
 -- ---- No message

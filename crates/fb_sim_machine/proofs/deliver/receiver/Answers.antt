@@ -1,5 +1,5 @@
 use Rattle.std.proofs.Common.{◌<◌, ◌^◌, sym, subst}
-use Rattle.fb_sim_machine.proofs.DeliverIs.{narrow_receiver}
+use Rattle.fb_sim_machine.proofs.lemmas.DeliverIs.{narrow_receiver}
 use Rattle.fb_sim_machine.proofs.deliver.receiver.Goals as goal
 
 pub overflow_cast-result : goal.overflow_cast-result

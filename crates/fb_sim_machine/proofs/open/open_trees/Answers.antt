@@ -1,4 +1,4 @@
-use Rattle.fb_sim_machine.proofs.OpenIs.{opened_more}
+use Rattle.fb_sim_machine.proofs.lemmas.OpenIs.{opened_more}
 use Rattle.fb_sim_machine.proofs.open.open_trees.Goals as goal
 
 pub loop-resource-preserved : goal.loop-resource-preserved

@@ -3,7 +3,7 @@ use Rattle.std.specs.List.{find}
 use Rattle.std.proofs.lemmas.List.{at_drop_all}
 use Rattle.fb_types.specs.Names.{same_name}
 use Rattle.fb_types.specs.declared.library.Algorithm.{Algorithm}
-use Rattle.fb_types.proofs.LoopSteps.{found_here, found_later}
+use Rattle.fb_types.proofs.lemmas.lists.LoopSteps.{found_here, found_later}
 use Rattle.fb_stop.proofs.before.algorithm_named.Goals as goal
 
 pub returns-then-is : goal.returns-then-is

@@ -8,8 +8,8 @@ use Rattle.fb_st.specs.Frames.{Declared, declared_in, types_in, values_of}
 use Rattle.fb_st.specs.Known.{AllKnown}
 use Rattle.fb_ecc.specs.Sound.{declared_by}
 use Rattle.fb_ecc.proofs.lemmas.Actions.{types_declared}
-use Rattle.fb_stop.proofs.Insides.{action_is, in_algorithm}
-use Rattle.fb_stop.proofs.Unsaid.{found_in, if_none_map, no_action, no_body, no_state, with_body, without_algorithm}
+use Rattle.fb_stop.proofs.lemmas.operations.Insides.{action_is, in_algorithm}
+use Rattle.fb_stop.proofs.lemmas.numbers.NothingSaid.{found_in, if_none_map, no_action, no_body, no_state, with_body, without_algorithm}
 use Rattle.fb_stop.proofs.before.inside_action.Goals as goal
 
 pub returns-in_ok-algorithm-in-Some-clause-found : goal.returns-in_ok-algorithm-in-Some-clause-found

@@ -5,7 +5,7 @@ use Rattle.fb_st.specs.Flows.{point}
 use Rattle.fb_st.specs.Frames.{declared_in, types_in, values_of}
 use Rattle.fb_stop.specs.Blamed.{End, RunsAll, Stopped}
 use Rattle.fb_stop.specs.Ends.{end_of}
-use Rattle.fb_stop.proofs.Unsaid.{goes_otherwise, stops_otherwise}
+use Rattle.fb_stop.proofs.lemmas.numbers.NothingSaid.{goes_otherwise, stops_otherwise}
 use Rattle.fb_stop.proofs.before.inside_body.Goals as goal
 
 one_less : (n : ℕ) → n ≢ 0 → n ≡ suc (n - 1)

@@ -1,8 +1,8 @@
 use Rattle.std.proofs.Common.{◌∙◌, sym}
 use Rattle.std.proofs.lemmas.Option.{none-some}
 use Rattle.fb_st.specs.Frames.{values_of}
-use Rattle.fb_stop.proofs.Insides.{in_guard}
-use Rattle.fb_stop.proofs.Unsaid.{guard_other, if_none_map, no_transition, none_after, nth_there, other_guard}
+use Rattle.fb_stop.proofs.lemmas.operations.Insides.{in_guard}
+use Rattle.fb_stop.proofs.lemmas.numbers.NothingSaid.{guard_other, if_none_map, no_transition, none_after, nth_there, other_guard}
 use Rattle.fb_stop.proofs.before.inside_guard.Goals as goal
 
 pub returns-in-Some-clause-found : goal.returns-in-Some-clause-found

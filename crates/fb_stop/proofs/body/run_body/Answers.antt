@@ -7,7 +7,7 @@ use Rattle.fb_st.specs.Flows.{all_of, point}
 use Rattle.fb_st.specs.Frames.{declared_in, types_in}
 use Rattle.fb_stop.specs.Blamed.{End, RunsAll}
 use Rattle.fb_stop.specs.Ends.{end_of}
-use Rattle.fb_stop.proofs.Defined.{all_plainly}
+use Rattle.fb_stop.proofs.lemmas.numbers.Defined.{all_plainly}
 use Rattle.fb_stop.proofs.body.run_body.Goals as goal
 
 pub returns-clause-defined : goal.returns-clause-defined

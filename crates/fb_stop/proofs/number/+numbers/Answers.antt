@@ -5,7 +5,7 @@ use Rattle.fb_types.specs.declared.text.Stmt.{Stmt}
 use Rattle.fb_st.specs.Flows.{all_of, branches_of, choices_of}
 use Rattle.fb_st.proofs.lemmas.Runs.{nothing_left}
 use Rattle.fb_stop.specs.Numbers.{after_all, after_branches, after_choices}
-use Rattle.fb_stop.proofs.Runs.{all_counted, branch_counted, branches_counted, choice_counted, choices_counted}
+use Rattle.fb_stop.proofs.lemmas.numbers.Runs.{all_counted, branch_counted, branches_counted, choice_counted, choices_counted}
 use Rattle.fb_stop.proofs.number.+numbers.Goals as goal
 
 pub after_all-loop-statement-preserved : goal.after_all-loop-statement-preserved

@@ -8,8 +8,8 @@ use Rattle.fb_stop.specs.Numbers.{next}
 use Rattle.fb_stop.specs.Operations.{FaultIn, HasNoValue, HasValue, IsWithout}
 use Rattle.fb_stop.specs.Operations as spec
 use Rattle.fb_stop.specs.Tokens.{past, past_each}
-use Rattle.fb_stop.proofs.Operating.{binary_here, of_argument, of_group, of_left, of_operand, of_right, unary_here}
-use Rattle.fb_stop.proofs.Otherwise as otherwise
+use Rattle.fb_stop.proofs.lemmas.operations.Operating.{binary_here, of_argument, of_group, of_left, of_operand, of_right, unary_here}
+use Rattle.fb_stop.proofs.lemmas.operations.FirstWithoutValue as otherwise
 use Rattle.fb_stop.proofs.operation.+operation.Goals as goal
 
 pub operation_in-returns-in-Group-clause-found : goal.operation_in-returns-in-Group-clause-found

@@ -3,7 +3,7 @@ use Rattle.fb_types.specs.declared.text.Expr.{Expr}
 use Rattle.fb_st.proofs.lemmas.Runs.{nothing_left}
 use Rattle.fb_stop.specs.Numbers.{next}
 use Rattle.fb_stop.specs.Tokens.{past, past_each}
-use Rattle.fb_stop.proofs.Operating.{each_more}
+use Rattle.fb_stop.proofs.lemmas.operations.Operating.{each_more}
 use Rattle.fb_stop.proofs.operation.+past.Goals as goal
 
 pub past_each-loop-argument-preserved : goal.past_each-loop-argument-preserved

@@ -7,7 +7,7 @@ use Rattle.fb_types.specs.declared.value.Reason.TheVariants as reason
 use Rattle.fb_st.specs.declared.frame.Slot.{Slot}
 use Rattle.fb_st.specs.Frames.{declared_in, types_in, values_of}
 use Rattle.fb_stop.specs.Blamed.{Runs, Stopped}
-use Rattle.fb_stop.proofs.Runs.{for_counts, for_not_begun, for_stops_by, for_stops_last}
+use Rattle.fb_stop.proofs.lemmas.numbers.Runs.{for_counts, for_not_begun, for_stops_by, for_stops_last}
 use Rattle.fb_stop.proofs.part.begin_for.Goals as goal
 
 pub returns-in_err-last-clause-failed : goal.returns-in_err-last-clause-failed

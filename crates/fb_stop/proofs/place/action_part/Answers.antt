@@ -5,7 +5,7 @@ use Rattle.fb_types.specs.declared.library.State.{State}
 use Rattle.fb_read_positions.specs.declared.position.BasicPart.{BasicPart}
 use Rattle.fb_read_positions.specs.declared.position.BasicPart.TheVariants as part
 use Rattle.fb_stop.specs.Places.{IsActionPart, IsAlgorithmPart, IsPartOf}
-use Rattle.fb_stop.proofs.Insides.{if_some_map}
+use Rattle.fb_stop.proofs.lemmas.operations.Insides.{if_some_map}
 use Rattle.fb_stop.proofs.place.action_part.Goals as goal
 
 pub returns-in-Some : goal.returns-in-Some

@@ -7,8 +7,8 @@ use Rattle.fb_st.specs.declared.frame.Slot.{Slot}
 use Rattle.fb_ecc.specs.Indexes.{index, state_at}
 use Rattle.fb_types.specs.Values.{Values}
 use Rattle.fb_stop.specs.Sites.{FailsAt, FailsInGuard, IsGuardOtherwise}
-use Rattle.fb_stop.proofs.Failing.{fails_at}
-use Rattle.fb_stop.proofs.Unsaid.{guard_alone, if_none_map}
+use Rattle.fb_stop.proofs.lemmas.copies.Failing.{fails_at}
+use Rattle.fb_stop.proofs.lemmas.numbers.NothingSaid.{guard_alone, if_none_map}
 use Rattle.fb_stop.proofs.reaction.link.Goals as goal
 
 pub returns-in-Err-clause-link : goal.returns-in-Err-clause-link

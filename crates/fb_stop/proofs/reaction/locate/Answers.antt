@@ -8,7 +8,7 @@ use Rattle.fb_ecc.specs.Indexes.{index, sampled}
 use Rattle.fb_stop.specs.Links.{GoesOn}
 use Rattle.fb_stop.specs.Sites.{ReactionStops}
 use Rattle.fb_stop.specs.declared.reaction.LinkEnd.{LinkEnd}
-use Rattle.fb_stop.proofs.Stopping.{chain_on, stops_on}
+use Rattle.fb_stop.proofs.lemmas.copies.Stopping.{chain_on, stops_on}
 use Rattle.fb_stop.proofs.reaction.locate.Goals as goal
 
 pub loop-present-init : goal.loop-present-init

@@ -6,13 +6,13 @@ use Rattle.fb_types.specs.declared.library.Action.{Action}
 use Rattle.fb_types.specs.declared.run.Halt.{Halt}
 use Rattle.fb_types.specs.declared.run.Halt.TheVariants as halt
 use Rattle.fb_types.specs.declared.value.Reason.{Reason}
-use Rattle.fb_types.proofs.ByIndex.{element_at}
+use Rattle.fb_types.proofs.lemmas.lists.ByIndex.{element_at}
 use Rattle.fb_ecc.specs.Indexes.{Ended, index, state_at}
 use Rattle.fb_stop.specs.Sites.{IsActionOtherwise, StopsInBody}
 use Rattle.fb_stop.specs.declared.site.Site.TheVariants as site
 use Rattle.fb_st.specs.Frames.{values_of}
-use Rattle.fb_stop.proofs.Stopping.{acts_more}
-use Rattle.fb_stop.proofs.Unsaid.{if_none_map}
+use Rattle.fb_stop.proofs.lemmas.copies.Stopping.{acts_more}
+use Rattle.fb_stop.proofs.lemmas.numbers.NothingSaid.{if_none_map}
 use Rattle.fb_stop.proofs.reaction.perform.Goals as goal
 
 stop_of : (h : Halt) (r : Reason) (moves : Moving) (p q : Position) → h ≡ halt.Stop r → Ended (Err h) moves p q → moves p (Some r) q

@@ -15,7 +15,7 @@ use Rattle.fb_stop.specs.Numbers.{next, after_branches, after_choices}
 use Rattle.fb_stop.specs.Blamed.{End, Running, Went, Left, Returned, Stopped, RunsAll, RunsChoice, RunsBranch, Runs, Advances, holds_in, counts_on}
 use Rattle.fb_stop.specs.Ends.{end_of}
 use Rattle.fb_stop.specs.declared.fault.Fault.{Fault}
-use Rattle.fb_stop.proofs.Runs.{case_runs, began, stopped_by, ended_by, ok_by, turn_in, turn_as, turned, counted_turn, counted_on, whole_as, counts_as, all_goes_on, all_ends, all_as, runs_as, ends_at, choice_holds, choice_ran, choice_taken, choice_passed, choice_stops, choice_counted, choices_counted, branch_fits, branch_ran, branch_taken, branch_passed, branch_counted, branches_counted, loop_over, loop_stops, loop_left, loop_returned, loop_stopped, loop_goes_on, repeat_goes_on, repeat_over, repeat_stops, repeat_left, repeat_returned, repeat_stopped}
+use Rattle.fb_stop.proofs.lemmas.numbers.Runs.{case_runs, began, stopped_by, ended_by, ok_by, turn_in, turn_as, turned, counted_turn, counted_on, whole_as, counts_as, all_goes_on, all_ends, all_as, runs_as, ends_at, choice_holds, choice_ran, choice_taken, choice_passed, choice_stops, choice_counted, choices_counted, branch_fits, branch_ran, branch_taken, branch_passed, branch_counted, branches_counted, loop_over, loop_stops, loop_left, loop_returned, loop_stopped, loop_goes_on, repeat_goes_on, repeat_over, repeat_stops, repeat_left, repeat_returned, repeat_stopped}
 use Rattle.fb_stop.proofs.running.+run.Goals as goal
 
 -- ---- FOR

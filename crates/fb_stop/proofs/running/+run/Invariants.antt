@@ -11,7 +11,7 @@ use Rattle.fb_st.specs.Flows.{point, all_of, choices_of, branches_of}
 use Rattle.fb_st.specs.Known.{AllKnown, ChoicesKnown, BranchesKnown}
 use Rattle.fb_stop.specs.Blamed.{RunsAll, RunsChoice, RunsBranch, Counts, Loop, holds_in}
 use Rattle.fb_stop.specs.Numbers.{next, after_choices, after_branches}
-use Rattle.fb_stop.proofs.Runs.{Leads, repeats, turn_in}
+use Rattle.fb_stop.proofs.lemmas.numbers.Runs.{Leads, repeats, turn_in}
 use Rattle.fb_stop.proofs.running.+run.Given as goal
 
 -- what the rest runs to from here, all runs to from the start

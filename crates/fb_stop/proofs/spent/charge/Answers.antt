@@ -1,4 +1,4 @@
-use Rattle.fb_stop.proofs.Spending.{charges}
+use Rattle.fb_stop.proofs.lemmas.runs.Spending.{charges}
 use Rattle.fb_stop.proofs.spent.charge.Goals as goal
 
 pub returns : goal.returns

@@ -4,10 +4,10 @@ use Rattle.fb_types.specs.Headline.{system_of, stimuli_of}
 use Rattle.fb_types.specs.declared.value.Reason.{Reason}
 use Rattle.fb_types.specs.Simulation.{opening}
 use Rattle.fb_net.specs.Events.{event_of}
-use Rattle.fb_sim_machine.proofs.AgendaIs.{all_falls, at_left, machine_left, takes_least}
-use Rattle.fb_sim_machine.proofs.Joined.{reaches_more, reaches_none}
+use Rattle.fb_sim_machine.proofs.lemmas.AgendaIs.{all_falls, at_left, machine_left, takes_least}
+use Rattle.fb_sim_machine.proofs.lemmas.JoinedRuns.{reaches_more, reaches_none}
 use Rattle.fb_stop.specs.Spent.{ChargesAll, HasSpent, is_of, used}
-use Rattle.fb_stop.proofs.Spending.{are_spent, charged_alike, charged_on}
+use Rattle.fb_stop.proofs.lemmas.runs.Spending.{are_spent, charged_alike, charged_on}
 use Rattle.fb_stop.proofs.spent.go_on.Goals as goal
 
 pub loop-moment-init : goal.loop-moment-init

@@ -4,7 +4,7 @@ use Rattle.fb_types.specs.Keys.{without}
 use Rattle.fb_types.specs.Takes.{agenda_after}
 use Rattle.fb_net.specs.Events.{event_of}
 use Rattle.fb_stop.specs.Spent.{Charges, ChargesEvent}
-use Rattle.fb_stop.proofs.Spending.{counts_at, has_spent, instance_there, left_as}
+use Rattle.fb_stop.proofs.lemmas.runs.Spending.{counts_at, has_spent, instance_there, left_as}
 use Rattle.fb_stop.proofs.spent.step.Goals as goal
 
 pub take_event-requires-clause-ready : goal.take_event-requires-clause-ready

@@ -11,10 +11,10 @@ use Rattle.fb_st.specs.Frames.{values_of}
 use Rattle.fb_stop.specs.Numbers.{after_all, after_branches, after_choices}
 use Rattle.fb_stop.specs.Statements.{IsInBranches, IsInChoices, IsInList, IsInStatement}
 use Rattle.fb_stop.specs.Statements as spec
-use Rattle.fb_stop.proofs.Missing.{branch_otherwise, case_otherwise, choice_otherwise, else_otherwise, if_otherwise, itself_otherwise, layer_for, layer_repeat, layer_while, leaf_otherwise, list_otherwise, list_passed, loop_otherwise, no_label_otherwise}
-use Rattle.fb_stop.proofs.Otherwise.{if_none_map}
-use Rattle.fb_stop.proofs.Placing.{all_more, all_taken, branches_more, choices_more, if_some_map, in_choice, in_else, in_label, in_no_label, in_this, of_case, of_if, of_itself, of_loop}
-use Rattle.fb_stop.proofs.Runs.{branch_counted, choice_counted}
+use Rattle.fb_stop.proofs.lemmas.numbers.Missing.{branch_otherwise, case_otherwise, choice_otherwise, else_otherwise, if_otherwise, itself_otherwise, layer_for, layer_repeat, layer_while, leaf_otherwise, list_otherwise, list_passed, loop_otherwise, no_label_otherwise}
+use Rattle.fb_stop.proofs.lemmas.operations.FirstWithoutValue.{if_none_map}
+use Rattle.fb_stop.proofs.lemmas.operations.OperationPlaces.{all_more, all_taken, branches_more, choices_more, if_some_map, in_choice, in_else, in_label, in_no_label, in_this, of_case, of_if, of_itself, of_loop}
+use Rattle.fb_stop.proofs.lemmas.numbers.Runs.{branch_counted, choice_counted}
 use Rattle.fb_stop.proofs.statement.+statement.Goals as goal
 
 pub in_statement-returns-then-number-at-clause-found : goal.in_statement-returns-then-number-at-clause-found

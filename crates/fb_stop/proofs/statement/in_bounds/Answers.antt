@@ -10,7 +10,7 @@ use Rattle.fb_stop.specs.Tokens.{past}
 use Rattle.fb_stop.specs.declared.statement.Anchor.{Anchor}
 use Rattle.fb_stop.specs.declared.statement.Anchor.TheVariants.{Beginning}
 use Rattle.fb_stop.specs.declared.statement.Placed.{Placed}
-use Rattle.fb_stop.proofs.Otherwise.{if_none_map}
+use Rattle.fb_stop.proofs.lemmas.operations.FirstWithoutValue.{if_none_map}
 use Rattle.fb_stop.proofs.statement.in_bounds.Goals as goal
 
 if_both : {A : Type 0} (P Q R : A → Type 0) (o : Option A) → ((a : A) → P a → Q a → R a) → IfSome o P → IfSome o Q → IfSome o R

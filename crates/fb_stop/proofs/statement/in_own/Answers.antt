@@ -6,9 +6,9 @@ use Rattle.fb_st.specs.Frames.{values_of}
 use Rattle.fb_stop.specs.Statements.{AreOtherwise}
 use Rattle.fb_stop.specs.Statements as spec
 use Rattle.fb_stop.specs.declared.statement.Anchor.TheVariants.{Beginning, Until}
-use Rattle.fb_stop.proofs.Missing.{layer_assign, layer_case, layer_for, layer_if, layer_repeat, layer_while, own_otherwise}
-use Rattle.fb_stop.proofs.Otherwise.{if_none_map}
-use Rattle.fb_stop.proofs.Placing.{own_of, own_of_if}
+use Rattle.fb_stop.proofs.lemmas.numbers.Missing.{layer_assign, layer_case, layer_for, layer_if, layer_repeat, layer_while, own_otherwise}
+use Rattle.fb_stop.proofs.lemmas.operations.FirstWithoutValue.{if_none_map}
+use Rattle.fb_stop.proofs.lemmas.operations.OperationPlaces.{own_of, own_of_if}
 use Rattle.fb_stop.proofs.statement.in_own.Goals as goal
 
 pub returns-in-Assign-clause-found : goal.returns-in-Assign-clause-found

@@ -1,6 +1,6 @@
 use Rattle.std.proofs.Common.{refl, ◌∙◌}
-use Rattle.fb_system.proofs.Standing.{declared_is, declared_there, got, none_got, none_last}
-use Rattle.fb_system.proofs.Wired.{parent_within}
+use Rattle.fb_system.proofs.lemmas.values.DeclaredInstances.{declared_is, declared_there, got, none_got, none_last}
+use Rattle.fb_system.proofs.lemmas.networks.Wired.{parent_within}
 use Rattle.fb_system.proofs.declared.declared_at.Goals as goal
 
 pub network_in-requires-clause-within : goal.network_in-requires-clause-within

@@ -4,7 +4,7 @@ use Rattle.fb_types.specs.Flat.{kind_of, network_of}
 use Rattle.fb_types.specs.declared.library.BlockType.{BlockType}
 use Rattle.fb_check_names.specs.Numbers.{kind_of_number}
 use Rattle.fb_check_names.specs.declared.numbers.TypeNumber.{TypeNumber}
-use Rattle.fb_system.proofs.Standing.{network_inside, network_outermost}
+use Rattle.fb_system.proofs.lemmas.values.DeclaredInstances.{network_inside, network_outermost}
 use Rattle.fb_system.proofs.declared.network_in.Goals as goal
 
 pub returns-in-None : goal.returns-in-None

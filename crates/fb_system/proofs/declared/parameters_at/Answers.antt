@@ -1,7 +1,7 @@
 use Rattle.std.proofs.Common.{ap}
 use Rattle.fb_check_names.specs.declared.numbers.NetworkNumbers.{NetworkNumbers}
-use Rattle.fb_system.proofs.Standing.{got, none_got, none_last, parameters_of_instance, parameters_there}
-use Rattle.fb_system.proofs.Wired.{parent_within}
+use Rattle.fb_system.proofs.lemmas.values.DeclaredInstances.{got, none_got, none_last, parameters_of_instance, parameters_there}
+use Rattle.fb_system.proofs.lemmas.networks.Wired.{parent_within}
 use Rattle.fb_system.proofs.declared.parameters_at.Goals as goal
 
 pub wiring_in-requires-clause-within : goal.wiring_in-requires-clause-within

@@ -2,7 +2,7 @@ use Rattle.std.proofs.Common.{◌≡◌, ℕ, ◌+◌, List, ◌++◌, ◌∷◌
 use Rattle.fb_system.specs.PortRows.{IsPortRowAt}
 use Rattle.fb_system.specs.RowRanges.{HasRows, Keeps}
 use Rattle.fb_system.specs.declared.port_row.PortRow.{PortRow}
-use Rattle.fb_system.proofs.InRanges.{keeps_push, rows_push}
+use Rattle.fb_system.proofs.lemmas.rows.InRanges.{keeps_push, rows_push}
 use Rattle.fb_system.proofs.ends_of.add_ports.Goals as goal
 
 pub loop-event-preserved : goal.loop-event-preserved

@@ -3,7 +3,7 @@ use Rattle.fb_types.specs.Headline.{system_of}
 use Rattle.fb_system.specs.Ends.{IsSourceRowAt}
 use Rattle.fb_system.specs.RowRanges.{HasRows, Keeps}
 use Rattle.fb_system.specs.declared.ends.SourceRow.{SourceRow}
-use Rattle.fb_system.proofs.InRanges.{keeps_push, rows_push}
+use Rattle.fb_system.proofs.lemmas.rows.InRanges.{keeps_push, rows_push}
 use Rattle.fb_system.proofs.ends_of.add_sources.Goals as goal
 
 pub loop-variable-preserved : goal.loop-variable-preserved

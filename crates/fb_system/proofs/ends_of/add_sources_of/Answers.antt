@@ -4,7 +4,7 @@ use Rattle.fb_types.specs.Headline.{system_of}
 use Rattle.fb_system.specs.Ends.{IsSourceRowAt}
 use Rattle.fb_system.specs.RowRanges.{AreInRanges}
 use Rattle.fb_system.specs.declared.row_ranges.RowRanges.{RowRanges}
-use Rattle.fb_system.proofs.InRanges.{capped, instance_in_ranges}
+use Rattle.fb_system.proofs.lemmas.rows.InRanges.{capped, instance_in_ranges}
 use Rattle.fb_system.proofs.ends_of.add_sources_of.Goals as goal
 
 pub returns : goal.returns

@@ -1,5 +1,5 @@
 use Rattle.std.proofs.Common.{◌∙◌, sym}
-use Rattle.fb_system.proofs.EventBlocks.{indexes_skip, indexes_take}
+use Rattle.fb_system.proofs.lemmas.types.EventBlocks.{indexes_skip, indexes_take}
 use Rattle.fb_system.proofs.event_block_with_indexes.indexes_with.Goals as goal
 use Rattle.fb_system.proofs.event_block_with_indexes.indexes_with.Goals.{then-is_with+in_ok-push, else-is_with}
 

@@ -1,4 +1,4 @@
-use Rattle.fb_system.proofs.EventBlocks.{each_more}
+use Rattle.fb_system.proofs.lemmas.types.EventBlocks.{each_more}
 use Rattle.fb_system.proofs.event_block_with_indexes.indexes_with_each.Goals as goal
 
 pub loop-event-preserved : goal.loop-event-preserved

@@ -1,5 +1,5 @@
 use Rattle.std.proofs.Common.{◌≡◌, ℕ, subst, arith}
-use Rattle.fb_system.proofs.EventBlocks.{AreFirst, first_next, first_all}
+use Rattle.fb_system.proofs.lemmas.types.EventBlocks.{AreFirst, first_next, first_all}
 use Rattle.fb_system.proofs.event_block_with_indexes.of_event_blocks.Goals as goal
 
 pub loop-kind-preserved : goal.loop-kind-preserved

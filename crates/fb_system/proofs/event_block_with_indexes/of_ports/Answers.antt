@@ -1,4 +1,4 @@
-use Rattle.fb_system.proofs.EventBlocks.{with_indexes_are}
+use Rattle.fb_system.proofs.lemmas.types.EventBlocks.{with_indexes_are}
 use Rattle.fb_system.proofs.event_block_with_indexes.of_ports.Goals as goal
 
 pub returns : goal.returns

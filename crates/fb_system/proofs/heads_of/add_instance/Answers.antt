@@ -5,7 +5,7 @@ use Rattle.fb_types.specs.Headline.{system_of}
 use Rattle.fb_system.specs.Heads.{IsRowAt}
 use Rattle.fb_system.specs.RowRanges.{AreInRanges}
 use Rattle.fb_system.specs.declared.row_ranges.RowRanges.{RowRanges}
-use Rattle.fb_system.proofs.InRanges.{capped, instance_in_ranges}
+use Rattle.fb_system.proofs.lemmas.rows.InRanges.{capped, instance_in_ranges}
 use Rattle.fb_system.proofs.heads_of.add_instance.Goals as goal
 
 pub overflow_cast-resource : goal.overflow_cast-resource

@@ -3,7 +3,7 @@ use Rattle.fb_types.specs.Headline.{system_of}
 use Rattle.fb_system.specs.Heads.{IsRowAt}
 use Rattle.fb_system.specs.RowRanges.{HasRows, Keeps}
 use Rattle.fb_system.specs.declared.heads.Head.{Head}
-use Rattle.fb_system.proofs.InRanges.{keeps_push, rows_push}
+use Rattle.fb_system.proofs.lemmas.rows.InRanges.{keeps_push, rows_push}
 use Rattle.fb_system.proofs.heads_of.add_rows.Goals as goal
 
 pub loop-event-preserved : goal.loop-event-preserved

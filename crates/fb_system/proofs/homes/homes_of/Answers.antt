@@ -5,7 +5,7 @@ use Rattle.fb_types.specs.Flat.{resource_of}
 use Rattle.fb_types.specs.declared.deploy.Plan.{Plan}
 use Rattle.fb_system.specs.Layouts.{path_of}
 use Rattle.fb_system.specs.Linking.{IsLinked}
-use Rattle.fb_system.proofs.Holding.{first_there, homes_next, resource_by_index}
+use Rattle.fb_system.proofs.lemmas.networks.HoldingResource.{first_there, homes_next, resource_by_index}
 use Rattle.fb_system.proofs.homes.homes_of.Goals as goal
 use Rattle.fb_system.proofs.homes.homes_of.Goals.{in-None, in-Some}
 

@@ -1,4 +1,4 @@
-use Rattle.fb_system.proofs.Holding.{HomesSoFar}
+use Rattle.fb_system.proofs.lemmas.networks.HoldingResource.{HomesSoFar}
 use Rattle.fb_system.proofs.homes.homes_of.Given as goal
 
 abbrev pub invariant-loop-instance : goal.invariant-loop-instance

@@ -1,5 +1,5 @@
 use Rattle.std.proofs.Common.{take, get_or, refl, arith}
-use Rattle.fb_system.proofs.Placing.{index_within, input_within, values_more}
+use Rattle.fb_system.proofs.lemmas.values.ParameterIndexes.{index_within, input_within, values_more}
 use Rattle.fb_system.proofs.initial_values.input_values.Goals as goal
 
 pub bounds-indexes-number : goal.bounds-indexes-number

@@ -4,7 +4,7 @@ use Rattle.fb_types.specs.declared.library.Ports.{Ports}
 use Rattle.fb_check_names.specs.declared.catalog.BlockIndexes.{BlockIndexes}
 use Rattle.fb_system.specs.Lookups.{IsIndexed}
 use Rattle.fb_system.specs.IndexLists.{AreWithIndexes}
-use Rattle.fb_system.proofs.Written.{blocks_more}
+use Rattle.fb_system.proofs.lemmas.types.BlockNames.{blocks_more}
 use Rattle.fb_system.proofs.interfaces.of_blocks.Goals as goal
 
 pub with_indexes-requires : goal.with_indexes-requires

@@ -4,7 +4,7 @@ use Rattle.fb_types.specs.declared.library.Network.{Network}
 use Rattle.fb_check_names.specs.declared.numbers.NetworkNumbers.{NetworkNumbers}
 use Rattle.fb_system.specs.declared.layout.Layer.{Layer as Laid}
 use Rattle.fb_system.specs.Layers.{layer, layer_inside, network_inside, Layer}
-use Rattle.fb_system.proofs.Steps.{instance_at, none_deep, first_laid, all_typed, room_inside, next_laid, below_none, below_some}
+use Rattle.fb_system.proofs.lemmas.rows.LayoutSteps.{instance_at, none_deep, first_laid, all_typed, room_inside, next_laid, below_none, below_some}
 use Rattle.fb_system.proofs.layout.+lay_out.Goals as goal
 use Rattle.fb_system.proofs.layout.+lay_out.Goals.{in-None, in-Some-network_inside+in_ok-inside-in-Some-network_inside}
 

@@ -1,6 +1,6 @@
 use Rattle.std.proofs.Common.{◌+◌, ◌-◌, length}
 use Rattle.fb_system.specs.Layers.{around, layer}
-use Rattle.fb_system.proofs.Steps.{AreLaid, left}
+use Rattle.fb_system.proofs.lemmas.rows.LayoutSteps.{AreLaid, left}
 use Rattle.fb_system.proofs.layout.+lay_out.Given as goal
 
 abbrev pub decreases-lay_out : goal.decreases-lay_out

@@ -1,5 +1,5 @@
 use Rattle.std.proofs.Common.{◌∙◌}
-use Rattle.fb_system.proofs.Laid.{fit_of, few_rows, layout_is}
+use Rattle.fb_system.proofs.lemmas.rows.LaidOut.{fit_of, few_rows, layout_is}
 use Rattle.fb_system.proofs.layout.layout_of.Goals as goal
 
 pub lay_out-requires : goal.lay_out-requires

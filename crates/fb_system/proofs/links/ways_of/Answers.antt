@@ -1,5 +1,5 @@
 use Rattle.std.proofs.Common.{refl}
-use Rattle.fb_system.proofs.Ways.{ways_more}
+use Rattle.fb_system.proofs.lemmas.networks.FirstLinks.{ways_more}
 use Rattle.fb_system.proofs.links.ways_of.Goals as goal
 
 pub loop-number-preserved : goal.loop-number-preserved

@@ -4,7 +4,7 @@ use Rattle.fb_types.specs.Counts.{IsNarrow}
 use Rattle.fb_types.specs.Flat.{kind_of}
 use Rattle.fb_types.specs.declared.library.BlockType.{BlockType}
 use Rattle.fb_types.specs.declared.library.Ports.{Ports}
-use Rattle.fb_types.proofs.LoopSteps.{all_next, all_of_taken}
+use Rattle.fb_types.proofs.lemmas.lists.LoopSteps.{all_next, all_of_taken}
 use Rattle.fb_system.proofs.making.bound_all.Goals as goal
 
 pub loop-block-preserved : goal.loop-block-preserved

@@ -1,4 +1,4 @@
-use Rattle.fb_system.proofs.Looking.{component_found, component_in_range}
+use Rattle.fb_system.proofs.lemmas.networks.EndLookups.{component_found, component_in_range}
 use Rattle.fb_system.proofs.tables.instance_at.Goals as goal
 
 pub returns-in-Some-default-clause-path : goal.returns-in-Some-default-clause-path

@@ -1,5 +1,5 @@
 use Rattle.std.proofs.Common.{◌∙◌}
-use Rattle.fb_system.proofs.Wired.{last_is}
+use Rattle.fb_system.proofs.lemmas.networks.Wired.{last_is}
 use Rattle.fb_system.proofs.tables.last_index.Goals as goal
 
 pub returns : goal.returns

@@ -1,4 +1,4 @@
-use Rattle.fb_system.proofs.Wired.{row_read}
+use Rattle.fb_system.proofs.lemmas.networks.Wired.{row_read}
 use Rattle.fb_system.proofs.tables.row_at.Goals as goal
 
 pub returns : goal.returns

@@ -2,7 +2,7 @@ use Rattle.std.proofs.Common.{Some, sym, ap, ◌∙◌}
 use Rattle.std.specs.Prelude.{option_map}
 use Rattle.fb_types.specs.Names.{Port}
 use Rattle.fb_system.specs.Netlists.{variable_of}
-use Rattle.fb_system.proofs.Looking.{composite_around, index_is, index_small, index_within, named_end, some_tested, source_end, source_none}
+use Rattle.fb_system.proofs.lemmas.networks.EndLookups.{composite_around, index_is, index_small, index_within, named_end, some_tested, source_end, source_none}
 use Rattle.fb_system.proofs.tables.source_in.Goals as goal
 
 pub returns-in_err-from-clause-comes : goal.returns-in_err-from-clause-comes

@@ -4,7 +4,7 @@ use Rattle.fb_types.specs.Names.{Port}
 use Rattle.fb_check_names.specs.declared.numbers.ConnectionEnd.{ConnectionEnd}
 use Rattle.fb_system.specs.Netlists.{port_of}
 use Rattle.fb_system.specs.declared.netlist_target.NetlistTarget.{NetlistTarget}
-use Rattle.fb_system.proofs.Looking.{composite_around, more_follow, named_end, none_tested, past_all, read_at, target_end, target_is, target_past, target_small, target_within, targets_counted}
+use Rattle.fb_system.proofs.lemmas.networks.EndLookups.{composite_around, more_follow, named_end, none_tested, past_all, read_at, target_end, target_is, target_past, target_small, target_within, targets_counted}
 use Rattle.fb_system.proofs.tables.target_in.Goals as goal
 
 pub returns-in_err-to-clause-leads : goal.returns-in_err-to-clause-leads

@@ -1,4 +1,4 @@
-use Rattle.fb_system.proofs.Wired.{top_found, inside_found}
+use Rattle.fb_system.proofs.lemmas.networks.Wired.{top_found, inside_found}
 use Rattle.fb_system.proofs.tables.wiring_in.Goals as goal
 
 pub returns-in-None : goal.returns-in-None

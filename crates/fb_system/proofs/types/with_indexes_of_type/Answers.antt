@@ -1,4 +1,4 @@
-use Rattle.fb_system.proofs.WithIndexesLaws.{declared_indexes}
+use Rattle.fb_system.proofs.lemmas.types.WithIndexesLaws.{declared_indexes}
 use Rattle.fb_system.proofs.types.with_indexes_of_type.Goals as goal
 
 pub returns-in-Declared : goal.returns-in-Declared

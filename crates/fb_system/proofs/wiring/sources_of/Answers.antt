@@ -1,4 +1,4 @@
-use Rattle.fb_system.proofs.Reading.{table_more}
+use Rattle.fb_system.proofs.lemmas.rows.WireTables.{table_more}
 use Rattle.fb_system.proofs.wiring.sources_of.Goals as goal
 
 pub loop-wire-preserved : goal.loop-wire-preserved

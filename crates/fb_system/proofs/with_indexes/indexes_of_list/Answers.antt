@@ -2,9 +2,9 @@ use Rattle.std.proofs.Common.{◌≡◌, ℕ, ◌+◌, ◌-◌, ◌++◌, ◌∷
 use Rattle.std.specs.List.{filter}
 use Rattle.std.proofs.lemmas.List.{take_all}
 use Rattle.fb_types.specs.Blocks.{among, variable_names}
-use Rattle.fb_types.proofs.LoopSteps.{map_take_more}
+use Rattle.fb_types.proofs.lemmas.lists.LoopSteps.{map_take_more}
 use Rattle.fb_system.specs.IndexLists.{AreIndexes}
-use Rattle.fb_system.proofs.Listed.{own_index, found_index, list_indexes}
+use Rattle.fb_system.proofs.lemmas.types.WithLists.{own_index, found_index, list_indexes}
 use Rattle.fb_system.proofs.with_indexes.indexes_of_list.Goals as goal
 
 pub unreachable-requires : goal.unreachable-requires

@@ -1,5 +1,5 @@
 use Rattle.std.proofs.Common.{◌≡◌, take, map}
-use Rattle.fb_system.proofs.Listed.{own_index}
+use Rattle.fb_system.proofs.lemmas.types.WithLists.{own_index}
 use Rattle.fb_system.proofs.with_indexes.indexes_of_list.Given as goal
 
 -- the indexes of the names so far, in the order of the list

@@ -5,8 +5,8 @@ use Rattle.fb_types.specs.Names.{Name}
 use Rattle.fb_types.specs.Blocks.{among, variable_names}
 use Rattle.fb_system.specs.IndexLists.{AreIndexes}
 use Rattle.fb_system.specs.Lookups.{IsList}
-use Rattle.fb_system.proofs.EventBlocks.{each_more}
-use Rattle.fb_system.proofs.Listed.{with_event}
+use Rattle.fb_system.proofs.lemmas.types.EventBlocks.{each_more}
+use Rattle.fb_system.proofs.lemmas.types.WithLists.{with_event}
 use Rattle.fb_system.proofs.with_indexes.indexes_of_lists.Goals as goal
 
 pub indexes_of_list-requires-clause-list : goal.indexes_of_list-requires-clause-list

@@ -1,4 +1,4 @@
-use Rattle.fb_system.proofs.EventBlocks.{with_indexes_are}
+use Rattle.fb_system.proofs.lemmas.types.EventBlocks.{with_indexes_are}
 use Rattle.fb_system.proofs.with_indexes.with_indexes.Goals as goal
 
 pub indexes_of_lists-requires-clause-stand : goal.indexes_of_lists-requires-clause-stand

@@ -1,5 +1,5 @@
 use Rattle.std.proofs.Common.{◌-◌, length, arith}
-use Rattle.fb_trace.proofs.Copies.{eight}
+use Rattle.fb_trace.proofs.lemmas.digits.CopiedBytes.{eight}
 use Rattle.fb_trace.proofs.copy.copy_eight.Goals as goal
 
 pub returns : goal.returns

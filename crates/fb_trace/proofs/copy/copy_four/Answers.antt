@@ -1,4 +1,4 @@
-use Rattle.fb_trace.proofs.Copies.{four}
+use Rattle.fb_trace.proofs.lemmas.digits.CopiedBytes.{four}
 use Rattle.fb_trace.proofs.copy.copy_four.Goals as goal
 
 pub returns : goal.returns

@@ -1,5 +1,5 @@
 use Rattle.std.proofs.Common.{[], ◌∷◌, decimal}
-use Rattle.fb_trace.proofs.Steps.{Puts-more, Fails-first, Fails-after, Gathers-after, Gathers-passed}
+use Rattle.fb_trace.proofs.lemmas.lines.PutPieces.{Puts-more, Fails-first, Fails-after, Gathers-after, Gathers-passed}
 use Rattle.fb_trace.proofs.last.put_horizon.Goals as goal
 
 pub returns-in_err-put : goal.returns-in_err-put

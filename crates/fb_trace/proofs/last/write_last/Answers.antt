@@ -1,4 +1,4 @@
-use Rattle.fb_trace.proofs.Ends.{part_flushed, part_passed, whole_flushed}
+use Rattle.fb_trace.proofs.lemmas.lines.WriterEnds.{part_flushed, part_passed, whole_flushed}
 use Rattle.fb_trace.proofs.last.write_last.Goals as goal
 
 pub returns-clause-whole : goal.returns-clause-whole

@@ -4,7 +4,7 @@ use Rattle.fb_types.specs.Text.{value_text}
 use Rattle.fb_types.specs.declared.value.Value.{Value}
 use Rattle.fb_system.specs.Heads.{head_text}
 use Rattle.fb_trace.specs.Starts.{first_value, head_of_line}
-use Rattle.fb_trace.proofs.Starts.{by_head_alone}
+use Rattle.fb_trace.proofs.lemmas.lines.LineStarts.{by_head_alone}
 use Rattle.fb_trace.proofs.lines.append_line.Goals as goal
 
 -- the text of a value that is alone

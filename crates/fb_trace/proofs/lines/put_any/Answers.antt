@@ -1,7 +1,7 @@
 use Rattle.fb_types.specs.Headline.{system_of}
 use Rattle.fb_types.specs.Numbers.{line_of}
-use Rattle.fb_trace.proofs.Starts.{with_key}
-use Rattle.fb_trace.proofs.Steps.{Fails-before, Gathers-after, Gathers-passed}
+use Rattle.fb_trace.proofs.lemmas.lines.LineStarts.{with_key}
+use Rattle.fb_trace.proofs.lemmas.lines.PutPieces.{Fails-before, Gathers-after, Gathers-passed}
 use Rattle.fb_trace.proofs.lines.put_any.Goals as goal
 
 pub returns-in_err-put_key : goal.returns-in_err-put_key

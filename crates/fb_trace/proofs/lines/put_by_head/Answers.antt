@@ -3,8 +3,8 @@ use Rattle.fb_types.specs.Headline.{system_of}
 use Rattle.fb_system.specs.Heads.{head_text}
 use Rattle.fb_trace.specs.Progress.{Puts}
 use Rattle.fb_trace.specs.Starts.{first_value, head_of_line}
-use Rattle.fb_trace.proofs.Starts.{by_head}
-use Rattle.fb_trace.proofs.Steps.{Fails-after, Fails-before, Gathers-passed, Puts-appended, Puts-more}
+use Rattle.fb_trace.proofs.lemmas.lines.LineStarts.{by_head}
+use Rattle.fb_trace.proofs.lemmas.lines.PutPieces.{Fails-after, Fails-before, Gathers-passed, Puts-appended, Puts-more}
 use Rattle.fb_trace.proofs.lines.put_by_head.Given as given
 use Rattle.fb_trace.proofs.lines.put_by_head.Goals as goal
 use Rattle.fb_trace.proofs.lines.put_by_head.Goals.{After-append_start}

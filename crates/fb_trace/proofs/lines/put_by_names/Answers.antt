@@ -4,8 +4,8 @@ use Rattle.fb_types.specs.Headline.{system_of}
 use Rattle.fb_types.specs.Numbers.{line_of}
 use Rattle.fb_types.specs.declared.run.Form.TheVariants.{One}
 use Rattle.fb_trace.specs.Progress.{Puts}
-use Rattle.fb_trace.proofs.LineParts.{after_event, after_values, until_event}
-use Rattle.fb_trace.proofs.Steps.{Fails-after, Fails-before, Fails-first, Gathers-passed, Puts-appended, Puts-more}
+use Rattle.fb_trace.proofs.lemmas.lines.LineParts.{after_event, after_values, until_event}
+use Rattle.fb_trace.proofs.lemmas.lines.PutPieces.{Fails-after, Fails-before, Fails-first, Gathers-passed, Puts-appended, Puts-more}
 use Rattle.fb_trace.proofs.lines.put_by_names.Given as given
 use Rattle.fb_trace.proofs.lines.put_by_names.Goals as goal
 use Rattle.fb_trace.proofs.lines.put_by_names.Goals.{In_ok-put_head}

@@ -4,8 +4,8 @@ use Rattle.fb_types.specs.Numbers.{line_of}
 use Rattle.fb_types.specs.Text.{lines_text}
 use Rattle.fb_trace.specs.Page.{Page}
 use Rattle.fb_trace.specs.Progress.{Puts, Fails}
-use Rattle.fb_trace.proofs.Steps.{Puts-appended, Puts-more, Fails-before, Fails-after, Gathers-passed}
-use Rattle.fb_trace.proofs.Texts.{lines_text-more, lines_text-parts}
+use Rattle.fb_trace.proofs.lemmas.lines.PutPieces.{Puts-appended, Puts-more, Fails-before, Fails-after, Gathers-passed}
+use Rattle.fb_trace.proofs.lemmas.lines.Texts.{lines_text-more, lines_text-parts}
 use Rattle.fb_trace.proofs.lines.put_lines.Goals as goal
 
 -- the page is as it was

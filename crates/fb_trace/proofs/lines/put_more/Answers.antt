@@ -6,8 +6,8 @@ use Rattle.fb_types.specs.Numbers.{line_of}
 use Rattle.fb_types.specs.Text.{values_text}
 use Rattle.fb_system.specs.IndexLists.{variable_at}
 use Rattle.fb_trace.specs.Progress.{Fails, Gathers, Puts}
-use Rattle.fb_trace.proofs.Starts.{others_counted, others_sliced}
-use Rattle.fb_trace.proofs.Steps.{Gathers-after, Gathers-passed}
+use Rattle.fb_trace.proofs.lemmas.lines.LineStarts.{others_counted, others_sliced}
+use Rattle.fb_trace.proofs.lemmas.lines.PutPieces.{Gathers-after, Gathers-passed}
 use Rattle.fb_trace.proofs.lines.put_more.Goals as goal
 
 pub put_values-requires-clause-counted : goal.put_values-requires-clause-counted

@@ -4,8 +4,8 @@ use Rattle.fb_types.specs.Numbers.{line_of}
 use Rattle.fb_types.specs.Text.{values_text}
 use Rattle.fb_system.specs.Lines.{line_variables}
 use Rattle.fb_trace.specs.Progress.{Puts}
-use Rattle.fb_trace.proofs.Starts.{no_others}
-use Rattle.fb_trace.proofs.Steps.{Puts-none}
+use Rattle.fb_trace.proofs.lemmas.lines.LineStarts.{no_others}
+use Rattle.fb_trace.proofs.lemmas.lines.PutPieces.{Puts-none}
 use Rattle.fb_trace.proofs.lines.put_others.Goals as goal
 
 pub returns-then-as_slice-le1-clause-text : goal.returns-then-as_slice-le1-clause-text

@@ -1,6 +1,6 @@
 use Rattle.std.proofs.Common.{append-nil}
-use Rattle.fb_trace.proofs.Ends.{all_got, part_passed}
-use Rattle.fb_trace.proofs.Steps.{Fails-after}
+use Rattle.fb_trace.proofs.lemmas.lines.WriterEnds.{all_got, part_passed}
+use Rattle.fb_trace.proofs.lemmas.lines.PutPieces.{Fails-after}
 use Rattle.fb_trace.proofs.lines.write_lines_with_count.Goals as goal
 
 pub returns-clause-whole : goal.returns-clause-whole

@@ -5,9 +5,9 @@ use Rattle.fb_types.specs.Numbers.{line_of}
 use Rattle.fb_types.specs.Text.{lines_text}
 use Rattle.fb_types.specs.declared.run.Line.{Line}
 use Rattle.fb_trace.specs.Fronts.{joint}
-use Rattle.fb_trace.proofs.Ends.{part_flushed, part_passed, whole_flushed}
-use Rattle.fb_trace.proofs.Steps.{Puts-more, Fails-before, Fails-after}
-use Rattle.fb_trace.proofs.Texts.{parts_text-more, parts_text-parts}
+use Rattle.fb_trace.proofs.lemmas.lines.WriterEnds.{part_flushed, part_passed, whole_flushed}
+use Rattle.fb_trace.proofs.lemmas.lines.PutPieces.{Puts-more, Fails-before, Fails-after}
+use Rattle.fb_trace.proofs.lemmas.lines.Texts.{parts_text-more, parts_text-parts}
 use Rattle.fb_trace.proofs.lines.write_parts.Goals as goal
 
 pub loop-part-preserved : goal.loop-part-preserved

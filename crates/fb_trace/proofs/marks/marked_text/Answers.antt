@@ -5,7 +5,7 @@ use Rattle.fb_types.specs.declared.run.Line.{Line}
 use Rattle.fb_system.specs.Lines.{BelongsTo}
 use Rattle.fb_trace.specs.Marks.{IsRun}
 use Rattle.fb_trace.specs.declared.marks.Mark.{Mark}
-use Rattle.fb_trace.proofs.MarkedRuns.{is_marked_more}
+use Rattle.fb_trace.proofs.lemmas.lines.MarkedRuns.{is_marked_more}
 use Rattle.fb_trace.proofs.marks.marked_text.Goals as goal
 
 -- one run more

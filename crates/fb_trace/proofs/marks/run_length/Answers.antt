@@ -1,7 +1,7 @@
 use Rattle.std.proofs.Common.{◌≡◌, ℕ, List, [], ◌∷◌, ◌++◌, get_or, take, sym, subst, arith}
 use Rattle.std.proofs.lemmas.List.{take_more}
 use Rattle.fb_types.specs.declared.run.Line.{Line}
-use Rattle.fb_types.proofs.EachLaws.{each_append}
+use Rattle.fb_types.proofs.lemmas.lists.EachLaws.{each_append}
 use Rattle.fb_trace.specs.Marks.{IsRun}
 use Rattle.fb_trace.specs.Merging.{tick_of}
 use Rattle.fb_trace.proofs.marks.run_length.Goals as goal

@@ -1,6 +1,6 @@
 use Rattle.std.proofs.Common.{◌<◌, [], map, length, sym, ap, ◌∙◌, subst}
 use Rattle.fb_trace.specs.Fronts.{IsLeast, all_late, joint, present}
-use Rattle.fb_trace.proofs.Taking.{IsTaken, begin, further, fewer, none_left, end_merged, end_kept, one_merged, one_kept}
+use Rattle.fb_trace.proofs.lemmas.order.EarlyLines.{IsTaken, begin, further, fewer, none_left, end_merged, end_kept, one_merged, one_kept}
 use Rattle.fb_trace.proofs.merging.gathered.Goals as goal
 
 pub returns-in-Some-clause-merged : goal.returns-in-Some-clause-merged

@@ -1,6 +1,6 @@
 use Rattle.std.proofs.Common.{length, map}
 use Rattle.fb_trace.specs.Fronts.{IsLeast, joint}
-use Rattle.fb_trace.proofs.Taking.{IsTaken}
+use Rattle.fb_trace.proofs.lemmas.order.EarlyLines.{IsTaken}
 use Rattle.fb_trace.proofs.merging.gathered.Given as goal
 
 abbrev pub invariant-loop-next : goal.invariant-loop-next

@@ -1,7 +1,7 @@
 use Rattle.std.proofs.Common.{◌≡◌, ◌++◌, [], sym, ap, ◌∙◌, arith}
 use Rattle.std.proofs.lemmas.Bool.{eqb-true}
 use Rattle.std.proofs.lemmas.List.{nil_from_length}
-use Rattle.fb_trace.proofs.Together.{flat_snoc}
+use Rattle.fb_trace.proofs.lemmas.order.StableSort.{flat_snoc}
 use Rattle.fb_trace.proofs.merging.joined.Goals as goal
 
 pub loop-list-preserved-then-is_empty : goal.loop-list-preserved-then-is_empty

@@ -1,7 +1,7 @@
 use Rattle.std.proofs.Common.{◌≡◌, ◌+◌, ◌++◌, [], ◌∷◌, map, take, sym, ap, ◌∙◌, subst}
 use Rattle.std.proofs.lemmas.List.{map_push, take_more}
 use Rattle.fb_trace.specs.Fronts.{IsLeast, lesser}
-use Rattle.fb_trace.proofs.Taking.{least_more}
+use Rattle.fb_trace.proofs.lemmas.order.EarlyLines.{least_more}
 use Rattle.fb_trace.proofs.merging.least_tick.Goals as goal
 
 pub loop-list-preserved : goal.loop-list-preserved

@@ -3,7 +3,7 @@ use Rattle.std.specs.Prelude.{vec_len}
 use Rattle.std.proofs.lemmas.Bool.{eqb-true, eqb-false}
 use Rattle.std.proofs.lemmas.List.{map_push, nil_from_length}
 use Rattle.fb_trace.specs.Fronts.{present}
-use Rattle.fb_trace.proofs.Taking.{present_kept, present_passed}
+use Rattle.fb_trace.proofs.lemmas.order.EarlyLines.{present_kept, present_passed}
 use Rattle.fb_trace.proofs.merging.queues.Goals as goal
 
 pub loop-list-preserved-in-Continue-1 : goal.loop-list-preserved-in-Continue-1

@@ -1,8 +1,8 @@
 use Rattle.std.proofs.Common.{rules, filter, ap, ◌∙◌, subst, IsPermutation}
 use Rattle.std.proofs.lemmas.List.Sorted.{answers_always, IsNonDecreasingBy-from_sort}
 use Rattle.fb_trace.specs.Merging.{tick_of}
-use Rattle.fb_trace.proofs.Sorting.{rises_of, tie}
-use Rattle.fb_trace.proofs.Together.{merged}
+use Rattle.fb_trace.proofs.lemmas.order.Sorting.{rises_of, tie}
+use Rattle.fb_trace.proofs.lemmas.order.StableSort.{merged}
 use Rattle.fb_trace.proofs.merging.sorted.Goals as goal
 
 pub returns-clause-merged : goal.returns-clause-merged

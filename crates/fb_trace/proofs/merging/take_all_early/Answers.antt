@@ -2,7 +2,7 @@ use Rattle.std.proofs.Common.{◌≡◌, ◌++◌, [], ◌∷◌, map, length, s
 use Rattle.std.proofs.lemmas.Bool.{eqb-true, eqb-false}
 use Rattle.std.proofs.lemmas.List.{map_push, nil_from_length}
 use Rattle.fb_trace.specs.Fronts.{early, late, all_early, all_late}
-use Rattle.fb_trace.proofs.Taking.{early_more, late_kept, late_passed}
+use Rattle.fb_trace.proofs.lemmas.order.EarlyLines.{early_more, late_kept, late_passed}
 use Rattle.fb_trace.proofs.merging.take_all_early.Goals as goal
 
 pub loop-list-preserved-in-Continue-branch-3 : goal.loop-list-preserved-in-Continue-branch-3

@@ -1,5 +1,5 @@
 use Rattle.std.proofs.Common.{arith}
-use Rattle.fb_trace.proofs.Digits.{Follow-none, Follow-room, Follow-more, Follow-all}
+use Rattle.fb_trace.proofs.lemmas.digits.Digits.{Follow-none, Follow-room, Follow-more, Follow-all}
 use Rattle.fb_trace.proofs.number.write_digits.Goals as goal
 
 pub loop-high-init : goal.loop-high-init

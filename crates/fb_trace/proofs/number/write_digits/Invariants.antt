@@ -1,4 +1,4 @@
-use Rattle.fb_trace.proofs.Digits.{Follow}
+use Rattle.fb_trace.proofs.lemmas.digits.Digits.{Follow}
 use Rattle.fb_trace.proofs.number.write_digits.Given as goal
 
 abbrev pub invariant-loop-high : goal.invariant-loop-high

@@ -1,5 +1,5 @@
 use Rattle.std.proofs.Common.{arith}
-use Rattle.fb_trace.proofs.Steps.{Fails-direct}
+use Rattle.fb_trace.proofs.lemmas.lines.PutPieces.{Fails-direct}
 use Rattle.fb_trace.proofs.page.write_all.Goals as goal
 
 pub returns-then-taken-bytes-clause-part : goal.returns-then-taken-bytes-clause-part

@@ -1,4 +1,4 @@
-use Rattle.fb_trace.proofs.Steps.{Puts-appended, Puts-more}
+use Rattle.fb_trace.proofs.lemmas.lines.PutPieces.{Puts-appended, Puts-more}
 use Rattle.fb_trace.proofs.pieces.append_binding.Goals as goal
 
 pub returns : goal.returns

@@ -1,6 +1,6 @@
 use Rattle.std.proofs.Common.{codes, decimal, unsigned_abs, to_z-of_z}
-use Rattle.fb_trace.proofs.Signs.{value_text-negative, value_text-other}
-use Rattle.fb_trace.proofs.Steps.{appended-more}
+use Rattle.fb_trace.proofs.lemmas.digits.Signs.{value_text-negative, value_text-other}
+use Rattle.fb_trace.proofs.lemmas.lines.PutPieces.{appended-more}
 use Rattle.fb_trace.proofs.pieces.append_whole.Goals as goal
 use Rattle.fb_trace.proofs.pieces.append_whole.Goals.{then-number-lt0, else-number-lt0}
 

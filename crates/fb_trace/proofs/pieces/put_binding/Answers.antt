@@ -1,4 +1,4 @@
-use Rattle.fb_trace.proofs.Steps.{Fails-before, Gathers-passed, Puts-more}
+use Rattle.fb_trace.proofs.lemmas.lines.PutPieces.{Fails-before, Gathers-passed, Puts-more}
 use Rattle.fb_trace.proofs.pieces.put_binding.Goals as goal
 
 pub returns-in_err-make_room : goal.returns-in_err-make_room

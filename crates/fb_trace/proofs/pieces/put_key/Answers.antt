@@ -1,5 +1,5 @@
 use Rattle.std.proofs.Common.{decimal, ◌++◌, codes, append_assoc}
-use Rattle.fb_trace.proofs.Steps.{Puts-none, Puts-more, Fails-before, Fails-after, Gathers-after, Gathers-passed}
+use Rattle.fb_trace.proofs.lemmas.lines.PutPieces.{Puts-none, Puts-more, Fails-before, Fails-after, Gathers-after, Gathers-passed}
 use Rattle.fb_trace.proofs.pieces.put_key.Goals as goal
 
 pub returns-in_err-put_part-in-Two : goal.returns-in_err-put_part-in-Two

@@ -1,6 +1,6 @@
 use Rattle.std.proofs.Common.{[], ◌∷◌, codes}
 use Rattle.fb_types.specs.Text.{value_text}
-use Rattle.fb_trace.proofs.Steps.{Fails-after, Fails-before, Fails-first, Gathers-passed, Puts-appended, Puts-more}
+use Rattle.fb_trace.proofs.lemmas.lines.PutPieces.{Fails-after, Fails-before, Fails-first, Gathers-passed, Puts-appended, Puts-more}
 use Rattle.fb_trace.proofs.pieces.put_long_binding.Goals as goal
 
 pub returns-in_err-put : goal.returns-in_err-put

@@ -1,5 +1,5 @@
 use Rattle.std.proofs.Common.{List, ℕ, Bool, [], ◌∷◌, codes, if◌then◌else◌}
-use Rattle.fb_trace.proofs.Steps.{Fails-after, Fails-before, Fails-first, Gathers-after, Gathers-passed, Puts-appended, Puts-more}
+use Rattle.fb_trace.proofs.lemmas.lines.PutPieces.{Fails-after, Fails-before, Fails-first, Gathers-after, Gathers-passed, Puts-appended, Puts-more}
 use Rattle.fb_trace.proofs.pieces.put_long_head.Goals as goal
 
 abbrev sign : Bool → List ℕ

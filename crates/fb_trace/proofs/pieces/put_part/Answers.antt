@@ -1,4 +1,4 @@
-use Rattle.fb_trace.proofs.Steps.{Fails-before, Gathers-after, Gathers-passed}
+use Rattle.fb_trace.proofs.lemmas.lines.PutPieces.{Fails-before, Gathers-after, Gathers-passed}
 use Rattle.fb_trace.proofs.pieces.put_part.Goals as goal
 
 pub returns-in_err-put_number : goal.returns-in_err-put_number

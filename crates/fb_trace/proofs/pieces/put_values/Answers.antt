@@ -5,8 +5,8 @@ use Rattle.fb_types.specs.Numbers.{pair_up}
 use Rattle.fb_types.specs.Text.{values_text}
 use Rattle.fb_types.specs.declared.library.Variable.{Variable}
 use Rattle.fb_system.specs.IndexLists.{variable_at}
-use Rattle.fb_trace.proofs.Steps.{Puts-more, Fails-before, Fails-after, Gathers-passed}
-use Rattle.fb_trace.proofs.Values.{binding_text, values_text-more, values_text-parts, length-pair_up}
+use Rattle.fb_trace.proofs.lemmas.lines.PutPieces.{Puts-more, Fails-before, Fails-after, Gathers-passed}
+use Rattle.fb_trace.proofs.lemmas.lines.Values.{binding_text, values_text-more, values_text-parts, length-pair_up}
 use Rattle.fb_trace.proofs.pieces.put_values.Given as given
 use Rattle.fb_trace.proofs.pieces.put_values.Goals as goal
 use Rattle.fb_trace.proofs.pieces.put_values.Goals.{In-Some}

@@ -1,6 +1,6 @@
 use Rattle.std.proofs.Common.{◌++◌, codes, decimal, take}
 use Rattle.fb_trace.specs.Starts.{first_value}
-use Rattle.fb_trace.proofs.Steps.{appended-more}
+use Rattle.fb_trace.proofs.lemmas.lines.PutPieces.{appended-more}
 use Rattle.fb_trace.proofs.start.append_start.Goals as goal
 
 pub returns-clause-text : goal.returns-clause-text

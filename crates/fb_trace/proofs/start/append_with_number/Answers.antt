@@ -1,5 +1,5 @@
 use Rattle.std.proofs.Common.{◌≡◌, ◌++◌, ◌∷◌, [], codes, decimal, take}
-use Rattle.fb_trace.proofs.Steps.{appended-more}
+use Rattle.fb_trace.proofs.lemmas.lines.PutPieces.{appended-more}
 use Rattle.fb_trace.proofs.start.append_with_number.Goals as goal
 
 pub returns : goal.returns

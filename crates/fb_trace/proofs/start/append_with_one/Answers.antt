@@ -1,7 +1,7 @@
 use Rattle.std.proofs.Common.{◌≡◌, ◌++◌, ◌∷◌, [], codes, decimal, take, rules, arith}
 use Rattle.std.proofs.lemmas.Grind.{common_steps}
 use Rattle.fb_types.specs.Text.{value_text}
-use Rattle.fb_trace.proofs.Steps.{appended-more}
+use Rattle.fb_trace.proofs.lemmas.lines.PutPieces.{appended-more}
 use Rattle.fb_trace.proofs.start.append_with_one.Goals as goal
 
 pub returns-in-Some : goal.returns-in-Some

@@ -1,4 +1,4 @@
-use Rattle.fb_types.proofs.Rows.{row_stands}
+use Rattle.fb_types.proofs.lemmas.events.KindRows.{row_stands}
 use Rattle.fb_types.proofs.event_kind.row_in.Goals as goal
 
 pub returns : goal.returns

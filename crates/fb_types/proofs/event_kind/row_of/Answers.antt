@@ -1,4 +1,4 @@
-use Rattle.fb_types.proofs.AllKinds.{kinds_stand}
+use Rattle.fb_types.proofs.lemmas.events.AllKinds.{kinds_stand}
 use Rattle.fb_types.proofs.event_kind.row_of.Goals as goal
 
 pub row_in-requires : goal.row_in-requires

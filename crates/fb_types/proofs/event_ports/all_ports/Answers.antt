@@ -1,5 +1,5 @@
 use Rattle.std.proofs.Common.{arith}
-use Rattle.fb_types.proofs.AllKinds.{ports_next, ports_all}
+use Rattle.fb_types.proofs.lemmas.events.AllKinds.{ports_next, ports_all}
 use Rattle.fb_types.proofs.event_ports.all_ports.Goals as goal
 
 pub loop-kind-preserved : goal.loop-kind-preserved

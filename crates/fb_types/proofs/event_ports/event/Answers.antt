@@ -2,7 +2,7 @@ use Rattle.std.proofs.Common.{◌∙◌, Bor, ap, map}
 use Rattle.std.proofs.lemmas.List.{take_all}
 use Rattle.fb_types.specs.Blocks.{event_with}
 use Rattle.fb_types.specs.Names.{Name}
-use Rattle.fb_types.proofs.LoopSteps.{mapped_next}
+use Rattle.fb_types.proofs.lemmas.lists.LoopSteps.{mapped_next}
 use Rattle.fb_types.proofs.event_ports.event.Goals as goal
 
 pub loop-variable-preserved : goal.loop-variable-preserved

@@ -1,6 +1,6 @@
 use Rattle.std.proofs.Common.{ap, ◌∙◌}
 use Rattle.fb_types.specs.declared.library.Ports.{Ports}
-use Rattle.fb_types.proofs.RowTypes.{type_past, type_within}
+use Rattle.fb_types.proofs.lemmas.events.RowTypes.{type_past, type_within}
 use Rattle.fb_types.proofs.event_ports.event_block_output.Goals as goal
 
 pub returns-in_err-get : goal.returns-in_err-get

@@ -1,7 +1,7 @@
 use Rattle.std.proofs.Common.{◌≡◌, ◌<◌, ◌^◌, List, length, subst, sym, ap, ◌∙◌}
 use Rattle.fb_types.specs.Blocks.{ports}
 use Rattle.fb_types.specs.declared.library.Ports.{Ports}
-use Rattle.fb_types.proofs.EventCounts.{event_block_narrow}
+use Rattle.fb_types.proofs.lemmas.events.EventCounts.{event_block_narrow}
 use Rattle.fb_types.proofs.event_ports.ports_of.Goals as goal
 
 -- a list that is one of few elements

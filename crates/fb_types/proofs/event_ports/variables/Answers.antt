@@ -4,7 +4,7 @@ use Rattle.fb_types.specs.Blocks.{variable}
 use Rattle.fb_types.specs.EventRows.{variable_of}
 use Rattle.fb_types.specs.Names.{Name}
 use Rattle.fb_types.specs.declared.value.Ty.{Ty}
-use Rattle.fb_types.proofs.LoopSteps.{mapped_next}
+use Rattle.fb_types.proofs.lemmas.lists.LoopSteps.{mapped_next}
 use Rattle.fb_types.proofs.event_ports.variables.Goals as goal
 
 variable_named : (n m : Name) (t : Ty) → n ≡ m → variable n t ≡ variable m t

@@ -1,4 +1,4 @@
-use Rattle.fb_types.proofs.SimulationLaws.{one-simulation}
+use Rattle.fb_types.proofs.lemmas.determined.SimulationLaws.{one-simulation}
 use Rattle.fb_types.proofs.laws.one_simulation.Goals as goal
 
 pub returns : goal.returns

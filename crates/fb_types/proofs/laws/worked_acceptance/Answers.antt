@@ -1,4 +1,4 @@
-use Rattle.fb_types.proofs.ExamplesAccepted.{accepted-examples}
+use Rattle.fb_types.proofs.lemmas.examples.ExamplesAccepted.{accepted-examples}
 use Rattle.fb_types.proofs.laws.worked_acceptance.Goals as goal
 
 pub returns : goal.returns

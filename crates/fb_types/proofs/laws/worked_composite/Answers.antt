@@ -1,4 +1,4 @@
-use Rattle.fb_types.proofs.Twice.{twice-trace}
+use Rattle.fb_types.proofs.lemmas.examples.Twice.{twice-trace}
 use Rattle.fb_types.proofs.laws.worked_composite.Goals as goal
 
 pub returns : goal.returns

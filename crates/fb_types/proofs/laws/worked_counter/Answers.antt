@@ -1,4 +1,4 @@
-use Rattle.fb_types.proofs.Counter.{counter-trace}
+use Rattle.fb_types.proofs.lemmas.examples.Counter.{counter-trace}
 use Rattle.fb_types.proofs.laws.worked_counter.Goals as goal
 
 pub returns : goal.returns

@@ -1,5 +1,5 @@
-use Rattle.fb_types.proofs.Calc.{counting-stops, counting-trace}
-use Rattle.fb_types.proofs.Runs.{counts-in-five, stops-in-four}
+use Rattle.fb_types.proofs.lemmas.examples.Calc.{counting-stops, counting-trace}
+use Rattle.fb_types.proofs.lemmas.examples.Runs.{counts-in-five, stops-in-four}
 use Rattle.fb_types.proofs.laws.worked_counting_loop.Goals as goal
 
 pub returns : goal.returns

@@ -1,4 +1,4 @@
-use Rattle.fb_types.proofs.Cycle.{cycle-trace}
+use Rattle.fb_types.proofs.lemmas.examples.Cycle.{cycle-trace}
 use Rattle.fb_types.proofs.laws.worked_cycle.Goals as goal
 
 pub returns : goal.returns

@@ -1,6 +1,6 @@
-use Rattle.fb_types.proofs.Delay.{delay-trace}
-use Rattle.fb_types.proofs.ShortDelay.{short-delay-trace}
-use Rattle.fb_types.proofs.StoppedDelay.{stopped-delay-trace}
+use Rattle.fb_types.proofs.lemmas.examples.Delay.{delay-trace}
+use Rattle.fb_types.proofs.lemmas.examples.ShortDelay.{short-delay-trace}
+use Rattle.fb_types.proofs.lemmas.examples.StoppedDelay.{stopped-delay-trace}
 use Rattle.fb_types.proofs.laws.worked_delay.Goals as goal
 
 pub returns : goal.returns

@@ -1,4 +1,4 @@
-use Rattle.fb_types.proofs.Calc.{divide-trace, range-trace}
+use Rattle.fb_types.proofs.lemmas.examples.Calc.{divide-trace, range-trace}
 use Rattle.fb_types.proofs.laws.worked_faults.Goals as goal
 
 pub returns : goal.returns

@@ -1,4 +1,4 @@
-use Rattle.fb_types.proofs.HeldCopy.{held-copy-trace}
+use Rattle.fb_types.proofs.lemmas.examples.HeldCopy.{held-copy-trace}
 use Rattle.fb_types.proofs.laws.worked_held_copy.Goals as goal
 
 pub returns : goal.returns

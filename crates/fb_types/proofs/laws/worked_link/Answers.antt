@@ -1,4 +1,4 @@
-use Rattle.fb_types.proofs.LinkLaws.{link-trace}
+use Rattle.fb_types.proofs.lemmas.examples.LinkedEvent.{link-trace}
 use Rattle.fb_types.proofs.laws.worked_link.Goals as goal
 
 pub returns : goal.returns

@@ -1,5 +1,5 @@
-use Rattle.fb_types.proofs.Looper.{looper-trace}
-use Rattle.fb_types.proofs.Runs.{emits-four-times}
+use Rattle.fb_types.proofs.lemmas.examples.Looper.{looper-trace}
+use Rattle.fb_types.proofs.lemmas.examples.Runs.{emits-four-times}
 use Rattle.fb_types.proofs.laws.worked_looper.Goals as goal
 
 pub returns : goal.returns

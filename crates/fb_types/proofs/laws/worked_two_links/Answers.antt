@@ -1,4 +1,4 @@
-use Rattle.fb_types.proofs.TwoLinks.{two-links-trace}
+use Rattle.fb_types.proofs.lemmas.examples.TwoLinks.{two-links-trace}
 use Rattle.fb_types.proofs.laws.worked_two_links.Goals as goal
 
 pub returns : goal.returns

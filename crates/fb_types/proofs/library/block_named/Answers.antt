@@ -4,7 +4,7 @@ use Rattle.std.proofs.lemmas.List.{at_drop_all}
 use Rattle.fb_types.specs.Flat.{type_name}
 use Rattle.fb_types.specs.Names.{same_name}
 use Rattle.fb_types.specs.declared.library.BlockType.{BlockType}
-use Rattle.fb_types.proofs.LoopSteps.{found_here, found_later}
+use Rattle.fb_types.proofs.lemmas.lists.LoopSteps.{found_here, found_later}
 use Rattle.fb_types.proofs.library.block_named.Goals as goal
 
 pub returns-then-is : goal.returns-then-is

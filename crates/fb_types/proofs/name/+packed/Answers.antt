@@ -1,7 +1,7 @@
 use Rattle.std.proofs.Common.{◌≡◌, ◌≤◌, ◌<◌, ◌*◌, ◌-◌, ◌^◌, ℕ, List, length, take, drop, get_or, arith}
 use Rattle.std.proofs.lemmas.Grind.{common_steps}
 use Rattle.fb_types.specs.Words.{packed, digit}
-use Rattle.fb_types.proofs.Words.{packed-fits, digit-most}
+use Rattle.fb_types.proofs.lemmas.names.NameNumbers.{packed-fits, digit-most}
 use Rattle.fb_types.proofs.name.+packed.Goals as goal
 
 pub overflow_mul-result : goal.overflow_mul-result

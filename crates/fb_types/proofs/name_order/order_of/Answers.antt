@@ -1,7 +1,7 @@
 use Rattle.std.proofs.Common.{sym, ◌∙◌, ap}
 use Rattle.std.proofs.lemmas.Cmp.{tied_itself}
 use Rattle.fb_types.specs.NameOrder.{name_cmp, name_cmp_total}
-use Rattle.fb_types.proofs.Words.{is_the_name}
+use Rattle.fb_types.proofs.lemmas.names.NameNumbers.{is_the_name}
 use Rattle.fb_types.proofs.name_order.order_of.Goals as goal
 
 pub returns-then-word-ne0 : goal.returns-then-word-ne0

@@ -1,7 +1,7 @@
 use Rattle.std.proofs.Common.{◌≡◌, Option, None, false, subst, true, arith}
 use Rattle.std.specs.Prelude.{IsTrue}
 use Rattle.std.specs.Option.{is_some}
-use Rattle.fb_read.proofs.PlaceLaws.{inside}
+use Rattle.fb_read.proofs.lemmas.tokens.PlaceLaws.{inside}
 use Rattle.fb_read_positions.specs.Places.{IsWithin}
 use Rattle.fb_read_positions.specs.declared.places.Place.{Place}
 use Rattle.fb_why.proofs.find.shown.Goals as goal

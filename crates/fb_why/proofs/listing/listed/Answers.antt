@@ -1,6 +1,6 @@
 use Rattle.std.proofs.Common.{◌≡◌, min, length, map, take, ap, ◌∙◌, arith}
 use Rattle.std.proofs.lemmas.List.{take_all, take_min}
-use Rattle.fb_types.proofs.LoopSteps.{mapped_next}
+use Rattle.fb_types.proofs.lemmas.lists.LoopSteps.{mapped_next}
 use Rattle.fb_check.specs.declared.location.Location.{Location}
 use Rattle.fb_why.specs.declared.location.FindingLocation.TheVariants.{Check}
 use Rattle.fb_why.specs.Positions.{position_of}

@@ -5,12 +5,12 @@ use Rattle.fb_types.specs.Headline.{system_of}
 use Rattle.fb_types.specs.Parts.{count_of}
 use Rattle.fb_types.specs.Systems.{System}
 use Rattle.fb_laws.specs.Sound.{IsSound}
-use Rattle.fb_laws.proofs.Accepting.{sound_of}
+use Rattle.fb_laws.proofs.lemmas.soundness.Accepting.{sound_of}
 use Rattle.fb_link.specs.Arrivals.{IsEarliest}
 use Rattle.fb_laws.specs.Cuts.{IsCut, LinkAllows}
-use Rattle.fb_window.proofs.Bounding.{AreCut, cuts_first, cuts_here, cuts_past}
-use Rattle.fb_window.proofs.LinkLemmas.{inside}
-use Rattle.fb_window.proofs.Passes.{clock_of, stop_of, Rests}
+use Rattle.fb_window.proofs.lemmas.bounds.Bounding.{AreCut, cuts_first, cuts_here, cuts_past}
+use Rattle.fb_window.proofs.lemmas.messages.LinkLemmas.{inside}
+use Rattle.fb_window.proofs.lemmas.phases.Passes.{clock_of, stop_of, Rests}
 use Rattle.fb_window.proofs.bounds.arrivals.Goals as goal
 use Rattle.fb_window.proofs.bounds.arrivals.Goals.{then-floor-top, else-floor-top}
 

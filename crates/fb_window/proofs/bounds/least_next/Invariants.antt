@@ -1,4 +1,4 @@
-use Rattle.fb_window.proofs.Passes.{IsLeastOf}
+use Rattle.fb_window.proofs.lemmas.phases.Passes.{IsLeastOf}
 use Rattle.fb_window.proofs.bounds.least_next.Given as goal
 
 abbrev pub invariant-loop-resource : goal.invariant-loop-resource

@@ -5,7 +5,7 @@ use Rattle.fb_types.specs.declared.run.Line.{Line}
 use Rattle.fb_laws.specs.Finality.{until}
 use Rattle.fb_trace.specs.Merging.{Rises, tick_of}
 use Rattle.fb_window.specs.Frontiers.{edge_of}
-use Rattle.fb_window.proofs.Walks.{split_point, take_none, drop_none_off, take_whole, drop_whole}
+use Rattle.fb_window.proofs.lemmas.lines.FoundLines.{split_point, take_none, drop_none_off, take_whole, drop_whole}
 use Rattle.fb_window.proofs.cut.cut.Goals as goal
 
 -- what a count of the lines of a slice says of the list that it is of

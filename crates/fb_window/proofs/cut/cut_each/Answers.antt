@@ -2,9 +2,9 @@ use Rattle.std.proofs.Common.{◌≡◌, ◌++◌, ℕ, [], ◌∷◌, length, r
 use Rattle.std.specs.Vec.Iter.{into_iter_items}
 use Rattle.fb_laws.specs.Finality.{until}
 use Rattle.fb_window.specs.Frontiers.{IsSplit, edge_of}
-use Rattle.fb_window.proofs.Leaves.{length_join}
-use Rattle.fb_laws.proofs.Indexes.{middle_at, push_counted}
-use Rattle.fb_window.proofs.Walks.{AreCutTo, cut_every, cut_more}
+use Rattle.fb_window.proofs.lemmas.phases.Leaves.{length_join}
+use Rattle.fb_laws.proofs.lemmas.lists.Indexes.{middle_at, push_counted}
+use Rattle.fb_window.proofs.lemmas.lines.FoundLines.{AreCutTo, cut_every, cut_more}
 use Rattle.fb_window.proofs.cut.cut_each.Goals as goal
 
 pub loop-lines-preserved : goal.loop-lines-preserved

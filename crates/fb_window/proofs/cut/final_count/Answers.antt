@@ -4,7 +4,7 @@ use Rattle.std.proofs.lemmas.List.{get_or_default}
 use Rattle.std.proofs.lemmas.List.Sorted.{IsPartitionPoint-from_clause}
 use Rattle.fb_laws.specs.Finality.{until}
 use Rattle.fb_window.specs.Frontiers.{edge_of}
-use Rattle.fb_window.proofs.Walks.{parted}
+use Rattle.fb_window.proofs.lemmas.lines.FoundLines.{parted}
 use Rattle.fb_window.proofs.cut.final_count.Goals as goal
 
 pub returns-clause-point : goal.returns-clause-point

@@ -1,6 +1,6 @@
 use Rattle.std.proofs.Common.{◌≡◌, ◌<◌, Some}
 use Rattle.fb_types.specs.declared.run.StopMark.{StopMark}
-use Rattle.fb_window.proofs.Walks.{FirstOf}
+use Rattle.fb_window.proofs.lemmas.lines.FoundLines.{FirstOf}
 use Rattle.fb_window.proofs.ends.first_stop.Given as goal
 
 abbrev pub invariant-loop-index : goal.invariant-loop-index

@@ -3,7 +3,7 @@ use Rattle.std.specs.Prelude.{is_some, slice_get}
 use Rattle.std.proofs.lemmas.Option.{slice_get_read}
 use Rattle.fb_window.specs.Frontiers.{IsFrontierTo, edge_of, floor_at}
 use Rattle.fb_window.specs.declared.frontier.Frontier.{Frontier}
-use Rattle.fb_window.proofs.Walks.{frontier_new, frontier_old}
+use Rattle.fb_window.proofs.lemmas.lines.FoundLines.{frontier_new, frontier_old}
 use Rattle.fb_window.proofs.frontier.frontier_of.Goals as goal
 use Rattle.fb_window.proofs.frontier.frontier_of.Goals.{then-index-eq0, then-index-eq0-via-then-index-eq0, then-index-eq0-via-else-index-eq0+then-tick-at, else-index-eq0+else-tick-at}
 

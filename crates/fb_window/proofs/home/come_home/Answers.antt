@@ -8,7 +8,7 @@ use Rattle.fb_window.specs.Homes.{AreAwaited, IsHomeTo}
 use Rattle.fb_window.specs.Jobs.{Does, jobs_of}
 use Rattle.fb_window.specs.Texts.{HasLines}
 use Rattle.fb_window.specs.declared.home.Home.{Home}
-use Rattle.fb_window.proofs.HomeIs.{home_none}
+use Rattle.fb_window.proofs.lemmas.phases.HomeIs.{home_none}
 use Rattle.fb_window.proofs.home.come_home.Goals as goal
 
 pub admit_all-admitted-requires : goal.admit_all-admitted-requires

@@ -1,6 +1,6 @@
 use Rattle.std.proofs.Common.{◌≡◌, ◌++◌, ◌∙◌, [], ap, sym, vec_len}
 use Rattle.std.proofs.lemmas.Bool.{eqb-true}
-use Rattle.fb_window.proofs.Walks.{no_length}
+use Rattle.fb_window.proofs.lemmas.lines.FoundLines.{no_length}
 use Rattle.fb_window.proofs.home.keep.Goals as goal
 
 pub returns-then-is_empty : goal.returns-then-is_empty

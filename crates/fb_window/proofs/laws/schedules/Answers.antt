@@ -1,6 +1,6 @@
 use Rattle.fb_types.specs.Headline.{system_of, stimuli_of}
-use Rattle.fb_laws.proofs.Accepting.{sound_of}
-use Rattle.fb_laws.proofs.AllSchedules.{states_law, messages_law, end_law, stop_law, final_law, phases_law}
+use Rattle.fb_laws.proofs.lemmas.soundness.Accepting.{sound_of}
+use Rattle.fb_laws.proofs.lemmas.schedules.AllSchedules.{states_law, messages_law, end_law, stop_law, final_law, phases_law}
 use Rattle.fb_window.proofs.laws.schedules.Goals as goal
 
 pub returns : goal.returns

@@ -4,7 +4,7 @@ use Rattle.fb_types.specs.Headline.{system_of}
 use Rattle.fb_types.specs.declared.latency.Entry.{Entry}
 use Rattle.fb_window.specs.LinkRows.{AreRowsOf, IsLink}
 use Rattle.fb_window.specs.declared.links.LinkRow.{LinkRow}
-use Rattle.fb_window.proofs.LinkLemmas.{rows_more}
+use Rattle.fb_window.proofs.lemmas.messages.LinkLemmas.{rows_more}
 use Rattle.fb_window.proofs.links.copy_all.Goals as goal
 
 pub loop-link-preserved : goal.loop-link-preserved

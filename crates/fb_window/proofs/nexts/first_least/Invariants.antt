@@ -1,4 +1,4 @@
-use Rattle.fb_window.proofs.Noting.{IsLeastTick}
+use Rattle.fb_window.proofs.lemmas.bounds.NextTicks.{IsLeastTick}
 use Rattle.fb_window.proofs.nexts.first_least.Given as goal
 
 abbrev pub invariant-loop-index : goal.invariant-loop-index

@@ -2,8 +2,8 @@ use Rattle.std.proofs.Common.{Bor, List, [], length, refl}
 use Rattle.clap.specs.Words.{Text}
 use Rattle.fbsim_command.specs.Covering.{AreStopped}
 use Rattle.fbsim_command.specs.declared.failure.Failure.TheVariants.{Memory}
-use Rattle.fbsim_command.proofs.Gleaning.{gone-all, gone-more-of, stops-at-of}
-use Rattle.fbsim_command.proofs.Holding.{passed-on}
+use Rattle.fbsim_command.proofs.lemmas.calls.CoverageCalls.{gone-all, gone-more-of, stops-at-of}
+use Rattle.fbsim_command.proofs.lemmas.rules.HeldRules.{passed-on}
 use Rattle.fbsim_command.proofs.coverage.cover_all.Goals as goal
 
 pub returns-in_err-of-clause-stopped : goal.returns-in_err-of-clause-stopped

@@ -1,6 +1,6 @@
 use Rattle.std.proofs.Common.{map, option_map, string_bytes, take}
 use Rattle.fbsim_command.specs.Covering.{GoThrough, NotesTrace}
-use Rattle.fbsim_command.proofs.Gleaning.{now}
+use Rattle.fbsim_command.proofs.lemmas.calls.CoverageCalls.{now}
 use Rattle.fbsim_command.proofs.coverage.cover_all.Given as goal
 
 -- the first traces are gone through

@@ -1,6 +1,6 @@
 use Rattle.std.proofs.Common.{◌≡◌, rules, string_bytes}
 use Rattle.fbsim_command.specs.Covering.{note_front}
-use Rattle.fbsim_command.proofs.Gleaning.{trace-noted}
+use Rattle.fbsim_command.proofs.lemmas.calls.CoverageCalls.{trace-noted}
 use Rattle.fbsim_command.proofs.coverage.note_of_refusal.Goals as goal
 
 pub returns : goal.returns

@@ -1,5 +1,5 @@
 use Rattle.std.proofs.Common.{string_bytes}
-use Rattle.fbsim_command.proofs.Gleaning.{rest-noted}
+use Rattle.fbsim_command.proofs.lemmas.calls.CoverageCalls.{rest-noted}
 use Rattle.fbsim_command.proofs.coverage.note_of_unread.Goals as goal
 
 pub returns : goal.returns

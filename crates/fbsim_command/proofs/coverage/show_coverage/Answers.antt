@@ -5,7 +5,7 @@ use Rattle.fbsim_command.specs.Notes.{IsFileNote, Notes, NotesOf}
 use Rattle.fbsim_line.specs.declared.line.Task.{Task}
 use Rattle.fbsim_command.specs.Reading.{AreRead, IsUnread}
 use Rattle.fbsim_command.specs.Texts.{given_of, lines_of}
-use Rattle.fbsim_command.proofs.Gleaning.{noted-trace, reported-failure}
+use Rattle.fbsim_command.proofs.lemmas.calls.CoverageCalls.{noted-trace, reported-failure}
 use Rattle.fbsim_command.proofs.coverage.show_coverage.Goals as goal
 
 pub returns-in-Err : goal.returns-in-Err

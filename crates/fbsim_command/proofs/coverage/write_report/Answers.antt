@@ -1,4 +1,4 @@
-use Rattle.fbsim_command.proofs.Gleaning.{may-stop, refused, reported, unreported, unwritten, written}
+use Rattle.fbsim_command.proofs.lemmas.calls.CoverageCalls.{may-stop, refused, reported, unreported, unwritten, written}
 use Rattle.fbsim_command.proofs.coverage.write_report.Goals as goal
 
 pub returns-in_err-system-clause-written : goal.returns-in_err-system-clause-written

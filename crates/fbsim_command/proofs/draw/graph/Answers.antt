@@ -1,6 +1,6 @@
 use Rattle.std.proofs.Common.{Bor, List, ℕ, Option, option_map, ap, sym, ◌∙◌}
 use Rattle.fb_inputs.specs.Words.{name}
-use Rattle.fbsim_command.proofs.Drawing.{named, unnamed, whole}
+use Rattle.fbsim_command.proofs.lemmas.calls.Drawing.{named, unnamed, whole}
 use Rattle.fbsim_command.proofs.draw.graph.Goals as goal
 
 abbrev text_of : Option (Bor (List ℕ)) → Option (List ℕ)

@@ -8,8 +8,8 @@ use Rattle.fbsim_command.specs.Known.{has_names}
 use Rattle.fbsim_command.specs.Texts.{given_of}
 use Rattle.fbsim_command.specs.declared.failure.Failure.TheVariants.{Refused}
 use Rattle.fbsim_command.specs.declared.failure.RefusalLine.TheVariants.{Numbered}
-use Rattle.fbsim_command.proofs.Holding.{passed-on}
-use Rattle.fbsim_command.proofs.Naming.{alone, named, refused-inputs, refused-rules, unnamed}
+use Rattle.fbsim_command.proofs.lemmas.rules.HeldRules.{passed-on}
+use Rattle.fbsim_command.proofs.lemmas.rules.RuleNames.{alone, named, refused-inputs, refused-rules, unnamed}
 use Rattle.fbsim_command.proofs.expect.checked_rules.Goals as goal
 
 pub returns-in_err-rules-clause-refused : goal.returns-in_err-rules-clause-refused

@@ -1,5 +1,5 @@
 use Rattle.std.proofs.Common.{inl, inr, option_map, string_bytes}
-use Rattle.fbsim_command.proofs.Parting.{unopened}
+use Rattle.fbsim_command.proofs.lemmas.calls.DifferenceCalls.{unopened}
 use Rattle.fbsim_command.proofs.expect.diff.Goals as goal
 
 pub returns-in-Err : goal.returns-in-Err

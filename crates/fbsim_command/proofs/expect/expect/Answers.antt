@@ -3,7 +3,7 @@ use Rattle.clap.specs.Words.{Text}
 use Rattle.fbsim_command.specs.Expecting.{Holds, NotesRules, own_of, types_of}
 use Rattle.fbsim_command.specs.OwnLines.{EndsIn}
 use Rattle.fbsim_command.specs.Texts.{given_of, may_lines_of}
-use Rattle.fbsim_command.proofs.Declaring.{read-and-held, unread}
+use Rattle.fbsim_command.proofs.lemmas.rules.Declaring.{read-and-held, unread}
 use Rattle.fbsim_command.proofs.expect.expect.Goals as goal
 
 pub returns-in-Err : goal.returns-in-Err

@@ -2,8 +2,8 @@ use Rattle.std.proofs.Common.{List, option_map, subst}
 use Rattle.fb_expect.specs.declared.rule.Rule.{Rule}
 use Rattle.fbsim_command.specs.Expecting.{AreUnheld, Reports}
 use Rattle.fbsim_command.specs.Texts.{given_of}
-use Rattle.fbsim_command.proofs.Holding.{held-passed, met, unheld, unmet, unwritten}
-use Rattle.fbsim_command.proofs.Naming.{held-none}
+use Rattle.fbsim_command.proofs.lemmas.rules.HeldRules.{held-passed, met, unheld, unmet, unwritten}
+use Rattle.fbsim_command.proofs.lemmas.rules.RuleNames.{held-none}
 use Rattle.fbsim_command.proofs.expect.hold_rules.Goals as goal
 
 pub returns-in_err-rules : goal.returns-in_err-rules

@@ -1,6 +1,6 @@
 use Rattle.fbsim_command.specs.Expecting.{IsUnheld}
 use Rattle.fbsim_command.specs.declared.failure.Failure.TheVariants.{Memory}
-use Rattle.fbsim_command.proofs.Holding.{passed-on, put-one}
+use Rattle.fbsim_command.proofs.lemmas.rules.HeldRules.{passed-on, put-one}
 use Rattle.fbsim_command.proofs.expect.put_one.Goals as goal
 
 pub returns-in_err-judged-clause-unheld : goal.returns-in_err-judged-clause-unheld

@@ -1,7 +1,7 @@
 use Rattle.std.proofs.Common.{◌++◌, ◌*◌, ◌∙◌, Bool, ap, if◌then◌else◌, length, sym}
 use Rattle.fb_expect.specs.Reports.{points}
 use Rattle.fb_expect.specs.Suites.{suite}
-use Rattle.fbsim_command.proofs.Holding.{put-points, put-suite}
+use Rattle.fbsim_command.proofs.lemmas.rules.HeldRules.{put-points, put-suite}
 use Rattle.fbsim_command.proofs.expect.put_part.Goals as goal
 
 pub returns-then-expect : goal.returns-then-expect

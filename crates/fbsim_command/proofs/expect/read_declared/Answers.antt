@@ -1,5 +1,5 @@
 use Rattle.fbsim_command.specs.Texts.{given_of, lines_of}
-use Rattle.fbsim_command.proofs.Declaring.{declares, declares-none, undeclared}
+use Rattle.fbsim_command.proofs.lemmas.rules.Declaring.{declares, declares-none, undeclared}
 use Rattle.fbsim_command.proofs.expect.read_declared.Goals as goal
 
 pub returns-in_default-clause-read : goal.returns-in_default-clause-read

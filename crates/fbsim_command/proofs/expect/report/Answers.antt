@@ -1,6 +1,6 @@
 use Rattle.fbsim_command.specs.Expecting.{AreUnheld}
 use Rattle.fbsim_command.specs.declared.failure.Failure.TheVariants.{Memory}
-use Rattle.fbsim_command.proofs.Holding.{passed-on, rules_reported}
+use Rattle.fbsim_command.proofs.lemmas.rules.HeldRules.{passed-on, rules_reported}
 use Rattle.fbsim_command.proofs.expect.report.Goals as goal
 
 pub returns-in_err-text-clause-unheld : goal.returns-in_err-text-clause-unheld

@@ -2,7 +2,7 @@ use Rattle.std.proofs.Common.{arith, ◌≡◌, ◌∙◌, ◌<◌, ◌≤◌, �
 use Rattle.std.proofs.lemmas.List.{length-take, take-append-le}
 use Rattle.std.specs.Io.KnownBytes.{Consumes}
 use Rattle.std.proofs.KnownBytes.{Consumes-kept, Consumes-nil, Consumes-trans}
-use Rattle.fbsim_command.proofs.Fronts.{front_ended, front_full}
+use Rattle.fbsim_command.proofs.lemmas.files.FirstBytes.{front_ended, front_full}
 use Rattle.fbsim_command.proofs.files.read_most.Goals.{in-Ok+in-Ok-extend_from_slice, in-Err}
 use Rattle.fbsim_command.proofs.files.read_most.Goals as goal
 

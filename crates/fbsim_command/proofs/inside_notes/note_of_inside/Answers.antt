@@ -1,5 +1,5 @@
 use Rattle.std.proofs.Common.{string_bytes}
-use Rattle.fbsim_command.proofs.Inspecting.{says_line}
+use Rattle.fbsim_command.proofs.lemmas.calls.Inspecting.{says_line}
 use Rattle.fbsim_command.proofs.inside_notes.note_of_inside.Goals as goal
 
 pub returns : goal.returns

@@ -8,7 +8,7 @@ use Rattle.fb_inspect.specs.declared.filter.EventFilter.{EventFilter}
 use Rattle.fb_inspect.proofs.lemmas.walk.Ended.{front_none}
 use Rattle.fb_wave.specs.declared.truncation.Cut.{Cut}
 use Rattle.fbsim_command.specs.Inspecting.{cut_of, selection_of, upper}
-use Rattle.fbsim_command.proofs.Inspecting.{no_refusal, on_err_any, wrong_so}
+use Rattle.fbsim_command.proofs.lemmas.calls.Inspecting.{no_refusal, on_err_any, wrong_so}
 use Rattle.fb_inspect.specs.Refusals.{IsWrongAt}
 use Rattle.fb_inspect.specs.walk.Looks.{most}
 use Rattle.fb_wave.specs.Named.{HasNames}

@@ -6,7 +6,7 @@ use Rattle.fb_types.specs.Headline.{system_of}
 use Rattle.fb_inspect.specs.Inspections.{IsShownBy, ShowsFront}
 use Rattle.fbsim_command.specs.Inspecting.{Inspects, cut_of, selection_of}
 use Rattle.fbsim_command.specs.declared.failure.Failure.{Failure}
-use Rattle.fbsim_command.proofs.Inspecting.{inspects_front, inspects_none, line_noted_inside, none_noted_inside}
+use Rattle.fbsim_command.proofs.lemmas.calls.Inspecting.{inspects_front, inspects_none, line_noted_inside, none_noted_inside}
 use Rattle.fbsim_command.proofs.inspect.write_inspected.Goals as goal
 
 pub returns-in-Err-clause-inspected : goal.returns-in-Err-clause-inspected

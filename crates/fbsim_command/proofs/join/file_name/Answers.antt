@@ -1,4 +1,4 @@
-use Rattle.fbsim_command.proofs.FileNames.{named_here}
+use Rattle.fbsim_command.proofs.lemmas.files.FileNames.{named_here}
 use Rattle.fbsim_command.proofs.join.file_name.Goals as goal
 
 pub returns-then-file-types : goal.returns-then-file-types

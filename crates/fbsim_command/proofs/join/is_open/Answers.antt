@@ -1,7 +1,7 @@
 use Rattle.std.proofs.Common.{rules, ◌≡◌, ◌+◌, drop, get_or, sym, ap, ◌∙◌}
 use Rattle.fbsim_command.specs.Joining.{beyond, byte_at, is_open_from}
 use Rattle.fbsim_command.specs.declared.join.Within.{Within}
-use Rattle.fbsim_command.proofs.OpenLaws.{open-end, open-turn}
+use Rattle.fbsim_command.proofs.lemmas.files.OpenLaws.{open-end, open-turn}
 use Rattle.fbsim_command.proofs.join.is_open.Goals as goal
 
 pub loop-i-preserved : goal.loop-i-preserved

@@ -1,6 +1,6 @@
 use Rattle.std.proofs.Common.{◌∙◌, ap}
 use Rattle.fb_read.specs.Tokens.{after_mark}
-use Rattle.fbsim_command.proofs.OpenLaws.{joined-all, joined-more}
+use Rattle.fbsim_command.proofs.lemmas.files.OpenLaws.{joined-all, joined-more}
 use Rattle.fbsim_command.proofs.join.join_behind.Goals as goal
 
 pub loop-text-preserved : goal.loop-text-preserved

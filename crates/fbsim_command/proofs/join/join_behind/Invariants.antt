@@ -1,4 +1,4 @@
-use Rattle.fbsim_command.proofs.OpenLaws.{IsJoinedTo}
+use Rattle.fbsim_command.proofs.lemmas.files.OpenLaws.{IsJoinedTo}
 use Rattle.fbsim_command.proofs.join.join_behind.Given as goal
 
 abbrev pub invariant-loop-text : goal.invariant-loop-text

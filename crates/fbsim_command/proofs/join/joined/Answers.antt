@@ -1,5 +1,5 @@
 use Rattle.std.proofs.Common.{rules, ◌≡◌, []}
-use Rattle.fbsim_command.proofs.OpenLaws.{joined-first, joined-none}
+use Rattle.fbsim_command.proofs.lemmas.files.OpenLaws.{joined-first, joined-none}
 use Rattle.fbsim_command.proofs.join.joined.Goals as goal
 
 pub returns-in-Some : goal.returns-in-Some

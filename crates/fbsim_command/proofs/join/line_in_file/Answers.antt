@@ -1,5 +1,5 @@
 use Rattle.std.proofs.Common.{rules, inr}
-use Rattle.fbsim_command.proofs.LinesLaws.{left-more, left-none}
+use Rattle.fbsim_command.proofs.lemmas.files.LinesLaws.{left-more, left-none}
 use Rattle.fbsim_command.proofs.join.line_in_file.Goals as goal
 
 pub loop-i-preserved : goal.loop-i-preserved

@@ -1,4 +1,4 @@
-use Rattle.fbsim_command.proofs.LinesLaws.{AreLeft}
+use Rattle.fbsim_command.proofs.lemmas.files.LinesLaws.{AreLeft}
 use Rattle.fbsim_command.proofs.join.line_in_file.Given as goal
 
 abbrev pub invariant-loop-i : goal.invariant-loop-i

@@ -1,7 +1,7 @@
 use Rattle.std.proofs.Common.{◌∙◌, sym, ap, length, List, ℕ, nat_lt}
 use Rattle.fb_read.specs.Whole.{most_bytes}
 use Rattle.fbsim_command.specs.Texts.{texts_of}
-use Rattle.fbsim_command.proofs.OpenLaws.{text-long, text-ok}
+use Rattle.fbsim_command.proofs.lemmas.files.OpenLaws.{text-long, text-ok}
 use Rattle.fbsim_command.proofs.join.text_of.Goals as goal
 
 pub returns-then-is_too_long : goal.returns-then-is_too_long

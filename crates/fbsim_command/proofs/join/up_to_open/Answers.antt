@@ -1,6 +1,6 @@
 use Rattle.std.proofs.Common.{◌≡◌, true, false, sym, ap, ◌∙◌}
 use Rattle.fbsim_command.specs.Joining.{is_open}
-use Rattle.fbsim_command.proofs.OpenLaws.{passed-all, passed-more, passed-open}
+use Rattle.fbsim_command.proofs.lemmas.files.OpenLaws.{passed-all, passed-more, passed-open}
 use Rattle.fbsim_command.proofs.join.up_to_open.Goals as goal
 
 pub returns-then-is_open : goal.returns-then-is_open

@@ -1,4 +1,4 @@
-use Rattle.fbsim_command.proofs.OpenLaws.{ArePassed}
+use Rattle.fbsim_command.proofs.lemmas.files.OpenLaws.{ArePassed}
 use Rattle.fbsim_command.proofs.join.up_to_open.Given as goal
 
 abbrev pub invariant-loop-i : goal.invariant-loop-i

@@ -3,7 +3,7 @@ use Rattle.fb_types.specs.Headline.{system_of}
 use Rattle.fb_types.specs.declared.library.EventPort.{EventPort}
 use Rattle.fb_types.specs.declared.library.Ports.{Ports}
 use Rattle.fbsim_command.specs.Known.{events_of, numbered}
-use Rattle.fbsim_command.proofs.Anywhere.{event-there}
+use Rattle.fbsim_command.proofs.lemmas.rules.SomeNumber.{event-there}
 use Rattle.fbsim_command.proofs.known.any_event.Goals as goal
 
 pub returns-then-branch : goal.returns-then-branch

@@ -6,7 +6,7 @@ use Rattle.fb_types.specs.declared.library.Ports.{Ports}
 use Rattle.fb_wave.proofs.lemmas.Bounds.{resource_named}
 use Rattle.fbsim_command.specs.Known.{events_of, variables_of}
 use Rattle.fbsim_command.specs.OfSystem.{event_there}
-use Rattle.fbsim_command.proofs.Anywhere.{of-there}
+use Rattle.fbsim_command.proofs.lemmas.rules.SomeNumber.{of-there}
 use Rattle.fbsim_command.proofs.known.is_of.Goals as goal
 
 pub event_name-requires : goal.event_name-requires

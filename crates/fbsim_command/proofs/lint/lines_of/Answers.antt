@@ -1,6 +1,6 @@
 use Rattle.fbsim_command.specs.Outcomes.{IsUndeclared}
-use Rattle.fbsim_command.proofs.Holding.{passed-on}
-use Rattle.fbsim_command.proofs.Warning.{undeclared}
+use Rattle.fbsim_command.proofs.lemmas.rules.HeldRules.{passed-on}
+use Rattle.fbsim_command.proofs.lemmas.calls.Warning.{undeclared}
 use Rattle.fbsim_command.proofs.lint.lines_of.Goals as goal
 
 pub returns-in_err-system-clause-refused : goal.returns-in_err-system-clause-refused

@@ -3,7 +3,7 @@ use Rattle.fb_stop.specs.Found.{Finds}
 use Rattle.fb_stop.specs.declared.found.FoundStop.{FoundStop}
 use Rattle.fbsim_command.specs.Stops.{IsStopPlace}
 use Rattle.fbsim_command.specs.Texts.{given_of, lines_of}
-use Rattle.fbsim_command.proofs.Located.{noted_at, noted_run}
+use Rattle.fbsim_command.proofs.lemmas.notes.Located.{noted_at, noted_run}
 use Rattle.fbsim_command.proofs.located_stop.note_in.Goals as goal
 
 pub returns : goal.returns

@@ -1,7 +1,7 @@
 use Rattle.std.proofs.Common.{Option, IfSome, subst}
 use Rattle.fb_stop.specs.Shown.{IsStopShown}
 use Rattle.fb_stop.specs.declared.shown.Shown.{Shown}
-use Rattle.fbsim_command.proofs.Located.{operated, placed}
+use Rattle.fbsim_command.proofs.lemmas.notes.Located.{operated, placed}
 use Rattle.fbsim_command.proofs.located_stop.place_of.Goals as goal
 
 pub returns-then-is_some : goal.returns-then-is_some

@@ -1,7 +1,7 @@
 use Rattle.std.proofs.Common.{Some, None, string_bytes}
 use Rattle.fbsim_command.specs.InputNotes.{names_of, types_in}
 use Rattle.fbsim_command.specs.Texts.{given_of, lines_of}
-use Rattle.fbsim_command.proofs.Noting.{noted-by}
+use Rattle.fbsim_command.proofs.lemmas.notes.Noting.{noted-by}
 use Rattle.fbsim_command.proofs.notes.note_of_finding.Goals as goal
 
 pub returns-in-Some : goal.returns-in-Some

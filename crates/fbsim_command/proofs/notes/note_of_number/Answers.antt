@@ -4,7 +4,7 @@ use Rattle.fb_why.specs.Listings.{AreFound}
 use Rattle.fb_why.specs.Places.{IsPlacedFinding}
 use Rattle.fbsim_command.specs.InputNotes.{names_of}
 use Rattle.fbsim_command.specs.Texts.{given_of, lines_of}
-use Rattle.fbsim_command.proofs.Noting.{noted-in}
+use Rattle.fbsim_command.proofs.lemmas.notes.Noting.{noted-in}
 use Rattle.fbsim_command.proofs.notes.note_of_number.Goals as goal
 
 pub returns-in-Ok : goal.returns-in-Ok

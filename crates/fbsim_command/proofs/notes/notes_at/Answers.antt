@@ -6,7 +6,7 @@ use Rattle.fb_why.specs.declared.place.PlacedFinding.{PlacedFinding}
 use Rattle.fbsim_command.specs.Notes.{AreNotesOfAll, IsPlaceIn, on_line}
 use Rattle.fbsim_command.specs.InputNotes.{names_of, types_in}
 use Rattle.fbsim_command.specs.Texts.{given_of, lines_of}
-use Rattle.fbsim_command.proofs.Noting.{notes_more, place-at}
+use Rattle.fbsim_command.proofs.lemmas.notes.Noting.{notes_more, place-at}
 use Rattle.fbsim_command.proofs.notes.notes_at.Goals as goal
 
 -- each finding has a place at its index

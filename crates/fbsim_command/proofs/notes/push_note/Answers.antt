@@ -1,6 +1,6 @@
 use Rattle.std.proofs.Common.{◌≡◌, Bool, Global, List, ℕ, [], ◌∷◌, ◌++◌, String, string_bytes, append_assoc, sym, ◌∙◌, ap}
 use Rattle.fbsim_command.specs.Notes.{on_line}
-use Rattle.fbsim_command.proofs.Noting.{pushed}
+use Rattle.fbsim_command.proofs.lemmas.notes.Noting.{pushed}
 use Rattle.fbsim_command.proofs.notes.push_note.Goals.{then-not-is_first+in_ok-push_str, else-not-is_first}
 use Rattle.fbsim_command.proofs.notes.push_note.Goals as goal
 

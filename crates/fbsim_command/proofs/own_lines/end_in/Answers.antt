@@ -1,6 +1,6 @@
 use Rattle.std.proofs.Common.{map, sym, ◌∙◌}
 use Rattle.fbsim_command.specs.OwnLines.{syntax_line}
-use Rattle.fbsim_command.proofs.FileNames.{ends-as, ends-named}
+use Rattle.fbsim_command.proofs.lemmas.files.FileNames.{ends-as, ends-named}
 use Rattle.fbsim_command.proofs.own_lines.end_in.Goals as goal
 
 pub returns-in-Some : goal.returns-in-Some

@@ -1,5 +1,5 @@
 use Rattle.std.proofs.Common.{map}
-use Rattle.fbsim_command.proofs.FileNames.{placed-alone, placed-in}
+use Rattle.fbsim_command.proofs.lemmas.files.FileNames.{placed-alone, placed-in}
 use Rattle.fbsim_command.proofs.own_lines.note_at.Goals as goal
 
 pub returns-in-Some : goal.returns-in-Some

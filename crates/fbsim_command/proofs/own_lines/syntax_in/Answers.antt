@@ -1,5 +1,5 @@
 use Rattle.std.proofs.Common.{map, refl}
-use Rattle.fbsim_command.proofs.FileNames.{syntax-of}
+use Rattle.fbsim_command.proofs.lemmas.files.FileNames.{syntax-of}
 use Rattle.fbsim_command.proofs.own_lines.syntax_in.Goals as goal
 
 pub returns-in-Some : goal.returns-in-Some

@@ -1,7 +1,7 @@
 use Rattle.std.proofs.Common.{◌∙◌, Some, ap, sym}
 use Rattle.fb_types.specs.Names.{same_name}
 use Rattle.fb_types.specs.declared.library.Variable.{Variable}
-use Rattle.fbsim_command.proofs.TypeOf.{type-found, type-none, type-passed}
+use Rattle.fbsim_command.proofs.lemmas.TypeOf.{type-found, type-none, type-passed}
 use Rattle.fbsim_command.proofs.possible.type_of.Goals as goal
 
 pub returns-then-is : goal.returns-then-is

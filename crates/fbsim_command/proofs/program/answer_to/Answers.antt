@@ -9,7 +9,7 @@ use Rattle.fbsim_command.specs.Inspecting.{ShowsInsides}
 use Rattle.fbsim_command.specs.Sessions.{TalksIn}
 use Rattle.fbsim_command.specs.Showing.{Shows}
 use Rattle.fbsim_command.specs.Outcomes.{End}
-use Rattle.fbsim_command.proofs.Reporting.{ended_so, noted_so}
+use Rattle.fbsim_command.proofs.lemmas.calls.Reporting.{ended_so, noted_so}
 use Rattle.fbsim_command.proofs.program.answer_to.Goals as goal
 
 pub returns-in-Ok : goal.returns-in-Ok

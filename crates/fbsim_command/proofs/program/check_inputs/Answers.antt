@@ -1,5 +1,5 @@
 use Rattle.std.proofs.Common.{false, refl}
-use Rattle.fbsim_command.proofs.Checking.{checked, checks_none, checks_part}
+use Rattle.fbsim_command.proofs.lemmas.calls.Checking.{checked, checks_none, checks_part}
 use Rattle.fbsim_command.proofs.program.check_inputs.Goals as goal
 
 pub returns-in_err-check : goal.returns-in_err-check

@@ -1,7 +1,7 @@
 use Rattle.std.proofs.Common.{◌≡◌, ◌∙◌, ◌&&◌, Bool, option_map, string_bytes, sym, ap, subst}
 use Rattle.std.specs.Prelude.{IsTrue}
 use Rattle.fbsim_command.specs.Failures.{reported_of}
-use Rattle.fbsim_command.proofs.Reporting.{quiet_all, reported_all}
+use Rattle.fbsim_command.proofs.lemmas.calls.Reporting.{quiet_all, reported_all}
 use Rattle.fbsim_command.proofs.program.command_with_clock.Goals as goal
 use Rattle.fbsim_command.proofs.program.command_with_clock.Goals.{then-answer, else-answer}
 

@@ -1,4 +1,4 @@
-use Rattle.fbsim_command.proofs.Reporting.{ends_as, fails_as}
+use Rattle.fbsim_command.proofs.lemmas.calls.Reporting.{ends_as, fails_as}
 use Rattle.fbsim_command.proofs.program.end_of_run.Goals as goal
 
 pub returns-in-Ok : goal.returns-in-Ok

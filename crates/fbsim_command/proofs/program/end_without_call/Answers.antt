@@ -1,7 +1,7 @@
 use Rattle.std.proofs.Common.{refl, subst, sym}
 use Rattle.fbsim_line.specs.Line.{IsFault, IsHelp}
 use Rattle.fbsim_line.specs.declared.line.LineFault.{LineFault}
-use Rattle.fbsim_command.proofs.Reporting.{helped}
+use Rattle.fbsim_command.proofs.lemmas.calls.Reporting.{helped}
 use Rattle.fbsim_command.proofs.program.end_without_call.Goals as goal
 
 pub returns-in-Help : goal.returns-in-Help

@@ -1,5 +1,5 @@
 use Rattle.std.proofs.Common.{sym}
-use Rattle.fbsim_command.proofs.Explaining.{explains, explains_part}
+use Rattle.fbsim_command.proofs.lemmas.calls.Explaining.{explains, explains_part}
 use Rattle.fbsim_command.proofs.program.explain_to.Goals as goal
 
 pub returns-in_err-write_text : goal.returns-in_err-write_text

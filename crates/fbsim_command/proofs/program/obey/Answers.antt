@@ -2,7 +2,7 @@ use Rattle.std.proofs.Common.{Bor, List, ℕ, Option, map, inr, refl}
 use Rattle.clap.specs.Words.{Text}
 use Rattle.fbsim_command.specs.Command.{Does}
 use Rattle.fbsim_command.specs.Outcomes.{End}
-use Rattle.fbsim_command.proofs.Reporting.{ended_so}
+use Rattle.fbsim_command.proofs.lemmas.calls.Reporting.{ended_so}
 use Rattle.fbsim_command.proofs.program.obey.Goals as goal
 
 pub returns-in-Ok : goal.returns-in-Ok

@@ -1,5 +1,5 @@
 use Rattle.std.proofs.Common.{false}
-use Rattle.fbsim_command.proofs.Reporting.{has_reported, runs_so}
+use Rattle.fbsim_command.proofs.lemmas.calls.Reporting.{has_reported, runs_so}
 use Rattle.fbsim_command.proofs.program.run_and_report.Goals as goal
 
 pub returns-clause-run : goal.returns-clause-run

@@ -1,4 +1,4 @@
-use Rattle.fbsim_command.proofs.Reporting.{runs_so}
+use Rattle.fbsim_command.proofs.lemmas.calls.Reporting.{runs_so}
 use Rattle.fbsim_command.proofs.program.run_inputs.Goals as goal
 
 pub returns-then-serial : goal.returns-then-serial

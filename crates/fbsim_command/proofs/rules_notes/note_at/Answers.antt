@@ -1,4 +1,4 @@
-use Rattle.fbsim_command.proofs.Noting.{plan-noted}
+use Rattle.fbsim_command.proofs.lemmas.notes.Noting.{plan-noted}
 use Rattle.fbsim_command.proofs.rules_notes.note_at.Goals as goal
 
 pub returns-then-number-lt-FIRST_OF_RULES : goal.returns-then-number-lt-FIRST_OF_RULES

@@ -1,6 +1,6 @@
 use Rattle.std.proofs.Common.{string_bytes, option_map, sym, ◌∙◌}
 use Rattle.fbsim_command.specs.Texts.{given_of, may_lines_of}
-use Rattle.fbsim_command.proofs.Noting.{rules-noted}
+use Rattle.fbsim_command.proofs.lemmas.notes.Noting.{rules-noted}
 use Rattle.fbsim_command.proofs.rules_notes.note_to_rules.Goals as goal
 
 pub returns-then-expect : goal.returns-then-expect

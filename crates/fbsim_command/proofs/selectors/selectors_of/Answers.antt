@@ -1,5 +1,5 @@
 use Rattle.std.proofs.Common.{◌∙◌, sym}
-use Rattle.fbsim_command.proofs.Selected.{unknown-at}
+use Rattle.fbsim_command.proofs.lemmas.Selected.{unknown-at}
 use Rattle.fbsim_command.proofs.selectors.selectors_of.Goals as goal
 
 pub returns-in-None-clause-unknown : goal.returns-in-None-clause-unknown

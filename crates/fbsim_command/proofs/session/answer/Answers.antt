@@ -2,7 +2,7 @@ use Rattle.std.proofs.Common.{Err, arith, refl, subst, sym}
 use Rattle.fbsim_command.specs.Outcomes.{End}
 use Rattle.fbsim_command.specs.Sessions.{Answers}
 use Rattle.fbsim_command.specs.declared.failure.Failure.{Failure}
-use Rattle.fbsim_command.proofs.Talking.{answers_none, answers_so}
+use Rattle.fbsim_command.proofs.lemmas.Talking.{answers_none, answers_so}
 use Rattle.fbsim_command.proofs.session.answer.Goals as goal
 
 pub returns-in-Err : goal.returns-in-Err

@@ -8,8 +8,8 @@ use Rattle.fb_types.specs.Headline.{system_of}
 use Rattle.fb_inspect.specs.StateWaves.{IsShownWith, WritesFront}
 use Rattle.fbsim_command.specs.StateDumping.{DumpsStates}
 use Rattle.fbsim_command.specs.declared.failure.Failure.{Failure}
-use Rattle.fbsim_command.proofs.Inspecting.{line_noted_inside, none_noted_inside, wrong_so}
-use Rattle.fbsim_command.proofs.StateDumped.{states_front, states_none}
+use Rattle.fbsim_command.proofs.lemmas.calls.Inspecting.{line_noted_inside, none_noted_inside, wrong_so}
+use Rattle.fbsim_command.proofs.lemmas.calls.StateWaveCalls.{states_front, states_none}
 use Rattle.fbsim_command.proofs.state_dump.dump_states.Goals as goal
 
 pub returns-in-Err-clause-dumped : goal.returns-in-Err-clause-dumped

@@ -1,5 +1,5 @@
 use Rattle.std.proofs.Common.{◌∙◌}
-use Rattle.fbsim_command.proofs.Gathering.{counts-of}
+use Rattle.fbsim_command.proofs.lemmas.files.Gathering.{counts-of}
 use Rattle.fbsim_command.proofs.texts.declared_in.Goals as goal
 
 pub returns-clause-lines : goal.returns-clause-lines

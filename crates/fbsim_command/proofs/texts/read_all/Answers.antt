@@ -1,6 +1,6 @@
 use Rattle.std.proofs.Common.{map}
 use Rattle.fbsim_command.specs.Texts.{texts_of}
-use Rattle.fbsim_command.proofs.Gathering.{one-more-is, own-unread, type-unread}
+use Rattle.fbsim_command.proofs.lemmas.files.Gathering.{one-more-is, own-unread, type-unread}
 use Rattle.fbsim_command.proofs.texts.read_all.Goals as goal
 
 pub returns-in-Ok-read_next-clause-read : goal.returns-in-Ok-read_next-clause-read

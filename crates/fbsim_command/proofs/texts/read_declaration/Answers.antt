@@ -1,5 +1,5 @@
 use Rattle.std.proofs.Common.{rules, ◌≡◌, length}
-use Rattle.fbsim_command.proofs.Gathering.{alone-read, alone-unread}
+use Rattle.fbsim_command.proofs.lemmas.files.Gathering.{alone-read, alone-unread}
 use Rattle.fbsim_command.proofs.texts.read_declaration.Goals as goal
 
 pub returns-then-is_empty-clause-read : goal.returns-then-is_empty-clause-read

@@ -3,7 +3,7 @@ use Rattle.std.specs.Global.{Vec}
 use Rattle.fbsim_command.specs.Joining.{line_count, text_of}
 use Rattle.fbsim_command.specs.Texts.{texts_of}
 use Rattle.fbsim_command.specs.declared.sources.SourceFault.TheVariants as source
-use Rattle.fbsim_command.proofs.Gathering.{joined-read, memory-after, own-unread}
+use Rattle.fbsim_command.proofs.lemmas.files.Gathering.{joined-read, memory-after, own-unread}
 use Rattle.fbsim_command.proofs.texts.read_joined.Goals as goal
 
 pub returns-in-Ok-declared_in-clause-read : goal.returns-in-Ok-declared_in-clause-read

@@ -2,7 +2,7 @@ use Rattle.std.proofs.Common.{◌≡◌, ◌⊎◌, [], List, ℕ, Option, ap, i
 use Rattle.std.specs.Prelude.{IfOk}
 use Rattle.fb_sim.specs.Given.{Given}
 use Rattle.fbsim_command.specs.WarningLines.{IsLinkPlace, naming_of}
-use Rattle.fbsim_command.proofs.PlacedLines.{link_shown, place_shown}
+use Rattle.fbsim_command.proofs.lemmas.files.PlacedLines.{link_shown, place_shown}
 use Rattle.fbsim_command.proofs.warning_lines.place_of.Goals as goal
 
 pub returns-in-UnusedLink : goal.returns-in-UnusedLink

@@ -7,8 +7,8 @@ use Rattle.fbsim_command.specs.Showing.{Dumps, DumpsAs, NotesAs, cut_of}
 use Rattle.fbsim_command.specs.StateDumping.{DumpsStates}
 use Rattle.fbsim_command.specs.declared.failure.Failure.{Failure}
 use Rattle.fbsim_command.specs.declared.statuses.Done.TheVariants.{Shown}
-use Rattle.fbsim_command.proofs.NotedLines.{line_noted, none_noted}
-use Rattle.fbsim_command.proofs.Showing.{dumps_front, dumps_none}
+use Rattle.fbsim_command.proofs.lemmas.notes.NotedLines.{line_noted, none_noted}
+use Rattle.fbsim_command.proofs.lemmas.calls.WaveCalls.{dumps_front, dumps_none}
 use Rattle.fbsim_command.proofs.wave.dump.Goals as goal
 
 pub returns-then-wave-clause-dumped : goal.returns-then-wave-clause-dumped

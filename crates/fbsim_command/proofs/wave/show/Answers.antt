@@ -1,7 +1,7 @@
 use Rattle.std.proofs.Common.{map, option_map, refl, string_bytes}
 use Rattle.fbsim_command.specs.Showing.{cut_of}
 use Rattle.fbsim_command.specs.Texts.{given_of, lines_of}
-use Rattle.fbsim_command.proofs.Showing.{read_and_shown, unopened, unread_for}
+use Rattle.fbsim_command.proofs.lemmas.calls.WaveCalls.{read_and_shown, unopened, unread_for}
 use Rattle.fbsim_command.proofs.wave.show.Goals as goal
 
 pub returns-in-Err : goal.returns-in-Err

@@ -4,7 +4,7 @@ use Rattle.clap.specs.declared.builder.action.ArgAction.TheVariants.{Append, Set
 use Rattle.clap.specs.declared.builder.arg.Arg.{Arg}
 use Rattle.clap.specs.declared.builder.value_parser.ValueParser.{ValueParser}
 use Rattle.fbsim_line.specs.Line.{limited, preset, rule_for}
-use Rattle.fbsim_line.proofs.BuildLaws.{acted, demanded}
+use Rattle.fbsim_line.proofs.lemmas.BuildLaws.{acted, demanded}
 use Rattle.fbsim_line.proofs.arguments.arg_of.Goals as goal
 
 pub returns-in-Required-clause-rule : goal.returns-in-Required-clause-rule

@@ -1,7 +1,7 @@
 use Rattle.std.proofs.Common.{◌∙◌, Some, ap}
 use Rattle.clap.specs.Words.{Rule}
 use Rattle.clap.specs.declared.builder.arg.Arg.{Arg}
-use Rattle.fbsim_line.proofs.BuildLaws.{called, helped}
+use Rattle.fbsim_line.proofs.lemmas.BuildLaws.{called, helped}
 use Rattle.fbsim_line.proofs.arguments.option.Goals as goal
 
 pub returns-clause-rule : goal.returns-clause-rule

@@ -1,4 +1,4 @@
-use Rattle.fbsim_line.proofs.BuildLaws.{goes-first, goes-on, goes-past}
+use Rattle.fbsim_line.proofs.lemmas.BuildLaws.{goes-first, goes-on, goes-past}
 use Rattle.fbsim_line.proofs.arguments.with_all.Goals as goal
 
 pub loop-argument-init : goal.loop-argument-init

@@ -1,5 +1,5 @@
 use Rattle.clap.specs.Words.{app_of}
-use Rattle.fbsim_line.proofs.BuildLaws.{Goes}
+use Rattle.fbsim_line.proofs.lemmas.BuildLaws.{Goes}
 use Rattle.fbsim_line.proofs.arguments.with_all.Given as goal
 
 abbrev pub invariant-loop-argument : goal.invariant-loop-argument

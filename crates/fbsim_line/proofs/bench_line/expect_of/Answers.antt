@@ -2,7 +2,7 @@ use Rattle.std.proofs.Common.{rules, ◌≡◌, sym, ◌∙◌, ap, codes, map, 
 use Rattle.clap.specs.Words.{Text, found_of, first_value, rows_of}
 use Rattle.clap.proofs.WalkLemmas.{first_value-rows, raw_values-rows}
 use Rattle.fbsim_line.specs.Line.{declares_nothing}
-use Rattle.fbsim_line.proofs.LineLaws.{declares_alone, no_rules, no_traces}
+use Rattle.fbsim_line.proofs.lemmas.LineLaws.{declares_alone, no_rules, no_traces}
 use Rattle.fbsim_line.proofs.bench_line.expect_of.Goals as goal
 
 abbrev texts : Option (Bor (List (Bor Text))) → Option (List Text)

@@ -1,7 +1,7 @@
 use Rattle.std.proofs.Common.{rules, ◌≡◌, sym, ◌∙◌, codes, Some, None}
 use Rattle.clap.specs.Words.{found_of, first_value, rows_of}
 use Rattle.clap.proofs.WalkLemmas.{first_value-rows}
-use Rattle.fbsim_line.proofs.LineLaws.{no_drawing}
+use Rattle.fbsim_line.proofs.lemmas.LineLaws.{no_drawing}
 use Rattle.fbsim_line.proofs.draw_line.draw_of.Goals as goal
 
 pub returns-clause-rows : goal.returns-clause-rows

@@ -2,7 +2,7 @@ use Rattle.std.proofs.Common.{◌≡◌, ◌∙◌, sym}
 use Rattle.clap.specs.Words.{found_of, rows_of}
 use Rattle.fbsim_line.specs.Line.{IsAction, command_name}
 use Rattle.fbsim_line.specs.declared.line.Action.{Action}
-use Rattle.fbsim_line.proofs.LineLaws.{if_none, no_form, no_horizon, no_steps, no_workers}
+use Rattle.fbsim_line.proofs.lemmas.LineLaws.{if_none, no_form, no_horizon, no_steps, no_workers}
 use Rattle.fbsim_line.proofs.line.action_of.Goals as goal
 
 pub returns-in-check-clause-options : goal.returns-in-check-clause-options

@@ -10,7 +10,7 @@ use Rattle.fbsim_line.specs.declared.inspect_line.Inspect.{Inspect}
 use Rattle.fbsim_line.specs.declared.line.Call.{Call}
 use Rattle.fbsim_line.specs.declared.line.Wave.{Wave}
 use Rattle.fbsim_line.specs.declared.session_line.SessionCall.{SessionCall}
-use Rattle.fbsim_line.proofs.LineLaws.{no_coverage, no_diff, no_draw, no_expect, no_inspect, no_name, no_other_call, no_session, no_wave, ok_some, ok_none, when_none}
+use Rattle.fbsim_line.proofs.lemmas.LineLaws.{no_coverage, no_diff, no_draw, no_expect, no_inspect, no_name, no_other_call, no_session, no_wave, ok_some, ok_none, when_none}
 use Rattle.fbsim_line.proofs.line.call_of.Goals as goal
 
 pub returns-in-explain-clause-name : goal.returns-in-explain-clause-name

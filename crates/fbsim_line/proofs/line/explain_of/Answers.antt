@@ -1,7 +1,7 @@
 use Rattle.std.proofs.Common.{rules, ◌≡◌, sym, ◌∙◌, codes, Some, None}
 use Rattle.clap.specs.Words.{found_of, first_value}
 use Rattle.clap.proofs.WalkLemmas.{first_value-rows}
-use Rattle.fbsim_line.proofs.LineLaws.{if_none}
+use Rattle.fbsim_line.proofs.lemmas.LineLaws.{if_none}
 use Rattle.fbsim_line.proofs.line.explain_of.Goals as goal
 
 pub returns-clause-rows : goal.returns-clause-rows

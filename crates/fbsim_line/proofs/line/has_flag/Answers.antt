@@ -1,7 +1,7 @@
 use Rattle.std.proofs.Common.{rules, ◌≡◌, sym, ◌∙◌, codes, Some, None}
 use Rattle.clap.specs.Words.{found_of, first_value, rows_of}
 use Rattle.clap.proofs.WalkLemmas.{first_value-rows}
-use Rattle.fbsim_line.proofs.LineLaws.{flag_there, flag_other, flag_none}
+use Rattle.fbsim_line.proofs.lemmas.LineLaws.{flag_there, flag_other, flag_none}
 use Rattle.fbsim_line.proofs.line.has_flag.Goals as goal
 
 pub returns-in_default : goal.returns-in_default

@@ -1,6 +1,6 @@
 use Rattle.std.specs.Str.Parse.{ParsesUnsigned, ExplainsUnsignedError, HasUnsignedDigitsIfOk}
 use Rattle.clap.specs.Words.{found_of}
-use Rattle.fbsim_line.proofs.GetterLaws.{number_read, nothing_read}
+use Rattle.fbsim_line.proofs.lemmas.GetterLaws.{number_read, nothing_read}
 use Rattle.fbsim_line.proofs.line.number.Goals as goal
 
 pub returns-clause-number : goal.returns-clause-number

@@ -1,6 +1,6 @@
 use Rattle.std.proofs.Common.{map, Bor, List, ℕ}
 use Rattle.clap.specs.Words.{subcommand_rows_of}
-use Rattle.fbsim_line.proofs.LineLaws.{asks_help, are_refused, is_taken, make_call, make_no_call, on_ok}
+use Rattle.fbsim_line.proofs.lemmas.LineLaws.{asks_help, are_refused, is_taken, make_call, make_no_call, on_ok}
 use Rattle.fbsim_line.proofs.line.parse.Goals as goal
 
 pub returns-in-Ok-clause-call : goal.returns-in-Ok-clause-call

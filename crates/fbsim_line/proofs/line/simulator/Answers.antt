@@ -2,7 +2,7 @@ use Rattle.std.proofs.Common.{◌∙◌, true, ap}
 use Rattle.clap.specs.Simple.{app_of_fields}
 use Rattle.clap.specs.Words.{App}
 use Rattle.fbsim_line.specs.Line.{kinds, program}
-use Rattle.fbsim_line.proofs.BuildLaws.{joins-first, joins-on, joins-past}
+use Rattle.fbsim_line.proofs.lemmas.BuildLaws.{joins-first, joins-on, joins-past}
 use Rattle.fbsim_line.proofs.line.simulator.Goals as goal
 
 pub loop-kind-init : goal.loop-kind-init

@@ -1,5 +1,5 @@
 use Rattle.fbsim_line.specs.Line.{kinds, program}
-use Rattle.fbsim_line.proofs.BuildLaws.{Joins}
+use Rattle.fbsim_line.proofs.lemmas.BuildLaws.{Joins}
 use Rattle.fbsim_line.proofs.line.simulator.Given as goal
 
 abbrev pub invariant-loop-kind : goal.invariant-loop-kind

@@ -4,7 +4,7 @@ use Rattle.clap.specs.Words.{found_of, first_value, rows_of}
 use Rattle.clap.proofs.WalkLemmas.{first_value-rows}
 use Rattle.fbsim_line.specs.Line.{AreLevels}
 use Rattle.fbsim_line.specs.declared.levels.Levels.{Levels}
-use Rattle.fbsim_line.proofs.LineLaws.{no_action, no_declaration, no_levels}
+use Rattle.fbsim_line.proofs.lemmas.LineLaws.{no_action, no_declaration, no_levels}
 use Rattle.fbsim_line.proofs.line.task_of.Goals as goal
 
 pub returns-clause-rows : goal.returns-clause-rows

@@ -1,7 +1,7 @@
 use Rattle.std.proofs.Common.{rules, ◌≡◌, sym, ◌∙◌, ap, map, option_map, Bor, List, Option, []}
 use Rattle.clap.specs.Words.{Text, found_of, rows_of}
 use Rattle.clap.proofs.WalkLemmas.{raw_values-rows}
-use Rattle.fbsim_line.proofs.LineLaws.{texts-none, texts-some}
+use Rattle.fbsim_line.proofs.lemmas.LineLaws.{texts-none, texts-some}
 use Rattle.fbsim_line.proofs.line.texts_of.Goals as goal
 
 abbrev texts : Option (Bor (List (Bor Text))) → Option (List Text)

@@ -1,4 +1,4 @@
-use Rattle.fbsim_session.proofs.Pieces.{begun}
+use Rattle.fbsim_session.proofs.lemmas.Pieces.{begun}
 use Rattle.fbsim_session.proofs.answer.begin_line.Goals as goal
 
 pub returns : goal.returns

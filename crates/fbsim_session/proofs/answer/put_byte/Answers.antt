@@ -1,4 +1,4 @@
-use Rattle.fbsim_session.proofs.Pieces.{begun_more}
+use Rattle.fbsim_session.proofs.lemmas.Pieces.{begun_more}
 use Rattle.fbsim_session.proofs.answer.put_byte.Goals as goal
 
 pub returns : goal.returns

@@ -1,4 +1,4 @@
-use Rattle.fbsim_session.proofs.Pieces.{answer_of}
+use Rattle.fbsim_session.proofs.lemmas.Pieces.{answer_of}
 use Rattle.fbsim_session.proofs.answer.put_line.Goals as goal
 
 pub returns : goal.returns

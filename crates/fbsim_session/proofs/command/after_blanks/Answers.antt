@@ -1,6 +1,6 @@
 use Rattle.std.proofs.Common.{◌≡◌, ◌∙◌, sym, ap, arith, length, drop, drop_of_length-le, le_refl}
 use Rattle.fbsim_session.specs.Commands.{after_blanks}
-use Rattle.fbsim_session.proofs.Commanding.{after_next}
+use Rattle.fbsim_session.proofs.lemmas.Commanding.{after_next}
 use Rattle.fbsim_session.proofs.command.after_blanks.Goals as goal
 
 pub loop-at-preserved : goal.loop-at-preserved

@@ -1,7 +1,7 @@
 use Rattle.std.proofs.Common.{◌≡◌, ◌∙◌, sym, ap, arith, length, take}
 use Rattle.fbsim_session.specs.Commands.{before_blanks}
-use Rattle.fbsim_session.proofs.Commanding.{before_here, before_next}
-use Rattle.fbsim_session.proofs.Pieces.{take_whole}
+use Rattle.fbsim_session.proofs.lemmas.Commanding.{before_here, before_next}
+use Rattle.fbsim_session.proofs.lemmas.Pieces.{take_whole}
 use Rattle.fbsim_session.proofs.command.before_blanks.Goals as goal
 use Rattle.fbsim_session.proofs.command.before_blanks.Goals.{then-byte-ne32, else-byte-ne32}
 

@@ -2,7 +2,7 @@ use Rattle.std.proofs.Common.{◌∙◌, ◌+◌, ap}
 use Rattle.std.specs.Prelude.{min}
 use Rattle.fb_inputs.specs.Numbers.{natural}
 use Rattle.fbsim_session.specs.Commands.{clear_by}
-use Rattle.fbsim_session.proofs.Commanding.{clear_equal, no_number}
+use Rattle.fbsim_session.proofs.lemmas.Commanding.{clear_equal, no_number}
 use Rattle.fbsim_session.proofs.command.clear_of.Goals as goal
 
 pub returns-in-Some-clause-of : goal.returns-in-Some-clause-of

@@ -1,6 +1,6 @@
 use Rattle.std.proofs.Common.{◌<◌, ◌≤◌, ◌^◌, arith}
 use Rattle.fb_inputs.specs.Numbers.{natural}
-use Rattle.fbsim_session.proofs.Commanding.{tick_some}
+use Rattle.fbsim_session.proofs.lemmas.Commanding.{tick_some}
 use Rattle.fbsim_session.proofs.command.tick_of.Goals as goal
 
 pub returns-clause-of : goal.returns-clause-of

@@ -1,6 +1,6 @@
 use Rattle.fb_types.specs.Headline.{Inputs}
 use Rattle.fb_laws.specs.Sound.{AreGood}
-use Rattle.fbsim_session.proofs.Telling.{concludes_lost}
+use Rattle.fbsim_session.proofs.lemmas.Telling.{concludes_lost}
 use Rattle.fbsim_session.proofs.talking.talk_with.Goals as goal
 
 pub returns-in_err-judge : goal.returns-in_err-judge

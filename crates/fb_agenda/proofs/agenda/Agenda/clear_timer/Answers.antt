@@ -3,8 +3,8 @@ use Rattle.std.specs.Prelude.{slice_index}
 use Rattle.fb_types.specs.Keys.{timer_key}
 use Rattle.fb_agenda.specs.Agendas.{Contents, IsTimed}
 use Rattle.fb_agenda.specs.Inside.{contents_of}
-use Rattle.fb_agenda.proofs.Apart.{later_apart, later_waits}
-use Rattle.fb_agenda.proofs.Timers.{cleared}
+use Rattle.fb_agenda.proofs.lemmas.QueueAndOthers.{later_apart, later_waits}
+use Rattle.fb_agenda.proofs.lemmas.Timers.{cleared}
 use Rattle.fb_agenda.proofs.agenda.Agenda.clear_timer.Goals as goal
 
 pub clear_timer-requires : goal.clear_timer-requires

@@ -3,7 +3,7 @@ use Rattle.std.specs.Prelude.{OnOk}
 use Rattle.fb_types.specs.declared.key.Key.{Key}
 use Rattle.fb_types.specs.declared.run.Event.TheVariants.{Given}
 use Rattle.fb_agenda.specs.Agendas.{IsPut, local_events}
-use Rattle.fb_agenda.proofs.Apart.{contents, put_later_apart, put_later_waits}
+use Rattle.fb_agenda.proofs.lemmas.QueueAndOthers.{contents, put_later_apart, put_later_waits}
 use Rattle.fb_agenda.proofs.agenda.Agenda.put_given.Goals as goal
 
 pub put-requires : goal.put-requires

@@ -6,7 +6,7 @@ use Rattle.fb_types.specs.declared.key.Key.{Key}
 use Rattle.fb_types.specs.declared.run.Event.TheVariants.{Local}
 use Rattle.fb_agenda.specs.Agendas.{IsPut}
 use Rattle.fb_agenda.specs.Inside.{contents_of}
-use Rattle.fb_agenda.proofs.Queueing.{put_now_apart, put_now_waits}
+use Rattle.fb_agenda.proofs.lemmas.Queueing.{put_now_apart, put_now_waits}
 use Rattle.fb_agenda.proofs.agenda.Agenda.put_local.Goals as goal
 
 -- ---- At the end of the queue

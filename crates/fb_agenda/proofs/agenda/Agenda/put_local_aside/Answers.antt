@@ -2,7 +2,7 @@ use Rattle.std.proofs.Common.{arith}
 use Rattle.fb_types.specs.declared.run.Event.TheVariants.{Local}
 use Rattle.fb_agenda.specs.Agendas.{local_events}
 use Rattle.fb_agenda.specs.Inside.{contents_of}
-use Rattle.fb_agenda.proofs.Apart.{moved_apart, moved_waits}
+use Rattle.fb_agenda.proofs.lemmas.QueueAndOthers.{moved_apart, moved_waits}
 use Rattle.fb_agenda.proofs.agenda.Agenda.put_local_aside.Goals as goal
 
 pub put-requires : goal.put-requires

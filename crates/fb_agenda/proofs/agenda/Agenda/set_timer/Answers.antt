@@ -4,7 +4,7 @@ use Rattle.fb_types.specs.Keys.{same_key, timer_key}
 use Rattle.fb_types.specs.Takes.{is_timer_of}
 use Rattle.fb_agenda.specs.Agendas.{waiting}
 use Rattle.fb_types.specs.declared.run.Event.TheVariants.{Timer}
-use Rattle.fb_agenda.proofs.Timers.{changed_is, on_ok_both, timed_after, timed_without}
+use Rattle.fb_agenda.proofs.lemmas.Timers.{changed_is, on_ok_both, timed_after, timed_without}
 use Rattle.fb_agenda.proofs.agenda.Agenda.set_timer.Goals as goal
 
 pub returns-in-Clear-clause-timed : goal.returns-in-Clear-clause-timed

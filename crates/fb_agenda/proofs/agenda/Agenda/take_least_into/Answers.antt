@@ -5,8 +5,8 @@ use Rattle.fb_agenda.specs.Inside.{contents_of}
 use Rattle.fb_agenda.specs.Laters.{Pending}
 use Rattle.fb_agenda.specs.Lists.{BeginsAt, IsPopped}
 use Rattle.fb_agenda.specs.Slots.{taken}
-use Rattle.fb_agenda.proofs.Apart.{contents, later_popped, queue_popped, split_of, taken_below, taken_found, taken_kept, taken_least, taken_left, taken_none}
-use Rattle.fb_agenda.proofs.Lists.{begins_few, begins_many, none_weaker, popped_few, popped_many}
+use Rattle.fb_agenda.proofs.lemmas.QueueAndOthers.{contents, later_popped, queue_popped, split_of, taken_below, taken_found, taken_kept, taken_least, taken_left, taken_none}
+use Rattle.fb_agenda.proofs.lemmas.Lists.{begins_few, begins_many, none_weaker, popped_few, popped_many}
 use Rattle.fb_agenda.proofs.agenda.Agenda.take_least_into.Goals as goal
 
 pub is_now_first-requires : goal.is_now_first-requires

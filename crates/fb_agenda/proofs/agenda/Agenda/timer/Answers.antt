@@ -1,7 +1,7 @@
 use Rattle.std.proofs.Common.{◌<◌, length, sym, subst}
 use Rattle.fb_agenda.specs.Agendas.{Contents, IsTimed}
 use Rattle.fb_agenda.specs.Inside.{contents_of}
-use Rattle.fb_agenda.proofs.Timers.{timer_none, timer_some}
+use Rattle.fb_agenda.proofs.lemmas.Timers.{timer_none, timer_some}
 use Rattle.fb_agenda.proofs.agenda.Agenda.timer.Goals as goal
 
 pub timer-requires : goal.timer-requires

@@ -4,7 +4,7 @@ use Rattle.std.proofs.lemmas.List.{get_or_default}
 use Rattle.fb_types.specs.Keys.{timer_key}
 use Rattle.fb_agenda.specs.Laters.{Pending}
 use Rattle.fb_agenda.specs.Lists.{Sets}
-use Rattle.fb_agenda.proofs.Keeping.{cleared_kept, timer_sets}
+use Rattle.fb_agenda.proofs.lemmas.TimersAndOthers.{cleared_kept, timer_sets}
 use Rattle.fb_agenda.proofs.later.Later.clear_timer.Goals as goal
 
 pub invariant_of-self : goal.invariant_of-self

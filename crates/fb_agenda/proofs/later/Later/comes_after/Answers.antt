@@ -1,6 +1,6 @@
 use Rattle.std.proofs.Common.{sym, ◌∙◌}
-use Rattle.fb_agenda.proofs.Lists.{leads_less, leads_none, leads_not_less, when_false, when_true}
-use Rattle.fb_agenda.proofs.Orders.{less_is}
+use Rattle.fb_agenda.proofs.lemmas.Lists.{leads_less, leads_none, leads_not_less, when_false, when_true}
+use Rattle.fb_agenda.proofs.lemmas.Orders.{less_is}
 use Rattle.fb_agenda.proofs.later.Later.comes_after.Goals as goal
 
 pub returns-in_default-clause-after : goal.returns-in_default-clause-after

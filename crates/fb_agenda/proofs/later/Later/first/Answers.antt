@@ -1,4 +1,4 @@
-use Rattle.fb_agenda.proofs.Lists.{first_few, many_is_first, none_first}
+use Rattle.fb_agenda.proofs.lemmas.Lists.{first_few, many_is_first, none_first}
 use Rattle.fb_agenda.proofs.later.Later.first.Goals as goal
 
 pub returns-then-is_timer_first-clause-some : goal.returns-then-is_timer_first-clause-some

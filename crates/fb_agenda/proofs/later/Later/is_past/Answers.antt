@@ -1,4 +1,4 @@
-use Rattle.fb_agenda.proofs.Moments.{past_sooner}
+use Rattle.fb_agenda.proofs.lemmas.Moments.{past_sooner}
 use Rattle.fb_agenda.proofs.later.Later.is_past.Goals as goal
 
 pub returns : goal.returns

@@ -1,7 +1,7 @@
 use Rattle.std.proofs.Common.{sym, subst}
 use Rattle.fb_agenda.specs.Agendas.{IsFirst}
 use Rattle.fb_agenda.specs.Laters.{Pending}
-use Rattle.fb_agenda.proofs.Moments.{quiet_first}
+use Rattle.fb_agenda.proofs.lemmas.Moments.{quiet_first}
 use Rattle.fb_agenda.proofs.later.Later.note_first.Goals as goal
 
 pub invariant_of-self : goal.invariant_of-self

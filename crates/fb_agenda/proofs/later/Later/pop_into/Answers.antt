@@ -1,6 +1,6 @@
 use Rattle.fb_agenda.specs.Slots.{taken}
-use Rattle.fb_agenda.proofs.Keeping.{other_popped, timer_popped}
-use Rattle.fb_agenda.proofs.Lists.{begins_few, begins_many, popped_few, popped_many}
+use Rattle.fb_agenda.proofs.lemmas.TimersAndOthers.{other_popped, timer_popped}
+use Rattle.fb_agenda.proofs.lemmas.Lists.{begins_few, begins_many, popped_few, popped_many}
 use Rattle.fb_agenda.proofs.later.Later.pop_into.Goals as goal
 
 -- ---- A timer comes first

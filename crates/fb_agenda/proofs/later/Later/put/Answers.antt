@@ -1,4 +1,4 @@
-use Rattle.fb_agenda.proofs.Keeping.{absent_other, put_kept, put_other}
+use Rattle.fb_agenda.proofs.lemmas.TimersAndOthers.{absent_other, put_kept, put_other}
 use Rattle.fb_agenda.proofs.later.Later.put.Goals as goal
 
 pub invariant_of-self : goal.invariant_of-self

@@ -1,5 +1,5 @@
 use Rattle.std.proofs.Common.{None}
-use Rattle.fb_agenda.proofs.Keeping.{other_sets, removed_kept}
+use Rattle.fb_agenda.proofs.lemmas.TimersAndOthers.{other_sets, removed_kept}
 use Rattle.fb_agenda.proofs.later.Later.remove.Goals as goal
 
 pub invariant_of-self : goal.invariant_of-self

@@ -4,8 +4,8 @@ use Rattle.std.specs.Map.{lookup}
 use Rattle.std.proofs.lemmas.List.{get_or_default}
 use Rattle.fb_types.specs.Keys.{or_else, same_key, timer_key}
 use Rattle.fb_agenda.specs.Laters.{Pending}
-use Rattle.fb_agenda.proofs.Lists.{lookup_both}
-use Rattle.fb_agenda.proofs.Orders.{first_some}
+use Rattle.fb_agenda.proofs.lemmas.Lists.{lookup_both}
+use Rattle.fb_agenda.proofs.lemmas.Orders.{first_some}
 use Rattle.fb_agenda.proofs.later.Later.timer.Goals as goal
 
 pub returns-then-has-clause-some : goal.returns-then-has-clause-some

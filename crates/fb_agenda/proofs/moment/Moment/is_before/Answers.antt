@@ -1,4 +1,4 @@
-use Rattle.fb_agenda.proofs.Moments.{later_if, sooner_if}
+use Rattle.fb_agenda.proofs.lemmas.Moments.{later_if, sooner_if}
 use Rattle.fb_agenda.proofs.moment.Moment.is_before.Goals as goal
 
 pub returns-clause-sooner : goal.returns-clause-sooner

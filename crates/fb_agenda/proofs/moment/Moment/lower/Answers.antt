@@ -1,4 +1,4 @@
-use Rattle.fb_agenda.proofs.Moments.{no_later, no_later_itself}
+use Rattle.fb_agenda.proofs.lemmas.Moments.{no_later, no_later_itself}
 use Rattle.fb_agenda.proofs.moment.Moment.lower.Goals as goal
 
 pub returns-then-is_before-clause-first : goal.returns-then-is_before-clause-first

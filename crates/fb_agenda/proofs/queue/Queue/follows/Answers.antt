@@ -5,8 +5,8 @@ use Rattle.fb_types.specs.Keys.{local_key}
 use Rattle.fb_types.specs.declared.key.Key.{Key}
 use Rattle.fb_types.specs.declared.run.Target.{Target}
 use Rattle.fb_agenda.specs.Agendas.{IsAt, IsQueue, MayFollow, keyed, local_events}
-use Rattle.fb_agenda.proofs.Lists.{when_true}
-use Rattle.fb_agenda.proofs.Queueing.{all_at, follows_number}
+use Rattle.fb_agenda.proofs.lemmas.Lists.{when_true}
+use Rattle.fb_agenda.proofs.lemmas.Queueing.{all_at, follows_number}
 use Rattle.fb_agenda.proofs.queue.Queue.follows.Goals as goal
 use Rattle.fb_agenda.proofs.queue.Queue.follows.Goals.{then-self-tick, else-self-tick}
 

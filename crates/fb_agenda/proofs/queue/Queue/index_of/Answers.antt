@@ -2,9 +2,9 @@ use Rattle.std.proofs.Common.{◌≡◌, ◌<◌, ◌≤◌, length, get_or, tru
 use Rattle.std.specs.Ordering.{is_eq}
 use Rattle.fb_types.specs.Keys.{same_key}
 use Rattle.fb_types.specs.declared.key.Key.{Key}
-use Rattle.fb_types.proofs.KeyLaws.{same_key_is}
-use Rattle.fb_agenda.proofs.Moments.{either_tick}
-use Rattle.fb_agenda.proofs.Queueing.{absent_all, indexed, numbers_length}
+use Rattle.fb_types.proofs.lemmas.events.KeyLaws.{same_key_is}
+use Rattle.fb_agenda.proofs.lemmas.Moments.{either_tick}
+use Rattle.fb_agenda.proofs.lemmas.Queueing.{absent_all, indexed, numbers_length}
 use Rattle.fb_agenda.proofs.queue.Queue.index_of.Goals as goal
 
 pub returns-then-is_eq-clause-there : goal.returns-then-is_eq-clause-there

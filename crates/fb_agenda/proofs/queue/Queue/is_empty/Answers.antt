@@ -1,5 +1,5 @@
 use Rattle.std.proofs.Common.{arith}
-use Rattle.fb_agenda.proofs.Queueing.{empty_if}
+use Rattle.fb_agenda.proofs.lemmas.Queueing.{empty_if}
 use Rattle.fb_agenda.proofs.queue.Queue.is_empty.Goals as goal
 
 pub returns : goal.returns

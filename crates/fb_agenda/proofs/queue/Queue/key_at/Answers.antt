@@ -1,5 +1,5 @@
 use Rattle.std.proofs.Common.{◌<◌, ◌∙◌, length, sym, arith}
-use Rattle.fb_agenda.proofs.Queueing.{key_of, numbers_length}
+use Rattle.fb_agenda.proofs.lemmas.Queueing.{key_of, numbers_length}
 use Rattle.fb_agenda.proofs.queue.Queue.key_at.Goals as goal
 
 pub returns : goal.returns

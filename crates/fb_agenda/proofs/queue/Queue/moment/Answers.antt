@@ -3,7 +3,7 @@ use Rattle.fb_types.specs.declared.key.Key.{Key}
 use Rattle.fb_types.specs.declared.run.Target.{Target}
 use Rattle.fb_agenda.specs.Agendas.{AreRising, keyed, local_events}
 use Rattle.fb_agenda.specs.Moments.{IsMomentOf}
-use Rattle.fb_agenda.proofs.Queueing.{empty_if, moment_of_first, some_if}
+use Rattle.fb_agenda.proofs.lemmas.Queueing.{empty_if, moment_of_first, some_if}
 use Rattle.fb_agenda.proofs.queue.Queue.moment.Goals as goal
 
 pub returns-then-is_empty-clause-none : goal.returns-then-is_empty-clause-none

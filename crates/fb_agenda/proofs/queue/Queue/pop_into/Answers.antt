@@ -1,7 +1,7 @@
 use Rattle.std.proofs.Common.{Some, ◌∙◌, arith}
 use Rattle.fb_agenda.specs.Agendas.{local_events}
-use Rattle.fb_agenda.proofs.Lists.{below_first}
-use Rattle.fb_agenda.proofs.Queueing.{number_popped, number_rises}
+use Rattle.fb_agenda.proofs.lemmas.Lists.{below_first}
+use Rattle.fb_agenda.proofs.lemmas.Queueing.{number_popped, number_rises}
 use Rattle.fb_agenda.proofs.queue.Queue.pop_into.Goals as goal
 
 pub returns-clause-popped : goal.returns-clause-popped

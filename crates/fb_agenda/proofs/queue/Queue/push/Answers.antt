@@ -4,7 +4,7 @@ use Rattle.fb_types.specs.Keys.{local_key}
 use Rattle.fb_types.specs.declared.key.Key.{Key}
 use Rattle.fb_types.specs.declared.run.Target.{Target}
 use Rattle.fb_agenda.specs.Agendas.{IsAt}
-use Rattle.fb_agenda.proofs.Queueing.{pushed}
+use Rattle.fb_agenda.proofs.lemmas.Queueing.{pushed}
 use Rattle.fb_agenda.proofs.queue.Queue.push.Goals as goal
 
 pub returns-clause-ok : goal.returns-clause-ok

@@ -3,8 +3,8 @@ use Rattle.std.specs.List.{remove}
 use Rattle.fb_types.specs.declared.key.Key.{Key}
 use Rattle.fb_types.specs.declared.run.Target.{Target}
 use Rattle.fb_agenda.specs.Agendas.{keyed, local_events}
-use Rattle.fb_agenda.proofs.Queueing.{gone_queue, gone_sets, index_within, number_removed, numbers_length, where_some}
-use Rattle.fb_agenda.proofs.Timing.{none_sets}
+use Rattle.fb_agenda.proofs.lemmas.Queueing.{gone_queue, gone_sets, index_within, number_removed, numbers_length, where_some}
+use Rattle.fb_agenda.proofs.lemmas.TimerKeys.{none_sets}
 use Rattle.fb_agenda.proofs.queue.Queue.remove.Goals as goal
 
 -- ---- The key is there

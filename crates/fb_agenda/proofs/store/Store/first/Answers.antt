@@ -1,4 +1,4 @@
-use Rattle.fb_agenda.proofs.Lists.{few_first, many_first}
+use Rattle.fb_agenda.proofs.lemmas.Lists.{few_first, many_first}
 use Rattle.fb_agenda.proofs.store.Store.first.Goals as goal
 
 pub returns-then-is_row_first-clause-some : goal.returns-then-is_row_first-clause-some

@@ -1,4 +1,4 @@
-use Rattle.fb_agenda.proofs.Lists.{few_popped_split, front_popped, least_popped, many_popped_split, popped_few, popped_many, rest_rises}
+use Rattle.fb_agenda.proofs.lemmas.Lists.{few_popped_split, front_popped, least_popped, many_popped_split, popped_few, popped_many, rest_rises}
 use Rattle.fb_agenda.proofs.store.Store.pop_first.Goals as goal
 
 -- ---- From the row

@@ -1,7 +1,7 @@
 use Rattle.std.proofs.Common.{◌<◌, refl, sym, subst, arith}
 use Rattle.std.specs.Prelude.{IfNone, IfSome}
 use Rattle.fb_agenda.specs.Lists.{BeginsAt, IsPopped}
-use Rattle.fb_agenda.proofs.Lists.{begins_empty, below_first}
+use Rattle.fb_agenda.proofs.lemmas.Lists.{begins_empty, below_first}
 use Rattle.fb_agenda.proofs.store.Store.pop_into.Goals as goal
 
 pub returns-in_default-clause-popped : goal.returns-in_default-clause-popped

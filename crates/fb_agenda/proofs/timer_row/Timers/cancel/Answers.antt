@@ -1,7 +1,7 @@
 use Rattle.std.proofs.Common.{None, subst}
 use Rattle.fb_types.specs.declared.key.Key.{Key}
 use Rattle.fb_agenda.specs.Lists.{Sets}
-use Rattle.fb_agenda.proofs.Timing.{none_sets}
+use Rattle.fb_agenda.proofs.lemmas.TimerKeys.{none_sets}
 use Rattle.fb_agenda.proofs.timer_row.Timers.cancel.Goals as goal
 
 pub returns-then-is_before-clause-sets : goal.returns-then-is_before-clause-sets

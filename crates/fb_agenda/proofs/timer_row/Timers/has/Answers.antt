@@ -7,7 +7,7 @@ use Rattle.fb_types.specs.declared.key.Key.{Key}
 use Rattle.fb_agenda.specs.Agendas.{AreRising}
 use Rattle.fb_agenda.specs.Timing.{timer_event, timer_events}
 use Rattle.fb_agenda.specs.declared.timer_row.Timed.{Timed}
-use Rattle.fb_agenda.proofs.Timing.{timer_absent, timer_here, timers_searchable}
+use Rattle.fb_agenda.proofs.lemmas.TimerKeys.{timer_absent, timer_here, timers_searchable}
 use Rattle.fb_agenda.proofs.timer_row.Timers.has.Goals as goal
 
 pub returns-in-Ok-clause-there : goal.returns-in-Ok-clause-there

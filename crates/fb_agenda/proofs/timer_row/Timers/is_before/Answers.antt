@@ -6,9 +6,9 @@ use Rattle.fb_types.specs.declared.key.Key.{Key}
 use Rattle.fb_agenda.specs.Agendas.{AreRising}
 use Rattle.fb_agenda.specs.Timing.{timer_event, timer_events}
 use Rattle.fb_agenda.specs.declared.timer_row.Timed.{Timed}
-use Rattle.fb_agenda.proofs.Lists.{when_true}
-use Rattle.fb_agenda.proofs.Orders.{less_from, less_is}
-use Rattle.fb_agenda.proofs.Timing.{absent_no_timer, absent_timer}
+use Rattle.fb_agenda.proofs.lemmas.Lists.{when_true}
+use Rattle.fb_agenda.proofs.lemmas.Orders.{less_from, less_is}
+use Rattle.fb_agenda.proofs.lemmas.TimerKeys.{absent_no_timer, absent_timer}
 use Rattle.fb_agenda.proofs.timer_row.Timers.is_before.Goals as goal
 
 pub returns-in-Some : goal.returns-in-Some

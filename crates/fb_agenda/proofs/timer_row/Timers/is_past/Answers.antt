@@ -5,9 +5,9 @@ use Rattle.fb_types.specs.declared.key.Key.{Key}
 use Rattle.fb_agenda.specs.Agendas.{AreRising}
 use Rattle.fb_agenda.specs.Timing.{timer_event, timer_events}
 use Rattle.fb_agenda.specs.declared.timer_row.Timed.{Timed}
-use Rattle.fb_agenda.proofs.Lists.{when_true}
-use Rattle.fb_agenda.proofs.Orders.{AllBefore, less_from, less_is}
-use Rattle.fb_agenda.proofs.Timing.{before_no_timer, before_timer}
+use Rattle.fb_agenda.proofs.lemmas.Lists.{when_true}
+use Rattle.fb_agenda.proofs.lemmas.Orders.{AllBefore, less_from, less_is}
+use Rattle.fb_agenda.proofs.lemmas.TimerKeys.{before_no_timer, before_timer}
 use Rattle.fb_agenda.proofs.timer_row.Timers.is_past.Goals as goal
 
 -- the last key is the greatest of those that are there

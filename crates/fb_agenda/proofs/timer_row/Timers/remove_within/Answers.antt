@@ -6,8 +6,8 @@ use Rattle.fb_agenda.specs.Agendas.{AreRising}
 use Rattle.fb_agenda.specs.Lists.{Sets}
 use Rattle.fb_agenda.specs.Timing.{timer_event, timer_events}
 use Rattle.fb_agenda.specs.declared.timer_row.Timed.{Timed}
-use Rattle.fb_agenda.proofs.Queueing.{where_some}
-use Rattle.fb_agenda.proofs.Timing.{none_sets, timer_absent, timer_gone, timer_gone_rises, timers_searchable}
+use Rattle.fb_agenda.proofs.lemmas.Queueing.{where_some}
+use Rattle.fb_agenda.proofs.lemmas.TimerKeys.{none_sets, timer_absent, timer_gone, timer_gone_rises, timers_searchable}
 use Rattle.fb_agenda.proofs.timer_row.Timers.remove_within.Goals as goal
 
 pub returns-in-Ok-clause-sets : goal.returns-in-Ok-clause-sets

@@ -1,8 +1,8 @@
 use Rattle.std.proofs.Common.{[], ◌∷◌, ◌++◌, ap, subst, ◌∙◌}
 use Rattle.fb_types.specs.declared.key.Key.{Key}
 use Rattle.fb_agenda.specs.declared.timer_row.Timed.{Timed}
-use Rattle.fb_agenda.proofs.Orders.{AllBefore}
-use Rattle.fb_agenda.proofs.Timing.{timer_pushed}
+use Rattle.fb_agenda.proofs.lemmas.Orders.{AllBefore}
+use Rattle.fb_agenda.proofs.lemmas.TimerKeys.{timer_pushed}
 use Rattle.fb_agenda.proofs.timer_row.Timers.set.Goals as goal
 
 pub returns-then-is_past-clause-ok : goal.returns-then-is_past-clause-ok

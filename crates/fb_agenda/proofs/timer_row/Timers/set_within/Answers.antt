@@ -7,7 +7,7 @@ use Rattle.fb_types.specs.declared.run.Event.TheVariants.{Timer}
 use Rattle.fb_agenda.specs.Agendas.{AreRising}
 use Rattle.fb_agenda.specs.Timing.{timer_event, timer_events}
 use Rattle.fb_agenda.specs.declared.timer_row.Timed.{Timed}
-use Rattle.fb_agenda.proofs.Timing.{timer_put_between, timer_put_over, timers_searchable}
+use Rattle.fb_agenda.proofs.lemmas.TimerKeys.{timer_put_between, timer_put_over, timers_searchable}
 use Rattle.fb_agenda.proofs.timer_row.Timers.set_within.Goals as goal
 
 -- the timer is there

@@ -1,7 +1,7 @@
 use Rattle.std.proofs.Common.{◌++◌, ◌∷◌, [], get_or, map, None, sym, ◌∙◌, ap}
 use Rattle.std.proofs.lemmas.List.{take_all}
-use Rattle.fb_types.proofs.LoopSteps.{map_take_more}
-use Rattle.fb_check_names.proofs.Repeating.{same_within}
+use Rattle.fb_types.proofs.lemmas.lists.LoopSteps.{map_take_more}
+use Rattle.fb_check_names.proofs.lemmas.twice.Repeating.{same_within}
 use Rattle.fb_check.specs.networks.Counts.{no_count}
 use Rattle.fb_check.proofs.networks.counts.count_none.Goals as goal
 

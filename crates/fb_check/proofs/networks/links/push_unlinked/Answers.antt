@@ -1,6 +1,6 @@
 use Rattle.std.proofs.Common.{◌≡◌, ◌∙◌, ℕ, nat_eq, true, arith}
 use Rattle.std.proofs.lemmas.Bool.Decides.{nat_tests}
-use Rattle.fb_check_names.proofs.Listing.{added_unless, each_done, each_more}
+use Rattle.fb_check_names.proofs.lemmas.Listing.{added_unless, each_done, each_more}
 use Rattle.fb_check.specs.networks.Links.{is_linked, unlinked_at}
 use Rattle.fb_check.proofs.lemmas.networks.Unlinked.{linked_is, linked_same}
 use Rattle.fb_check.proofs.networks.links.push_unlinked.Goals as goal

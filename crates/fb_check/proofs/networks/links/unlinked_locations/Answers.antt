@@ -5,12 +5,12 @@ use Rattle.fb_types.specs.declared.deploy.Link.{Link}
 use Rattle.fb_types.specs.declared.deploy.Plan.{Plan}
 use Rattle.fb_types.specs.declared.library.Connection.{Connection}
 use Rattle.fb_types.specs.declared.library.Library.{Library}
-use Rattle.fb_types.proofs.Elements.{Contains-nil}
+use Rattle.fb_types.proofs.lemmas.lists.Elements.{Contains-nil}
 use Rattle.fb_check_names.specs.Listed.{each_at}
 use Rattle.fb_check_names.specs.declared.location.FlowKind.TheVariants.{Events, Data}
 use Rattle.fb_check_names.specs.declared.location.Unlinked.{Unlinked}
 use Rattle.fb_check.proofs.lemmas.types.GrowingLists.{and_both, ok_joined}
-use Rattle.fb_check_names.proofs.Listing.{of_list}
+use Rattle.fb_check_names.proofs.lemmas.Listing.{of_list}
 use Rattle.fb_check.specs.networks.Links.{AreWays, IsUnlinkedAt, unlinked_all, unlinked_at}
 use Rattle.fb_check.proofs.lemmas.networks.SetsOfSeen.{has_none, pair_cmp, pair_view}
 use Rattle.fb_check.proofs.lemmas.networks.Unlinked.{each_unlinked, none_unlinked, ways_from}

@@ -4,7 +4,7 @@ use Rattle.std.proofs.lemmas.Option.{slice_get_past}
 use Rattle.fb_types.specs.declared.library.Parameter.{Parameter}
 use Rattle.fb_check_names.specs.Listed.{each_at}
 use Rattle.fb_check_names.specs.declared.location.Misfit.{Misfit}
-use Rattle.fb_check_names.proofs.Listing.{each_done, each_more}
+use Rattle.fb_check_names.proofs.lemmas.Listing.{each_done, each_more}
 use Rattle.fb_check.proofs.lemmas.networks.SearchLoops.{at_element}
 use Rattle.fb_check.proofs.lemmas.networks.Valued.{has_input, misfit_parameter, parameter_is, parameters_are}
 use Rattle.fb_check.proofs.networks.parameters.push_parameters.Goals as goal

@@ -2,7 +2,7 @@ use Rattle.std.proofs.Common.{◌≡◌, ℕ, List, Some, None, sym, ◌∙◌, 
 use Rattle.std.specs.Prelude.{slice_get}
 use Rattle.fb_types.specs.declared.library.Instance.{Instance}
 use Rattle.fb_types.specs.declared.library.Network.{Network}
-use Rattle.fb_check_names.proofs.Listing.{each_done_of, each_more}
+use Rattle.fb_check_names.proofs.lemmas.Listing.{each_done_of, each_more}
 use Rattle.fb_check.specs.networks.Parameters.{misfit_parameters}
 use Rattle.fb_check.proofs.lemmas.networks.SearchLoops.{at_element}
 use Rattle.fb_check.proofs.lemmas.networks.Valued.{inputs_at_index, type_at_index}

@@ -10,7 +10,7 @@ use Rattle.fb_check_names.specs.declared.location.Misjoin.{Misjoin}
 use Rattle.fb_check_names.specs.declared.location.Site.TheVariants.{Application}
 use Rattle.fb_check_names.specs.declared.numbers.Resolved.{Resolved}
 use Rattle.fb_check.proofs.lemmas.types.GrowingLists.{and_both, ok_joined}
-use Rattle.fb_check_names.proofs.Listing.{of_list}
+use Rattle.fb_check_names.proofs.lemmas.Listing.{of_list}
 use Rattle.fb_check.specs.networks.Misjoins.{IsMisjoinedAt, misjoins_all, out_at_index, out_in}
 use Rattle.fb_check.proofs.lemmas.networks.Joined.{each_misjoin, misjoins_are, none_misjoin}
 use Rattle.fb_check.proofs.networks.ranges.misjoin_locations.Goals as goal

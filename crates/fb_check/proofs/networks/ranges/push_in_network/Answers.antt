@@ -2,8 +2,8 @@ use Rattle.std.proofs.Common.{◌≡◌, ℕ, ◌+◌, ◌<◌, Bool, List, ◌+
 use Rattle.std.specs.Option.{option_copied}
 use Rattle.fb_check_names.specs.Listed.{each_at, each_from, unless}
 use Rattle.fb_check_names.specs.declared.location.Misjoin.{Misjoin}
-use Rattle.fb_check_names.proofs.Listing.{each_done, each_more}
-use Rattle.fb_check_names.proofs.Repeating.{same_within}
+use Rattle.fb_check_names.proofs.lemmas.Listing.{each_done, each_more}
+use Rattle.fb_check_names.proofs.lemmas.twice.Repeating.{same_within}
 use Rattle.fb_check.specs.networks.Misjoins.{out_at}
 use Rattle.fb_check.proofs.networks.ranges.push_in_network.Goals as goal
 

@@ -9,7 +9,7 @@ use Rattle.fb_check_names.specs.Sites.{inside_of}
 use Rattle.fb_check_names.specs.declared.location.Joined.{Joined}
 use Rattle.fb_check_names.specs.declared.location.Site.TheVariants.{Application}
 use Rattle.fb_check.proofs.lemmas.types.GrowingLists.{and_both, ok_joined}
-use Rattle.fb_check_names.proofs.Listing.{of_list}
+use Rattle.fb_check_names.proofs.lemmas.Listing.{of_list}
 use Rattle.fb_check.specs.networks.Sources.{IsJoinedAt, joined_all, joined_among, joined_in}
 use Rattle.fb_check.proofs.lemmas.networks.Targets.{each_joined, none_joined}
 use Rattle.fb_check.proofs.networks.sources.joined_locations.Goals as goal

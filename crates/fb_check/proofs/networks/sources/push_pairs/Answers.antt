@@ -1,6 +1,6 @@
 use Rattle.std.proofs.Common.{ℕ, zero, List, map, refl}
-use Rattle.fb_check_names.proofs.Listing.{walk_done}
-use Rattle.fb_check_names.proofs.Repeating.{copied_more}
+use Rattle.fb_check_names.proofs.lemmas.Listing.{walk_done}
+use Rattle.fb_check_names.proofs.lemmas.twice.Repeating.{copied_more}
 use Rattle.fb_check.specs.networks.Sources.{joined_at}
 use Rattle.fb_check.proofs.networks.sources.push_pairs.Goals as goal
 

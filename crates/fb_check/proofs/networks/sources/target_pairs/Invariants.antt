@@ -2,7 +2,7 @@ use Rattle.std.proofs.Common.{◌≡◌, ◌++◌, drop, take}
 use Rattle.fb_types.specs.Names.{same_port}
 use Rattle.fb_check_names.specs.Ends.{end_port}
 use Rattle.fb_check_names.specs.Listed.{each_at, each_from}
-use Rattle.fb_check_names.proofs.Repeating.{AreLast, pair_in}
+use Rattle.fb_check_names.proofs.lemmas.twice.Repeating.{AreLast, pair_in}
 use Rattle.fb_check.specs.networks.Sources.{target, targets}
 use Rattle.fb_check.proofs.lemmas.networks.Targets.{end_cmp}
 use Rattle.fb_check.proofs.networks.sources.target_pairs.Given as goal

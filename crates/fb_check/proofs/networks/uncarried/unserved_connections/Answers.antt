@@ -3,7 +3,7 @@ use Rattle.std.proofs.lemmas.List.Elements.{Contains-get_or}
 use Rattle.fb_types.specs.declared.library.Connection.{Connection}
 use Rattle.std.proofs.lemmas.Bool.Decides.{nat_tests}
 use Rattle.fb_check_names.specs.Listed.{each_at}
-use Rattle.fb_check_names.proofs.Listing.{added_unless, each_done, each_more}
+use Rattle.fb_check_names.proofs.lemmas.Listing.{added_unless, each_done, each_more}
 use Rattle.fb_check.specs.networks.Unserved.{is_served, unserved_at}
 use Rattle.fb_check.proofs.lemmas.networks.Unserved.{served_is, served_same}
 use Rattle.fb_check.proofs.networks.uncarried.unserved_connections.Goals as goal

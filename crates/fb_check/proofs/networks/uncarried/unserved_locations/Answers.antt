@@ -2,7 +2,7 @@ use Rattle.std.proofs.Common.{◌≡◌, ℕ, [], List, subst, sym}
 use Rattle.std.specs.Prelude.{All}
 use Rattle.fb_types.specs.EventPorts.{ArePortsOfKinds}
 use Rattle.fb_types.specs.Mapped.{NoEvent}
-use Rattle.fb_check_names.proofs.Listing.{of_list}
+use Rattle.fb_check_names.proofs.lemmas.Listing.{of_list}
 use Rattle.fb_check.specs.networks.Unserved.{IsUnservedAt}
 use Rattle.fb_check.proofs.lemmas.networks.Unserved.{each_unserved, none_unserved}
 use Rattle.fb_check.proofs.networks.uncarried.unserved_locations.Goals as goal

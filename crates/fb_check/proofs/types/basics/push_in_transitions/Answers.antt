@@ -1,5 +1,5 @@
 use Rattle.fb_check.specs.types.Unknowns.{unknown_in_transition}
-use Rattle.fb_check_names.proofs.Listing.{each_done, each_more}
+use Rattle.fb_check_names.proofs.lemmas.Listing.{each_done, each_more}
 use Rattle.fb_check.proofs.lemmas.types.GrowingLists.{both_added}
 use Rattle.fb_check.proofs.types.basics.push_in_transitions.Goals as goal
 

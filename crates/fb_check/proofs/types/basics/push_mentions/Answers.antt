@@ -5,7 +5,7 @@ use Rattle.fb_check_names.specs.declared.location.UnknownName.{UnknownName}
 use Rattle.fb_check_names.specs.Listed.{unless}
 use Rattle.fb_check.specs.types.Mentions.{meant}
 use Rattle.fb_check.specs.types.Unknowns.{mention_in}
-use Rattle.fb_check_names.proofs.Listing.{added_unless, each_done, each_more}
+use Rattle.fb_check_names.proofs.lemmas.Listing.{added_unless, each_done, each_more}
 use Rattle.fb_check.proofs.types.basics.push_mentions.Goals as goal
 
 pub loop-index-preserved : goal.loop-index-preserved

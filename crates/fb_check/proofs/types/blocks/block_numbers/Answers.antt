@@ -7,7 +7,7 @@ use Rattle.fb_types.specs.declared.library.CompositeType.{CompositeType}
 use Rattle.fb_check_names.specs.PortKinds.{AreIndexesOf}
 use Rattle.fb_check_names.specs.declared.location.Direction.TheVariants.{Input, Output}
 use Rattle.fb_check_names.specs.declared.location.Site.TheVariants.{Inside}
-use Rattle.fb_check_names.proofs.Listing.{none_right}
+use Rattle.fb_check_names.proofs.lemmas.Listing.{none_right}
 use Rattle.fb_check.specs.types.Roles.{Declared}
 use Rattle.fb_check.specs.types.Unknowns.{unknown_in_network, unknown_withs}
 use Rattle.fb_check.proofs.lemmas.types.BlockNumbers.{composite_ports, composite_instances, has_indexes}

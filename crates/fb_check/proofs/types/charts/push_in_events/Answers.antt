@@ -1,6 +1,6 @@
 use Rattle.fb_check_names.specs.PortKinds.{names_of_kind}
 use Rattle.fb_check.specs.types.Unknowns.{unknown_variables}
-use Rattle.fb_check_names.proofs.Listing.{each_done, each_more}
+use Rattle.fb_check_names.proofs.lemmas.Listing.{each_done, each_more}
 use Rattle.fb_check.proofs.types.charts.push_in_events.Goals as goal
 
 pub loop-event-preserved : goal.loop-event-preserved

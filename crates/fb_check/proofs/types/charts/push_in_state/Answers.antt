@@ -4,7 +4,7 @@ use Rattle.fb_check_names.specs.declared.location.ActionPart.TheVariants.{Algori
 use Rattle.fb_check_names.specs.declared.location.UnknownName.TheVariants as location
 use Rattle.fb_check.specs.types.Unknown.{required_action}
 use Rattle.fb_check.specs.types.Unknowns.{unknown_in_action}
-use Rattle.fb_check_names.proofs.Listing.{each_done_of, each_more}
+use Rattle.fb_check_names.proofs.lemmas.Listing.{each_done_of, each_more}
 use Rattle.fb_check.proofs.lemmas.types.GrowingLists.{and_added, of_ok}
 use Rattle.fb_check.proofs.lemmas.types.RequiredNames.{unmet_is}
 use Rattle.fb_check.proofs.types.charts.push_in_state.Goals as goal

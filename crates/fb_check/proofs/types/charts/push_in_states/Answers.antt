@@ -1,5 +1,5 @@
 use Rattle.fb_check.specs.types.Unknowns.{unknown_in_state}
-use Rattle.fb_check_names.proofs.Listing.{each_done, each_more}
+use Rattle.fb_check_names.proofs.lemmas.Listing.{each_done, each_more}
 use Rattle.fb_check.proofs.types.charts.push_in_states.Goals as goal
 
 pub loop-state-preserved : goal.loop-state-preserved

@@ -6,7 +6,7 @@ use Rattle.fb_check_names.specs.Listed.{unless}
 use Rattle.fb_check_names.specs.declared.location.Side.TheVariants.{From, To}
 use Rattle.fb_check_names.specs.declared.location.UnknownName.TheVariants as location
 use Rattle.fb_check.specs.types.Present.{each_some, ends_in, sides_unless, some_of}
-use Rattle.fb_check_names.proofs.Listing.{each_done, each_more}
+use Rattle.fb_check_names.proofs.lemmas.Listing.{each_done, each_more}
 use Rattle.fb_check.proofs.lemmas.types.GrowingLists.{and_added, and_first, and_last, list_added, of_ok, one_added}
 use Rattle.fb_check.proofs.types.deployment.links_of.Goals as goal
 

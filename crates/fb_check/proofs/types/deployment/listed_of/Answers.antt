@@ -4,7 +4,7 @@ use Rattle.fb_check_names.specs.Indexes.{index_in}
 use Rattle.fb_check.specs.types.Present.{each_some, mapped_unless, some_of}
 use Rattle.fb_check_names.specs.declared.location.UnknownName.TheVariants as location
 use Rattle.fb_check_names.specs.Listed.{unless}
-use Rattle.fb_check_names.proofs.Listing.{each_done, each_more}
+use Rattle.fb_check_names.proofs.lemmas.Listing.{each_done, each_more}
 use Rattle.fb_check.proofs.lemmas.types.GrowingLists.{list_added, one_added}
 use Rattle.fb_check.proofs.types.deployment.listed_of.Goals as goal
 

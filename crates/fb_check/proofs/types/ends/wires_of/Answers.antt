@@ -10,7 +10,7 @@ use Rattle.fb_check_names.specs.declared.location.UnknownName.TheVariants as loc
 use Rattle.fb_check.specs.types.Scopes.{connection_number, placed}
 use Rattle.fb_check.specs.types.Present.{each_some, some_of}
 use Rattle.fb_check.specs.types.Unknowns.{unknown_ends}
-use Rattle.fb_check_names.proofs.Listing.{each_done, each_more}
+use Rattle.fb_check_names.proofs.lemmas.Listing.{each_done, each_more}
 use Rattle.fb_check.proofs.lemmas.types.GrowingLists.{and_added, and_first, and_last, list_added, of_ok, one_added}
 use Rattle.fb_check.proofs.lemmas.types.NumbersOfNames.{side_met}
 use Rattle.fb_check.proofs.types.ends.wires_of.Goals as goal

@@ -8,7 +8,7 @@ use Rattle.fb_check_names.specs.Listed.{each_at}
 use Rattle.fb_check_names.specs.declared.location.Misfit.{Misfit}
 use Rattle.fb_check_names.specs.declared.location.Site.TheVariants.{Application}
 use Rattle.fb_check.proofs.lemmas.types.GrowingLists.{and_both, ok_joined}
-use Rattle.fb_check_names.proofs.Listing.{of_list}
+use Rattle.fb_check_names.proofs.lemmas.Listing.{of_list}
 use Rattle.fb_check.specs.networks.Parameters.{misfits_in_network}
 use Rattle.fb_check.specs.types.MisfitLists.{misfits_all, misfits_in_block}
 use Rattle.fb_check.specs.types.Misfits.{IsMisfitAt}

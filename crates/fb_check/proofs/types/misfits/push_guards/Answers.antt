@@ -1,7 +1,7 @@
 use Rattle.fb_check.specs.types.Checks.{is_guard_right}
 use Rattle.fb_check_names.specs.declared.location.Misfit.TheVariants as misfit
 use Rattle.fb_check.specs.types.MisfitLists.{misfit_guard}
-use Rattle.fb_check_names.proofs.Listing.{added_unless, each_done, each_more}
+use Rattle.fb_check_names.proofs.lemmas.Listing.{added_unless, each_done, each_more}
 use Rattle.fb_check.proofs.types.misfits.push_guards.Goals as goal
 
 pub loop-transition-preserved : goal.loop-transition-preserved

@@ -3,7 +3,7 @@ use Rattle.std.specs.Prelude.{slice_get}
 use Rattle.std.proofs.lemmas.Option.{slice_get_read}
 use Rattle.fb_types.specs.declared.library.BlockType.{BlockType}
 use Rattle.fb_check_names.specs.declared.numbers.NetworkNumbers.{NetworkNumbers}
-use Rattle.fb_check_names.proofs.Listing.{each_done_of, each_more}
+use Rattle.fb_check_names.proofs.lemmas.Listing.{each_done_of, each_more}
 use Rattle.fb_check.proofs.lemmas.networks.SearchLoops.{at_element}
 use Rattle.fb_check.specs.types.Insides.{AreInside}
 use Rattle.fb_check.specs.types.MisfitLists.{misfits_in_block}

@@ -1,5 +1,5 @@
 use Rattle.fb_check.specs.types.MisfitLists.{misfits_in_body}
-use Rattle.fb_check_names.proofs.Listing.{each_done, each_more}
+use Rattle.fb_check_names.proofs.lemmas.Listing.{each_done, each_more}
 use Rattle.fb_check.proofs.types.misfits.push_in_bodies.Goals as goal
 
 pub loop-algorithm-preserved : goal.loop-algorithm-preserved

@@ -1,7 +1,7 @@
 use Rattle.fb_types.specs.Kinds.{declared_right}
 use Rattle.fb_check_names.specs.declared.location.Misfit.TheVariants as misfit
 use Rattle.fb_check.specs.types.MisfitLists.{misfit_initial}
-use Rattle.fb_check_names.proofs.Listing.{added_unless, each_done, each_more}
+use Rattle.fb_check_names.proofs.lemmas.Listing.{added_unless, each_done, each_more}
 use Rattle.fb_check.proofs.types.misfits.push_variables.Goals as goal
 
 pub loop-variable-preserved : goal.loop-variable-preserved

@@ -4,7 +4,7 @@ use Rattle.fb_check_names.specs.declared.numbers.TypeNumber.{TypeNumber}
 use Rattle.fb_check.specs.types.Scopes.{inputs_in, number_in}
 use Rattle.fb_check.specs.types.Present.{each_some, some_of}
 use Rattle.fb_check.specs.types.Unknowns.{unknown_in_instance}
-use Rattle.fb_check_names.proofs.Listing.{each_done, each_more}
+use Rattle.fb_check_names.proofs.lemmas.Listing.{each_done, each_more}
 use Rattle.fb_check.proofs.lemmas.types.GrowingLists.{list_added, one_added}
 use Rattle.fb_check.proofs.types.networks.push_instances.Goals as goal
 

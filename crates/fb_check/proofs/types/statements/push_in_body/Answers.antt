@@ -3,7 +3,7 @@ use Rattle.fb_check_names.specs.Listed.{each_at}
 use Rattle.fb_check.specs.types.MisfitLists.{misfits_in_statement}
 use Rattle.fb_check.specs.types.Statements.{Standing, all_standing, standing_of}
 use Rattle.fb_check.proofs.lemmas.types.GrowingLists.{all_added}
-use Rattle.fb_check_names.proofs.Listing.{each_from-map}
+use Rattle.fb_check_names.proofs.lemmas.Listing.{each_from-map}
 use Rattle.fb_check.proofs.types.statements.push_in_body.Goals as goal
 
 pub returns : goal.returns

@@ -1,5 +1,5 @@
 use Rattle.std.proofs.Common.{sym}
-use Rattle.fb_check_names.proofs.Lookups.{block_indexes}
+use Rattle.fb_check_names.proofs.lemmas.numbers.Lookups.{block_indexes}
 use Rattle.fb_check_names.proofs.types.Types.port_of.Goals as goal
 
 pub index_in-requires : goal.index_in-requires

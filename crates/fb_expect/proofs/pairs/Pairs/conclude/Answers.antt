@@ -5,7 +5,7 @@ use Rattle.fb_expect.specs.Paired.{IsInTime, IsOverdue}
 use Rattle.fb_expect.specs.Traces.{tick_of}
 use Rattle.fb_expect.specs.declared.pairs.Waiting.{Waiting}
 use Rattle.fb_expect.specs.declared.verdict.Breach.{Breach}
-use Rattle.fb_expect.proofs.Coupled.{end-holds, end-late, end-open, end-over}
+use Rattle.fb_expect.proofs.lemmas.pairs.Coupled.{end-holds, end-late, end-open, end-over}
 use Rattle.fb_expect.proofs.pairs.Pairs.conclude.Goals as goal
 
 pub returns-in-Some : goal.returns-in-Some

@@ -1,7 +1,7 @@
 use Rattle.std.proofs.Common.{List, Some, refl, subst, sym, ◌∙◌}
 use Rattle.fb_expect.specs.Paired.{IsInTime, IsOverdue, seen_line}
 use Rattle.fb_expect.specs.declared.pairs.Waiting.{Waiting}
-use Rattle.fb_expect.proofs.Coupled.{on-late, on-overdue, on-time-ok}
+use Rattle.fb_expect.proofs.lemmas.pairs.Coupled.{on-late, on-overdue, on-time-ok}
 use Rattle.fb_expect.proofs.pairs.Pairs.take.Goals as goal
 
 pub returns-then-is_some : goal.returns-then-is_some

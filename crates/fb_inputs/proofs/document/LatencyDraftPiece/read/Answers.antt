@@ -1,6 +1,6 @@
 use Rattle.std.proofs.Common.{◌≡◌, length, ap, arith}
 use Rattle.toml.specs.View.{view}
-use Rattle.fb_inputs.proofs.Values.{no_pair}
+use Rattle.fb_inputs.proofs.lemmas.deployments.DocumentValues.{no_pair}
 use Rattle.fb_inputs.proofs.document.LatencyDraftPiece.read.Goals as goal
 
 pub returns-in_default-as_slice : goal.returns-in_default-as_slice

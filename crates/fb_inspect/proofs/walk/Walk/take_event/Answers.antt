@@ -3,8 +3,8 @@ use Rattle.std.specs.Prelude.{IfErr, OnOk, ◌&&◌, if◌then◌else◌, slice_
 use Rattle.std.proofs.lemmas.Option.{same_Some}
 use Rattle.fb_types.specs.Headline.{system_of}
 use Rattle.fb_types.specs.Numbers.{path_at}
-use Rattle.fb_types.proofs.ByIndex.{element_at}
-use Rattle.fb_net.proofs.Others.{get_set_same}
+use Rattle.fb_types.proofs.lemmas.lists.ByIndex.{element_at}
+use Rattle.fb_net.proofs.lemmas.blocks.OtherBlocks.{get_set_same}
 use Rattle.fb_inspect.specs.walk.Looks.{IsTaking, IsTakingAt, left_at}
 use Rattle.fb_inspect.specs.Refusals.{FailsBy, OfRefusal}
 use Rattle.fb_inspect.specs.Selections.{is_wanted}

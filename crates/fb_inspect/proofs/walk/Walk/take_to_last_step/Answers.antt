@@ -7,7 +7,7 @@ use Rattle.fb_inspect.proofs.lemmas.walk.OneStep.{limited_ends}
 use Rattle.fb_inspect.proofs.lemmas.walk.Stepped.{look_limited}
 use Rattle.std.proofs.Common.{◌≡◌, ◌<◌, ℕ, List, [], Some, ap, refl, subst, sym, arith}
 use Rattle.std.proofs.lemmas.Result.{err_from_is_err_and}
-use Rattle.fb_types.proofs.ByIndex.{element_at}
+use Rattle.fb_types.proofs.lemmas.lists.ByIndex.{element_at}
 use Rattle.fb_types.specs.declared.value.Reason.TheVariants.{Steps}
 use Rattle.fb_inspect.specs.walk.Looks.{IsTaking, Look, left_at, most, opening_look}
 use Rattle.fb_inspect.specs.Refusals.{FailsBy, IsWrongLine}

@@ -3,7 +3,7 @@ use Rattle.std.specs.Prelude.{slice_get}
 use Rattle.fb_types.specs.Charts.{actions_of, Position}
 use Rattle.fb_types.specs.declared.library.Action.{Action}
 use Rattle.fb_types.specs.declared.value.Reason.{Reason}
-use Rattle.fb_types.proofs.ByIndex.{element_at}
+use Rattle.fb_types.proofs.lemmas.lists.ByIndex.{element_at}
 use Rattle.fb_ecc.specs.Indexes.{state_at}
 use Rattle.fb_inspect.specs.walk.Chains.{Acting}
 use Rattle.fb_inspect.specs.walk.Charting.{ChartGoes, place}

@@ -12,7 +12,7 @@ use Rattle.fb_inspect.proofs.lemmas.reactions.Timed.{block_goes, emitted_as, fit
 use Rattle.fb_types.specs.Blocks.{Emission, Event}
 use Rattle.fb_types.specs.Numbers.{emission_of, path_at, ports_at}
 use Rattle.fb_types.specs.declared.run.Emission as run
-use Rattle.fb_net.proofs.Sampling.{ports-of_kind}
+use Rattle.fb_net.proofs.lemmas.values.Sampling.{ports-of_kind}
 use Rattle.fb_inspect.specs.Refusals.{EmitsFail, IsPlainLine}
 use Rattle.fb_inspect.proofs.lemmas.reactions.NotDue.{fit_block}
 use Rattle.fb_inspect.proofs.lemmas.results.Refused.{err_refused, none_passed}

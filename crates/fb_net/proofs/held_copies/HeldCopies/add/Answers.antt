@@ -7,7 +7,7 @@ use Rattle.fb_net.specs.HeldAt.{IsAdded, place_of}
 use Rattle.fb_net.specs.Worlds.{seat_in}
 use Rattle.fb_net.specs.declared.held_copies.HeldCopies.{HeldCopies}
 use Rattle.fb_net.specs.declared.held_copies.HeldRow.{HeldRow}
-use Rattle.fb_net.proofs.HeldRows.{is_added}
+use Rattle.fb_net.proofs.lemmas.values.HeldRows.{is_added}
 use Rattle.fb_net.proofs.held_copies.HeldCopies.add.Goals as goal
 
 -- what the lists have become

@@ -2,7 +2,7 @@ use Rattle.std.proofs.Common.{◌≡◌, None, Some, sym, ap, ◌∙◌}
 use Rattle.std.specs.Prelude.{slice_get}
 use Rattle.fb_net.specs.HeldAt.{place_of}
 use Rattle.fb_net.specs.Worlds.{seat_in}
-use Rattle.fb_net.proofs.HeldRows.{copy_elsewhere, copy_here, held_by}
+use Rattle.fb_net.proofs.lemmas.values.HeldRows.{copy_elsewhere, copy_here, held_by}
 use Rattle.fb_net.proofs.held_copies.HeldCopies.get.Goals as goal
 
 pub returns : goal.returns

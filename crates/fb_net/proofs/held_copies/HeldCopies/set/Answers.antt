@@ -3,7 +3,7 @@ use Rattle.std.specs.Prelude.{slice_get, slice_set}
 use Rattle.fb_net.specs.HeldAt.{IsSet, place_of}
 use Rattle.fb_net.specs.Worlds.{seat_in}
 use Rattle.fb_net.specs.declared.held_copies.HeldRow.{HeldRow}
-use Rattle.fb_net.proofs.HeldRows.{is_set, none_set, row_with}
+use Rattle.fb_net.proofs.lemmas.values.HeldRows.{is_set, none_set, row_with}
 use Rattle.fb_net.proofs.held_copies.HeldCopies.set.Goals as goal
 
 pub returns-in-Some : goal.returns-in-Some

@@ -3,8 +3,8 @@ use Rattle.fb_types.specs.Blocks.{variable_names}
 use Rattle.fb_types.specs.declared.library.Variable.{Variable}
 use Rattle.fb_st.specs.Frames.{values_of}
 use Rattle.fb_net.specs.Opening.{begun_all}
-use Rattle.fb_net.proofs.BlockOpened.{inputs_declared, of_declaration, opens}
-use Rattle.fb_net.proofs.Charts.{charts_grow, known_chart}
+use Rattle.fb_net.proofs.lemmas.opening.BlockOpened.{inputs_declared, of_declaration, opens}
+use Rattle.fb_net.proofs.lemmas.blocks.Charts.{charts_grow, known_chart}
 use Rattle.fb_net.proofs.opening.blocks.basic_of.Goals as goal
 
 pub chart_at-requires-clause-declared : goal.chart_at-requires-clause-declared

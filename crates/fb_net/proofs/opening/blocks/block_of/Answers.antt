@@ -3,7 +3,7 @@ use Rattle.std.specs.Prelude.{option_map, slice_get}
 use Rattle.fb_types.specs.Flat.{kind_of}
 use Rattle.fb_types.specs.declared.library.BlockType.TheVariants as block
 use Rattle.fb_types.specs.declared.library.Library.{Library}
-use Rattle.fb_net.proofs.BlockOpened.{typed}
+use Rattle.fb_net.proofs.lemmas.opening.BlockOpened.{typed}
 use Rattle.fb_net.proofs.opening.blocks.block_of.Goals as goal
 
 pub unreachable-requires : goal.unreachable-requires

@@ -1,6 +1,6 @@
 use Rattle.std.proofs.Common.{◌∙◌, ◌<◌, length, arith}
 use Rattle.std.proofs.lemmas.Option.{slice_get-get_or}
-use Rattle.fb_net.proofs.Frames.{at_index, declared_step, values_step}
+use Rattle.fb_net.proofs.lemmas.opening.Frames.{at_index, declared_step, values_step}
 use Rattle.fb_net.proofs.opening.blocks.set_inputs.Goals as goal
 
 pub put-requires : goal.put-requires

@@ -1,6 +1,6 @@
 use Rattle.std.proofs.Common.{sym, subst}
 use Rattle.fb_ecc.specs.Programs.{IsSharedOf}
-use Rattle.fb_net.proofs.Charts.{chart_more}
+use Rattle.fb_net.proofs.lemmas.blocks.Charts.{chart_more}
 use Rattle.fb_net.proofs.opening.charts.chart_at.Goals as goal
 
 pub returns-clause-charts : goal.returns-clause-charts

@@ -1,5 +1,5 @@
 use Rattle.std.proofs.Common.{◌∙◌}
-use Rattle.fb_net.proofs.Copies.{instance_covered, instance_skipped}
+use Rattle.fb_net.proofs.lemmas.opening.OpeningCopies.{instance_covered, instance_skipped}
 use Rattle.fb_net.proofs.opening.copies.held_of.Goals as goal
 use Rattle.fb_net.proofs.opening.copies.held_of.Goals.{then-resource+in_ok-hold_indexes+in_ok-hold_indexes-2, else-resource}
 

@@ -1,4 +1,4 @@
-use Rattle.fb_net.proofs.Copies.{held_covers, held_keeps}
+use Rattle.fb_net.proofs.lemmas.opening.OpeningCopies.{held_covers, held_keeps}
 use Rattle.fb_net.proofs.opening.copies.hold.Goals as goal
 
 pub returns-in_ok-hold_side-clause-covered : goal.returns-in_ok-hold_side-clause-covered

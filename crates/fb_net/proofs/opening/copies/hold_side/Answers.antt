@@ -4,7 +4,7 @@ use Rattle.std.proofs.lemmas.Result.{on_ok_weaker}
 use Rattle.std.specs.Prelude.{slice_get}
 use Rattle.fb_types.specs.Headline.{system_of}
 use Rattle.fb_types.specs.declared.value.Value.{Value}
-use Rattle.fb_net.proofs.Copies.{set_keeps, set_starts, side_keeps, side_starts_so, starts_there}
+use Rattle.fb_net.proofs.lemmas.opening.OpeningCopies.{set_keeps, set_starts, side_keeps, side_starts_so, starts_there}
 use Rattle.fb_net.proofs.opening.copies.hold_side.Goals as goal
 
 pub returns-in-None-clause-here : goal.returns-in-None-clause-here

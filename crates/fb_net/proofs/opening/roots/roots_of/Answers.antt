@@ -1,5 +1,5 @@
 use Rattle.std.proofs.Common.{sym, ◌∙◌}
-use Rattle.fb_net.proofs.Roots.{all_rooted, no_roots, root_more, root_skipped}
+use Rattle.fb_net.proofs.lemmas.opening.Roots.{all_rooted, no_roots, root_more, root_skipped}
 use Rattle.fb_net.proofs.opening.roots.roots_of.Goals as goal
 use Rattle.fb_net.proofs.opening.roots.roots_of.Goals.{then-resource+in_ok-push-2, else-resource}
 

@@ -1,5 +1,5 @@
 use Rattle.std.proofs.Common.{refl, ◌∙◌}
-use Rattle.fb_net.proofs.Seating.{none_seated, seated_away, seated_more}
+use Rattle.fb_net.proofs.lemmas.opening.Seating.{none_seated, seated_away, seated_more}
 use Rattle.fb_net.proofs.opening.seats.seat_all.Goals as goal
 use Rattle.fb_net.proofs.opening.seats.seat_all.Goals.{then-resource-forest+in_ok-shell+in_ok-push-2, else-resource-forest}
 

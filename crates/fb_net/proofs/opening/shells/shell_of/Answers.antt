@@ -1,6 +1,6 @@
 use Rattle.fb_types.specs.Headline.{system_of}
 use Rattle.fb_types.specs.Numbers.{path_at}
-use Rattle.fb_net.proofs.BlockOpened.{shell_begins}
+use Rattle.fb_net.proofs.lemmas.opening.BlockOpened.{shell_begins}
 use Rattle.fb_net.proofs.opening.shells.shell_of.Goals as goal
 
 pub returns : goal.returns

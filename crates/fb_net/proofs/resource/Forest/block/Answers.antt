@@ -10,7 +10,7 @@ use Rattle.fb_net.specs.Trees.{block_at, own_at}
 use Rattle.fb_net.specs.Worlds.{Represents, RepresentsAt, way_in}
 use Rattle.fb_net.specs.declared.block.Block.{Block}
 use Rattle.fb_net.specs.declared.resource.Forest.{Forest}
-use Rattle.fb_net.proofs.OwnParts.{own_represents}
+use Rattle.fb_net.proofs.lemmas.opening.OwnParts.{own_represents}
 use Rattle.fb_net.proofs.resource.Forest.block.Goals as goal
 
 -- what is on the way of an instance

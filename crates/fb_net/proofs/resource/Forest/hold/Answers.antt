@@ -1,4 +1,4 @@
-use Rattle.fb_net.proofs.Holding.{held_changes}
+use Rattle.fb_net.proofs.lemmas.values.HeldCopyAlone.{held_changes}
 use Rattle.fb_net.proofs.resource.Forest.hold.Goals as goal
 
 pub returns : goal.returns

@@ -1,7 +1,7 @@
 use Rattle.std.proofs.Common.{sym}
-use Rattle.fb_net.proofs.Events.{no_shell}
-use Rattle.fb_net.proofs.BlocksKept.{seat-there}
-use Rattle.fb_net.proofs.Writing.{output_changes}
+use Rattle.fb_net.proofs.lemmas.blocks.EventBlockReactions.{no_shell}
+use Rattle.fb_net.proofs.lemmas.blocks.BlocksKept.{seat-there}
+use Rattle.fb_net.proofs.lemmas.values.Writing.{output_changes}
 use Rattle.fb_net.proofs.resource.Forest.publish.Goals as goal
 
 pub shell_mut-requires : goal.shell_mut-requires

@@ -1,6 +1,6 @@
 use Rattle.std.proofs.Common.{ap, ◌∙◌}
 use Rattle.fb_net.specs.Worlds.{value_in}
-use Rattle.fb_net.proofs.Shown.{seated_reads, published_stands}
+use Rattle.fb_net.proofs.lemmas.values.ShownValues.{seated_reads, published_stands}
 use Rattle.fb_net.proofs.resource.Forest.published.Goals as goal
 
 pub returns : goal.returns

@@ -2,9 +2,9 @@ use Rattle.std.proofs.Common.{ap, ◌∙◌}
 use Rattle.std.specs.Prelude.{None, Some}
 use Rattle.fb_types.specs.Headline.{system_of}
 use Rattle.fb_net.specs.Worlds.{value_in}
-use Rattle.fb_net.proofs.PortRows.{near, source_of}
-use Rattle.fb_net.proofs.Sampled.{slot_sampled, source_sampled}
-use Rattle.fb_net.proofs.Shown.{seated_reads, slot_stands}
+use Rattle.fb_net.proofs.lemmas.emitting.PortRows.{near, source_of}
+use Rattle.fb_net.proofs.lemmas.values.Sampled.{slot_sampled, source_sampled}
+use Rattle.fb_net.proofs.lemmas.values.ShownValues.{seated_reads, slot_stands}
 use Rattle.fb_net.proofs.resource.Forest.sampled.Goals as goal
 
 pub shown-requires-clause-variable : goal.shown-requires-clause-variable

@@ -1,6 +1,6 @@
 use Rattle.std.proofs.Common.{ap, length, arith}
-use Rattle.fb_net.proofs.Shown.{shell_read}
-use Rattle.fb_net.proofs.BlocksKept.{seat-there, shell-there}
+use Rattle.fb_net.proofs.lemmas.values.ShownValues.{shell_read}
+use Rattle.fb_net.proofs.lemmas.blocks.BlocksKept.{seat-there, shell-there}
 use Rattle.fb_net.proofs.resource.Forest.shell.Goals as goal
 
 pub seat_of-seat-requires : goal.seat_of-seat-requires

@@ -1,8 +1,8 @@
 use Rattle.std.proofs.Common.{ap, sym, ◌∙◌}
 use Rattle.std.proofs.lemmas.Bool.{true≢false}
 use Rattle.fb_net.specs.Worlds.{value_in}
-use Rattle.fb_net.proofs.Shown.{seated_reads, copy_stands}
-use Rattle.fb_net.proofs.Sampled.{input_seen, output_seen, shown_away, shown_here}
+use Rattle.fb_net.proofs.lemmas.values.ShownValues.{seated_reads, copy_stands}
+use Rattle.fb_net.proofs.lemmas.values.Sampled.{input_seen, output_seen, shown_away, shown_here}
 use Rattle.fb_net.proofs.resource.Forest.shown.Goals as goal
 
 pub published-requires-clause-stands : goal.published-requires-clause-stands

@@ -1,7 +1,7 @@
 use Rattle.std.specs.Prelude.{None, Some}
 use Rattle.fb_types.specs.Headline.{system_of}
-use Rattle.fb_net.proofs.PortRows.{near, source_of}
-use Rattle.fb_net.proofs.Sampled.{published_inside, source_inside}
+use Rattle.fb_net.proofs.lemmas.emitting.PortRows.{near, source_of}
+use Rattle.fb_net.proofs.lemmas.values.Sampled.{published_inside, source_inside}
 use Rattle.fb_net.proofs.resource.Forest.shown_inside.Goals as goal
 
 pub shown-requires-clause-variable : goal.shown-requires-clause-variable

@@ -1,5 +1,5 @@
 use Rattle.std.proofs.Common.{arith, ap, length}
-use Rattle.fb_net.proofs.Ways.{route_there}
+use Rattle.fb_net.proofs.lemmas.blocks.WaysInTrees.{route_there}
 use Rattle.fb_net.proofs.resource.Forest.way.Goals as goal
 
 pub unreachable-requires : goal.unreachable-requires

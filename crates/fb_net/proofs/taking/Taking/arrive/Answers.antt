@@ -9,11 +9,11 @@ use Rattle.fb_types.specs.Numbers.{path_at}
 use Rattle.fb_types.specs.declared.library.BlockType.TheVariants as block
 use Rattle.fb_types.specs.declared.library.Library.{Library}
 use Rattle.fb_types.specs.declared.run.Halt.TheVariants as halt
-use Rattle.fb_laws.proofs.Accepted.{accepted_typed}
+use Rattle.fb_laws.proofs.lemmas.typing.Accepted.{accepted_typed}
 use Rattle.fb_net.specs.Arrivals.{Arrives, entering, leaving, reacting}
 use Rattle.fb_net.specs.Steps.{HasArrived}
-use Rattle.fb_net.proofs.PortRows.{basic_input, event_block_input}
-use Rattle.fb_net.proofs.Crossing.{composite-enters, composite-leaves, done-reacted, event-arrives, reacted-ended, reacting-left, reacting-stop, remembered-ended}
+use Rattle.fb_net.proofs.lemmas.emitting.PortRows.{basic_input, event_block_input}
+use Rattle.fb_net.proofs.lemmas.taking.Crossing.{composite-enters, composite-leaves, done-reacted, event-arrives, reacted-ended, reacting-left, reacting-stop, remembered-ended}
 use Rattle.fb_net.proofs.taking.Taking.arrive.Goals as goal
 
 pub arrive_event-requires : goal.arrive_event-requires

@@ -4,11 +4,11 @@ use Rattle.fb_types.specs.Numbers.{emission_of, line_of, path_at, ports_at}
 use Rattle.fb_types.specs.declared.value.Value.{Value}
 use Rattle.fb_net.specs.Leaves.{ChartEnded}
 use Rattle.fb_net.specs.Outs.{StillAreOuts}
-use Rattle.fb_net.proofs.Arriving.{wrote-so}
-use Rattle.fb_net.proofs.Charting.{chart-reacts}
-use Rattle.fb_net.proofs.OutboxKept.{blocks-changed, lines-put, remembered-always}
-use Rattle.fb_net.proofs.BlocksKept.{kept-same, kept-then, kept-world}
-use Rattle.fb_net.proofs.Sampling.{taken_line}
+use Rattle.fb_net.proofs.lemmas.taking.Arriving.{wrote-so}
+use Rattle.fb_net.proofs.lemmas.taking.Charting.{chart-reacts}
+use Rattle.fb_net.proofs.lemmas.emitting.OutboxKept.{blocks-changed, lines-put, remembered-always}
+use Rattle.fb_net.proofs.lemmas.blocks.BlocksKept.{kept-same, kept-then, kept-world}
+use Rattle.fb_net.proofs.lemmas.values.Sampling.{taken_line}
 use Rattle.fb_net.proofs.taking.Taking.arrive_basic.Goals as goal
 
 pub sampled_values-requires-clause-with : goal.sampled_values-requires-clause-with

@@ -13,11 +13,11 @@ use Rattle.fb_net.specs.Leaves.{EventCame, HasTypedInputs, taken_reaction}
 use Rattle.fb_net.specs.Outs.{asked}
 use Rattle.fb_net.specs.declared.outbox.Outbox.{Outbox}
 use Rattle.fb_net.specs.Steps.{AreKept}
-use Rattle.fb_net.proofs.Arriving.{event-reacts, event-typed, ports-of_event}
-use Rattle.fb_net.proofs.PortRows.{event-no_basic}
-use Rattle.fb_net.proofs.OutboxKept.{timer-asked}
-use Rattle.fb_net.proofs.TakingSteps.{already, put-out-after, ready-after, still, whole-after}
-use Rattle.fb_net.proofs.BlocksKept.{kept-then, kept-world}
+use Rattle.fb_net.proofs.lemmas.taking.Arriving.{event-reacts, event-typed, ports-of_event}
+use Rattle.fb_net.proofs.lemmas.emitting.PortRows.{event-no_basic}
+use Rattle.fb_net.proofs.lemmas.emitting.OutboxKept.{timer-asked}
+use Rattle.fb_net.proofs.lemmas.taking.TakingSteps.{already, put-out-after, ready-after, still, whole-after}
+use Rattle.fb_net.proofs.lemmas.blocks.BlocksKept.{kept-then, kept-world}
 use Rattle.fb_net.proofs.taking.Taking.arrive_event.Goals as goal
 
 pub take_samples-requires-clause-may : goal.take_samples-requires-clause-may

@@ -8,9 +8,9 @@ use Rattle.fb_types.specs.Numbers.{path_at, ports_at}
 use Rattle.fb_types.specs.declared.key.Key.{Key}
 use Rattle.fb_system.specs.Lines.{IsEmission}
 use Rattle.fb_net.specs.Steps.{EmitsWell, ports_in}
-use Rattle.fb_net.proofs.PortRows.{one_with}
-use Rattle.fb_net.proofs.Emitting.{middle_fits, nothing_emitted}
-use Rattle.fb_net.proofs.TakingSteps.{emitted-after, may-emit-again, stays-whole, still, whole-after}
+use Rattle.fb_net.proofs.lemmas.emitting.PortRows.{one_with}
+use Rattle.fb_net.proofs.lemmas.emitting.Emitting.{middle_fits, nothing_emitted}
+use Rattle.fb_net.proofs.lemmas.taking.TakingSteps.{emitted-after, may-emit-again, stays-whole, still, whole-after}
 use Rattle.fb_net.proofs.taking.Taking.emit_all.Goals as goal
 
 pub loop-emission-init : goal.loop-emission-init

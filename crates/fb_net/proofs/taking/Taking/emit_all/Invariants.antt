@@ -1,5 +1,5 @@
 use Rattle.std.proofs.Common.{length}
-use Rattle.fb_net.proofs.TakingSteps.{EmittedSoFar}
+use Rattle.fb_net.proofs.lemmas.taking.TakingSteps.{EmittedSoFar}
 use Rattle.fb_net.proofs.taking.Taking.emit_all.Given as goal
 
 abbrev pub invariant-loop-emission : goal.invariant-loop-emission

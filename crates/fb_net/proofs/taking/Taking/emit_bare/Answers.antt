@@ -8,9 +8,9 @@ use Rattle.fb_types.specs.declared.value.Value.{Value}
 use Rattle.fb_net.specs.Emitting.{bare}
 use Rattle.fb_net.specs.Outs.{IsOut, out_of}
 use Rattle.fb_net.specs.declared.outbox.Outbox.{Outbox}
-use Rattle.fb_net.proofs.Emitting.{Doing, has_emitted, line_by, no_indexes}
-use Rattle.fb_net.proofs.Publishing.{nothing_shown}
-use Rattle.fb_net.proofs.BlocksKept.{kept-same}
+use Rattle.fb_net.proofs.lemmas.emitting.Emitting.{Doing, has_emitted, line_by, no_indexes}
+use Rattle.fb_net.proofs.lemmas.emitting.Publishing.{nothing_shown}
+use Rattle.fb_net.proofs.lemmas.blocks.BlocksKept.{kept-same}
 use Rattle.fb_net.proofs.taking.Taking.emit_bare.Goals as goal
 
 pub send_out-requires-clause-first : goal.send_out-requires-clause-first

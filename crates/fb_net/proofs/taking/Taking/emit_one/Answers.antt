@@ -9,8 +9,8 @@ use Rattle.fb_net.specs.Changes.{Changes}
 use Rattle.fb_net.specs.Emitting.{carried_by, outputs_at, outputs_shown}
 use Rattle.fb_net.specs.Outs.{IsOut, out_of}
 use Rattle.fb_net.specs.declared.outbox.Outbox.{Outbox}
-use Rattle.fb_net.proofs.Emitting.{Doing, are_carried, has_emitted, line_by}
-use Rattle.fb_net.proofs.BlocksKept.{kept-changed}
+use Rattle.fb_net.proofs.lemmas.emitting.Emitting.{Doing, are_carried, has_emitted, line_by}
+use Rattle.fb_net.proofs.lemmas.blocks.BlocksKept.{kept-changed}
 use Rattle.fb_net.proofs.taking.Taking.emit_one.Goals as goal
 
 pub indexes_of-indexes-requires-clause-with : goal.indexes_of-indexes-requires-clause-with

@@ -10,9 +10,9 @@ use Rattle.fb_types.specs.declared.value.Value.{Value}
 use Rattle.fb_net.specs.Emitting.{carried_by, outputs_at, outputs_shown}
 use Rattle.fb_net.specs.Outs.{IsOut, out_of}
 use Rattle.fb_net.specs.declared.outbox.Outbox.{Outbox}
-use Rattle.fb_net.proofs.Changing.{changes_as}
-use Rattle.fb_net.proofs.Emitting.{Doing, are_carried, has_emitted, line_by}
-use Rattle.fb_net.proofs.BlocksKept.{kept-changed}
+use Rattle.fb_net.proofs.lemmas.blocks.Changing.{changes_as}
+use Rattle.fb_net.proofs.lemmas.emitting.Emitting.{Doing, are_carried, has_emitted, line_by}
+use Rattle.fb_net.proofs.lemmas.blocks.BlocksKept.{kept-changed}
 use Rattle.fb_net.proofs.taking.Taking.emit_value.Goals as goal
 
 pub publish-requires-clause-variable : goal.publish-requires-clause-variable

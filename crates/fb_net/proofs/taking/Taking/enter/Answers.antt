@@ -8,9 +8,9 @@ use Rattle.fb_system.specs.Ports.{IsPort}
 use Rattle.fb_net.specs.Arrivals.{entering}
 use Rattle.fb_net.specs.Outs.{IsOut}
 use Rattle.fb_net.specs.Worlds.{InForest}
-use Rattle.fb_net.proofs.Arriving.{enters, sent-of}
-use Rattle.fb_net.proofs.PortRows.{composite-no_basic}
-use Rattle.fb_net.proofs.TakingSteps.{already, done-well, put-out-after, ready-after, still}
+use Rattle.fb_net.proofs.lemmas.taking.Arriving.{enters, sent-of}
+use Rattle.fb_net.proofs.lemmas.emitting.PortRows.{composite-no_basic}
+use Rattle.fb_net.proofs.lemmas.taking.TakingSteps.{already, done-well, put-out-after, ready-after, still}
 use Rattle.fb_net.proofs.taking.Taking.enter.Goals as goal
 
 pub take_samples-requires-clause-may : goal.take_samples-requires-clause-may

@@ -5,11 +5,11 @@ use Rattle.fb_types.specs.Numbers.{path_at, ports_at}
 use Rattle.fb_types.specs.declared.run.Target.{Target}
 use Rattle.fb_system.specs.Ends.{LeadsTo}
 use Rattle.fb_net.specs.Arrivals.{leaving}
-use Rattle.fb_net.proofs.Arriving.{leaves}
-use Rattle.fb_net.proofs.PortRows.{at_output, indexes_out, one_with, source_out}
-use Rattle.fb_net.proofs.Reading.{one-shown}
-use Rattle.fb_net.proofs.TakingSteps.{done-well}
-use Rattle.fb_net.proofs.BlocksKept.{kept-same}
+use Rattle.fb_net.proofs.lemmas.taking.Arriving.{leaves}
+use Rattle.fb_net.proofs.lemmas.emitting.PortRows.{at_output, indexes_out, one_with, source_out}
+use Rattle.fb_net.proofs.lemmas.values.ReadIndexes.{one-shown}
+use Rattle.fb_net.proofs.lemmas.taking.TakingSteps.{done-well}
+use Rattle.fb_net.proofs.lemmas.blocks.BlocksKept.{kept-same}
 use Rattle.fb_net.proofs.taking.Taking.leave.Goals as goal
 
 pub shown_inside-requires-clause-variable : goal.shown_inside-requires-clause-variable

@@ -5,12 +5,12 @@ use Rattle.fb_types.specs.Numbers.{path_at, ports_at}
 use Rattle.fb_types.specs.declared.run.TimerAsk.TheVariants.{Keep}
 use Rattle.fb_net.specs.Emitting.{bare}
 use Rattle.fb_net.specs.Samples.{names_in}
-use Rattle.fb_net.proofs.Arriving.{event-reacts}
-use Rattle.fb_net.proofs.Changing.{samples_none}
-use Rattle.fb_net.proofs.PassingOn.{is_emission, no_names, nothing_sampled, passed_came}
-use Rattle.fb_net.proofs.OutboxKept.{lines-put}
-use Rattle.fb_net.proofs.Sampling.{sampling-represents}
-use Rattle.fb_net.proofs.BlocksKept.{kept-same}
+use Rattle.fb_net.proofs.lemmas.taking.Arriving.{event-reacts}
+use Rattle.fb_net.proofs.lemmas.blocks.Changing.{samples_none}
+use Rattle.fb_net.proofs.lemmas.taking.PassingOn.{is_emission, no_names, nothing_sampled, passed_came}
+use Rattle.fb_net.proofs.lemmas.emitting.OutboxKept.{lines-put}
+use Rattle.fb_net.proofs.lemmas.values.Sampling.{sampling-represents}
+use Rattle.fb_net.proofs.lemmas.blocks.BlocksKept.{kept-same}
 use Rattle.fb_net.proofs.taking.Taking.pass_on.Goals as goal
 
 pub write_taken-requires-clause-port : goal.write_taken-requires-clause-port

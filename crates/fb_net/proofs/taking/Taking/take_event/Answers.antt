@@ -13,10 +13,10 @@ use Rattle.fb_net.specs.Steps.{AreKept, HasArrived, IsKept, MayTake, WasTaken}
 use Rattle.fb_net.specs.Worlds.{InForest}
 use Rattle.fb_net.specs.declared.arrival.Arrival.{Arrival}
 use Rattle.fb_net.specs.declared.taking.Taking.{Taking}
-use Rattle.fb_net.proofs.ByEvent.{arrival-taken, arrival-typed, local-taken}
-use Rattle.fb_net.proofs.PortRows.{path-of_port}
-use Rattle.fb_net.proofs.OutboxKept.{blocks-changed, remembered-then}
-use Rattle.fb_net.proofs.BlocksKept.{kept-held, kept-then}
+use Rattle.fb_net.proofs.lemmas.taking.ByEvent.{arrival-taken, arrival-typed, local-taken}
+use Rattle.fb_net.proofs.lemmas.emitting.PortRows.{path-of_port}
+use Rattle.fb_net.proofs.lemmas.emitting.OutboxKept.{blocks-changed, remembered-then}
+use Rattle.fb_net.proofs.lemmas.blocks.BlocksKept.{kept-held, kept-then}
 use Rattle.fb_net.proofs.taking.Taking.take_event.Goals as goal
 use Rattle.fb_net.proofs.taking.Taking.take_event.Goals.{in-Message, in-Local}
 

@@ -8,9 +8,9 @@ use Rattle.fb_types.specs.declared.run.SlotValue.{SlotValue}
 use Rattle.fb_system.specs.Stimuli.{set_of}
 use Rattle.fb_net.specs.Events.{event_of}
 use Rattle.fb_net.specs.Outs.{StillAreOuts}
-use Rattle.fb_net.proofs.ByEvent.{stimulus-kept, stimulus-lies, stimulus-taken, stimulus-typed}
-use Rattle.fb_net.proofs.OutboxKept.{blocks-changed, remembered-then}
-use Rattle.fb_net.proofs.BlocksKept.{kept-then}
+use Rattle.fb_net.proofs.lemmas.taking.ByEvent.{stimulus-kept, stimulus-lies, stimulus-taken, stimulus-typed}
+use Rattle.fb_net.proofs.lemmas.emitting.OutboxKept.{blocks-changed, remembered-then}
+use Rattle.fb_net.proofs.lemmas.blocks.BlocksKept.{kept-then}
 use Rattle.fb_net.proofs.taking.Taking.take_given.Goals as goal
 
 -- a row sets what is in its list of slots

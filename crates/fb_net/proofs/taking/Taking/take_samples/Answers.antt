@@ -5,11 +5,11 @@ use Rattle.fb_types.specs.declared.value.Value.{Value}
 use Rattle.fb_net.specs.Arrivals.{sampling}
 use Rattle.fb_net.specs.Changes.{Changes}
 use Rattle.fb_net.specs.Samples.{all_sampled, names_in}
-use Rattle.fb_net.proofs.PortRows.{indexes_in, one_with}
-use Rattle.fb_net.proofs.OutboxKept.{lines-put}
-use Rattle.fb_net.proofs.TakingSteps.{done-well}
-use Rattle.fb_net.proofs.Sampling.{sampling-represents}
-use Rattle.fb_net.proofs.BlocksKept.{kept-changed, kept-same}
+use Rattle.fb_net.proofs.lemmas.emitting.PortRows.{indexes_in, one_with}
+use Rattle.fb_net.proofs.lemmas.emitting.OutboxKept.{lines-put}
+use Rattle.fb_net.proofs.lemmas.taking.TakingSteps.{done-well}
+use Rattle.fb_net.proofs.lemmas.values.Sampling.{sampling-represents}
+use Rattle.fb_net.proofs.lemmas.blocks.BlocksKept.{kept-changed, kept-same}
 use Rattle.fb_net.proofs.taking.Taking.take_samples.Goals as goal
 
 pub keep_samples-requires-clause-indexes : goal.keep_samples-requires-clause-indexes

@@ -1,8 +1,8 @@
 use Rattle.fb_types.specs.declared.run.Event.TheVariants.{Stimulus}
-use Rattle.fb_net.proofs.ByEvent.{stimulus-is, stimulus-kept, stimulus-lies, stimulus-taken, stimulus-typed}
+use Rattle.fb_net.proofs.lemmas.taking.ByEvent.{stimulus-is, stimulus-kept, stimulus-lies, stimulus-taken, stimulus-typed}
 use Rattle.fb_net.specs.Outs.{StillAreOuts}
-use Rattle.fb_net.proofs.OutboxKept.{blocks-changed, remembered-then}
-use Rattle.fb_net.proofs.BlocksKept.{kept-then}
+use Rattle.fb_net.proofs.lemmas.emitting.OutboxKept.{blocks-changed, remembered-then}
+use Rattle.fb_net.proofs.lemmas.blocks.BlocksKept.{kept-then}
 use Rattle.fb_net.proofs.taking.Taking.take_stimulus.Goals as goal
 
 pub arrive-requires-clause-typed : goal.arrive-requires-clause-typed

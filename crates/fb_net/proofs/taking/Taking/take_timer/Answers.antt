@@ -2,10 +2,10 @@ use Rattle.std.proofs.Common.{◌∙◌, refl, sym, subst, arith}
 use Rattle.std.proofs.lemmas.Result.{on_ok_weaker}
 use Rattle.fb_net.specs.Emitting.{EmitsSo}
 use Rattle.fb_net.specs.declared.outbox.Outbox.{Outbox}
-use Rattle.fb_net.proofs.ByEvent.{timer-expires, timer-rests, timer-taken}
-use Rattle.fb_net.proofs.OutboxKept.{timer-asked}
-use Rattle.fb_net.proofs.TakingSteps.{stays-whole}
-use Rattle.fb_net.proofs.BlocksKept.{kept-same, kept-then, kept-world}
+use Rattle.fb_net.proofs.lemmas.taking.ByEvent.{timer-expires, timer-rests, timer-taken}
+use Rattle.fb_net.proofs.lemmas.emitting.OutboxKept.{timer-asked}
+use Rattle.fb_net.proofs.lemmas.taking.TakingSteps.{stays-whole}
+use Rattle.fb_net.proofs.lemmas.blocks.BlocksKept.{kept-same, kept-then, kept-world}
 use Rattle.fb_net.proofs.taking.Taking.take_timer.Goals as goal
 use Rattle.std.specs.Prelude.{slice_get}
 

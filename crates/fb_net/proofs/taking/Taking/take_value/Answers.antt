@@ -8,12 +8,12 @@ use Rattle.fb_system.specs.IndexLists.{variable_at}
 use Rattle.fb_net.specs.Arrivals.{sampling}
 use Rattle.fb_net.specs.Samples.{all_sampled, names_in}
 use Rattle.fb_net.specs.Changes.{Changes}
-use Rattle.fb_net.proofs.Changing.{changes_as}
-use Rattle.fb_net.proofs.PortRows.{indexes_in, source_in}
-use Rattle.fb_net.proofs.OutboxKept.{lines-put}
-use Rattle.fb_net.proofs.TakingSteps.{done-well}
-use Rattle.fb_net.proofs.Sampling.{one-sampled, sampling-represents}
-use Rattle.fb_net.proofs.BlocksKept.{kept-changed}
+use Rattle.fb_net.proofs.lemmas.blocks.Changing.{changes_as}
+use Rattle.fb_net.proofs.lemmas.emitting.PortRows.{indexes_in, source_in}
+use Rattle.fb_net.proofs.lemmas.emitting.OutboxKept.{lines-put}
+use Rattle.fb_net.proofs.lemmas.taking.TakingSteps.{done-well}
+use Rattle.fb_net.proofs.lemmas.values.Sampling.{one-sampled, sampling-represents}
+use Rattle.fb_net.proofs.lemmas.blocks.BlocksKept.{kept-changed}
 use Rattle.fb_net.proofs.taking.Taking.take_value.Goals as goal
 
 pub sampled-value-requires-clause-variable : goal.sampled-value-requires-clause-variable

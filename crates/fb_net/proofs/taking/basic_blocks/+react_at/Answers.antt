@@ -4,7 +4,7 @@ use Rattle.fb_ecc.specs.Indexes.{IsBlockOf}
 use Rattle.fb_ecc.specs.declared.state.BasicState.{BasicState}
 use Rattle.fb_net.specs.declared.block.Block.{Block}
 use Rattle.fb_net.specs.declared.block.Block.TheVariants as block
-use Rattle.fb_net.proofs.Descents.{changed_below, changed_here, first_there, here_is}
+use Rattle.fb_net.proofs.lemmas.blocks.Descents.{changed_below, changed_here, first_there, here_is}
 use Rattle.fb_net.proofs.taking.basic_blocks.+react_at.Goals as goal
 
 pub unreachable-requires : goal.unreachable-requires

@@ -1,7 +1,7 @@
 use Rattle.std.proofs.Common.{List, subst, sym}
 use Rattle.fb_types.specs.declared.run.Carried.{Carried}
 use Rattle.fb_net.specs.Samples.{HoldsAll}
-use Rattle.fb_net.proofs.Changing.{holds_one}
+use Rattle.fb_net.proofs.lemmas.blocks.Changing.{holds_one}
 use Rattle.fb_net.proofs.taking.bring.hold_carried.Goals as goal
 
 pub returns-in-Ok : goal.returns-in-Ok

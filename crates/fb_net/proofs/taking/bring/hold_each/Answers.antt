@@ -1,4 +1,4 @@
-use Rattle.fb_net.proofs.Changing.{holds_more}
+use Rattle.fb_net.proofs.lemmas.blocks.Changing.{holds_more}
 use Rattle.fb_net.proofs.taking.bring.hold_each.Goals as goal
 
 pub loop-item-preserved : goal.loop-item-preserved

@@ -6,7 +6,7 @@ use Rattle.fb_types.specs.Headline.{AreAccepted, Inputs, system_of}
 use Rattle.fb_types.specs.Numbers.{path_at, ports_at}
 use Rattle.fb_types.specs.declared.run.InstanceVariable.{InstanceVariable}
 use Rattle.fb_types.specs.declared.value.Value.{Value}
-use Rattle.fb_types.proofs.ByIndex.{all_at}
+use Rattle.fb_types.proofs.lemmas.lists.ByIndex.{all_at}
 use Rattle.fb_system.specs.Ports.{IsVariable}
 use Rattle.fb_types.specs.declared.run.SlotValue.{SlotValue}
 use Rattle.fb_net.specs.Changes.{Changes}
@@ -14,10 +14,10 @@ use Rattle.fb_net.specs.Samples.{slots_set}
 use Rattle.fb_net.specs.Worlds.{seat_in, with_seated}
 use Rattle.fb_net.specs.declared.resource.Forest.{Forest}
 use Rattle.fb_net.specs.declared.shell.Shell.{Shell}
-use Rattle.fb_net.proofs.Changing.{changes_none, changes_as, changes_more, one_by_one, one_by_one-set, value_set}
-use Rattle.fb_net.proofs.Events.{no_shell}
-use Rattle.fb_net.proofs.BlocksKept.{seat-there, stands-changed}
-use Rattle.fb_net.proofs.Writing.{AreNumbered, slot_changes}
+use Rattle.fb_net.proofs.lemmas.blocks.Changing.{changes_none, changes_as, changes_more, one_by_one, one_by_one-set, value_set}
+use Rattle.fb_net.proofs.lemmas.blocks.EventBlockReactions.{no_shell}
+use Rattle.fb_net.proofs.lemmas.blocks.BlocksKept.{seat-there, stands-changed}
+use Rattle.fb_net.proofs.lemmas.values.Writing.{AreNumbered, slot_changes}
 use Rattle.fb_net.proofs.taking.bring.set_slots.Goals as goal
 
 pub loop-set-init : goal.loop-set-init

@@ -1,5 +1,5 @@
 use Rattle.std.proofs.Common.{◌≡◌, ◌∙◌, length, sym, arith}
-use Rattle.fb_net.proofs.Emitting.{carried_only}
+use Rattle.fb_net.proofs.lemmas.emitting.Emitting.{carried_only}
 use Rattle.fb_net.proofs.taking.emit.carried_values.Goals as goal
 
 pub returns-in-Some : goal.returns-in-Some

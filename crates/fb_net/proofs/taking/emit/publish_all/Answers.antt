@@ -5,8 +5,8 @@ use Rattle.fb_types.specs.Blocks.{Bound}
 use Rattle.fb_types.specs.Headline.{system_of}
 use Rattle.fb_net.specs.Changes.{Changes}
 use Rattle.fb_net.specs.Emitting.{outputs_shown}
-use Rattle.fb_net.proofs.Publishing.{all-outputs, nothing_shown, one_more_shown}
-use Rattle.fb_net.proofs.BlocksKept.{stands-changed}
+use Rattle.fb_net.proofs.lemmas.emitting.Publishing.{all-outputs, nothing_shown, one_more_shown}
+use Rattle.fb_net.proofs.lemmas.blocks.BlocksKept.{stands-changed}
 use Rattle.fb_net.proofs.taking.emit.publish_all.Goals as goal
 
 pub loop-index-init : goal.loop-index-init

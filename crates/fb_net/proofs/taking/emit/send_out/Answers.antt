@@ -3,8 +3,8 @@ use mathlib.Core.Bool.{not}
 use Rattle.fb_types.specs.Headline.{system_of}
 use Rattle.fb_types.specs.Numbers.{port_of}
 use Rattle.fb_net.specs.Emitting.{home_of}
-use Rattle.fb_net.proofs.Targets.{all_gone, last_gone, none_after, none_gone, one_more_gone, puts_out}
-use Rattle.fb_net.proofs.PortRows.{leads_to}
+use Rattle.fb_net.proofs.lemmas.taking.Targets.{all_gone, last_gone, none_after, none_gone, one_more_gone, puts_out}
+use Rattle.fb_net.proofs.lemmas.emitting.PortRows.{leads_to}
 use Rattle.fb_net.proofs.taking.emit.send_out.Goals as goal
 
 pub loop-next-init : goal.loop-next-init

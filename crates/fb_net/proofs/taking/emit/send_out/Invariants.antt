@@ -3,7 +3,7 @@ use Rattle.fb_types.specs.Headline.{system_of}
 use Rattle.fb_types.specs.Numbers.{carried_of, port_of}
 use Rattle.fb_system.specs.Ends.{LeadsTo}
 use Rattle.fb_net.specs.Emitting.{carried_by, home_of}
-use Rattle.fb_net.proofs.Targets.{HaveGone}
+use Rattle.fb_net.proofs.lemmas.taking.Targets.{HaveGone}
 use Rattle.fb_net.proofs.taking.emit.send_out.Given as goal
 
 abbrev pub invariant-loop-next : goal.invariant-loop-next

@@ -5,7 +5,7 @@ use Rattle.fb_event.specs.Reactions.{reaction_to}
 use Rattle.fb_net.specs.Trees.{Changed}
 use Rattle.fb_net.specs.Leaves.{HasTurned, IsTypedAt, taken_reaction}
 use Rattle.fb_net.specs.Worlds.{way_in}
-use Rattle.fb_net.proofs.Events.{no_shell, taken_is, turned_came, turned_fit, turned_whole, typed_there}
+use Rattle.fb_net.proofs.lemmas.blocks.EventBlockReactions.{no_shell, taken_is, turned_came, turned_fit, turned_whole, typed_there}
 use Rattle.fb_net.proofs.taking.event_blocks.react_event.Goals as goal
 
 pub seat_of-seat-requires : goal.seat_of-seat-requires

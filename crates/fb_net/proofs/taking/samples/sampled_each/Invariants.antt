@@ -1,4 +1,4 @@
-use Rattle.fb_net.proofs.Reading.{AreReadUpTo, sampled_at}
+use Rattle.fb_net.proofs.lemmas.values.ReadIndexes.{AreReadUpTo, sampled_at}
 use Rattle.fb_net.proofs.taking.samples.sampled_each.Given as goal
 
 abbrev pub invariant-loop-index : goal.invariant-loop-index

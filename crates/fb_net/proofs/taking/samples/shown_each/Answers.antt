@@ -2,7 +2,7 @@ use Rattle.fb_types.specs.Headline.{system_of}
 use Rattle.fb_types.specs.Numbers.{path_at, ports_at}
 use Rattle.fb_types.specs.Reactions.{from_inside}
 use Rattle.fb_net.specs.Samples.{names_out}
-use Rattle.fb_net.proofs.Reading.{read_all, read_more, shown_at}
+use Rattle.fb_net.proofs.lemmas.values.ReadIndexes.{read_all, read_more, shown_at}
 use Rattle.fb_net.proofs.taking.samples.shown_each.Goals as goal
 
 pub returns-clause-shown : goal.returns-clause-shown

@@ -5,8 +5,8 @@ use Rattle.fb_types.specs.Simulation.{opening_state}
 use Rattle.fb_types.specs.Takes.{world_of}
 use Rattle.fb_net.specs.declared.block.Block.{Block}
 use Rattle.fb_net.specs.Opening.{AreGrown, AreRooted, CoversAll}
-use Rattle.fb_net.proofs.Charts.{no_charts}
-use Rattle.fb_net.proofs.BlockWays.{forest_is, top_deep}
+use Rattle.fb_net.proofs.lemmas.blocks.Charts.{no_charts}
+use Rattle.fb_net.proofs.lemmas.opening.BlockWays.{forest_is, top_deep}
 use Rattle.fb_net.proofs.tree.Tree.build.Goals as goal
 
 pub blocks_of-requires-clause-charts : goal.blocks_of-requires-clause-charts

@@ -4,7 +4,7 @@ use Rattle.fb_types.specs.declared.library.BlockType.{BlockType}
 use Rattle.fb_read.specs.declared.token.Mark.TheVariants as mark
 use Rattle.fb_read.specs.Parser.{Reads, run_after}
 use Rattle.fb_read.specs.Blocks.{block, library}
-use Rattle.fb_read.proofs.Reading.{stops, stops_later, went_on}
+use Rattle.fb_read.proofs.lemmas.rules.Reading.{stops, stops_later, went_on}
 use Rattle.fb_read.proofs.block.LibraryRule.read.Goals as goal
 
 pub returns-in_err-before : goal.returns-in_err-before

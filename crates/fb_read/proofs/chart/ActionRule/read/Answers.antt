@@ -8,8 +8,8 @@ use Rattle.fb_read.specs.Tokens.{Tokens}
 use Rattle.fb_read.specs.Nodes.{action_of}
 use Rattle.fb_read.specs.Parser.{Parser, Outcome, ◌>>=◌, and_then, pure, refuse, name, name_if, optional, sees, after}
 use Rattle.fb_read.specs.Charts.{action}
-use Rattle.fb_read.proofs.Pairs.{alike}
-use Rattle.fb_read.proofs.Reading.{read_as, stops, stops_as, stops_later, went_on}
+use Rattle.fb_read.proofs.lemmas.rules.Pairs.{alike}
+use Rattle.fb_read.proofs.lemmas.rules.Reading.{read_as, stops, stops_as, stops_later, went_on}
 use Rattle.fb_read.proofs.chart.ActionRule.read.Goals as goal
 
 -- an action has an algorithm or an output

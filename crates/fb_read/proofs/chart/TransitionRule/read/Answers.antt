@@ -1,6 +1,6 @@
 use Rattle.std.proofs.lemmas.Result.{err_from_is_err_and}
-use Rattle.fb_read.proofs.Pairs.{transition_is}
-use Rattle.fb_read.proofs.Reading.{goes_on, read_as, stops, stops_as, stops_later}
+use Rattle.fb_read.proofs.lemmas.rules.Pairs.{transition_is}
+use Rattle.fb_read.proofs.lemmas.rules.Reading.{goes_on, read_as, stops, stops_as, stops_later}
 use Rattle.fb_read.proofs.chart.TransitionRule.read.Goals as goal
 
 pub returns-in_err-both : goal.returns-in_err-both

@@ -6,9 +6,9 @@ use Rattle.fb_read.specs.Parser.{Parser, and_then}
 use Rattle.fb_read.specs.declared.expression.Nested.{Nested}
 use Rattle.fb_read.specs.Operators.{next_operator}
 use Rattle.fb_read.specs.Expressions.{nested_expression, level_at, climb}
-use Rattle.fb_read.proofs.Turns.{one_more, no_more, deeper}
-use Rattle.fb_read.proofs.Joins.{climb_over, joined_more}
-use Rattle.fb_read.proofs.Reading.{stops, stops_as, went_on}
+use Rattle.fb_read.proofs.lemmas.rules.CountedLoops.{one_more, no_more, deeper}
+use Rattle.fb_read.proofs.lemmas.expressions.RightOperands.{climb_over, joined_more}
+use Rattle.fb_read.proofs.lemmas.rules.Reading.{stops, stops_as, went_on}
 use Rattle.fb_read.proofs.expression.ExpressionRules.+level.Goals as goal
 
 level_above : (below : ℕ) (inner : ℕ → Parser Nested) (n : ℕ) (ts : Tokens) → 0 < n

@@ -9,7 +9,7 @@ use Rattle.fb_read.specs.Tokens.{Tokens}
 use Rattle.fb_read.specs.Parser.{Parser, Reads, and_then, rest_of}
 use Rattle.fb_read.specs.declared.expression.Nested.{Nested}
 use Rattle.fb_read.specs.Expressions.{joined, around}
-use Rattle.fb_read.proofs.Reading.{goes_on, read_as, stops, stops_as}
+use Rattle.fb_read.proofs.lemmas.rules.Reading.{goes_on, read_as, stops, stops_as}
 use Rattle.fb_read.proofs.expression.ExpressionRules.joined.Goals as goal
 
 -- an operator, after a left operand that does not nest too deep

@@ -3,8 +3,8 @@ use Rattle.std.proofs.lemmas.Result.{err_from_is_err_and}
 use Rattle.fb_types.specs.declared.library.Instance.{Instance}
 use Rattle.fb_read.specs.Network.{network}
 use Rattle.fb_read.specs.Nodes.{network_of}
-use Rattle.fb_read.proofs.Counts.{instances-count}
-use Rattle.fb_read.proofs.Reading.{stops, stops_later, went_on}
+use Rattle.fb_read.proofs.lemmas.rules.Counts.{instances-count}
+use Rattle.fb_read.proofs.lemmas.rules.Reading.{stops, stops_later, went_on}
 use Rattle.fb_read.proofs.network.NetworkRule.read.Goals as goal
 
 pub returns-in_err-expect : goal.returns-in_err-expect

@@ -1,7 +1,7 @@
 use Rattle.std.proofs.Common.{◌∙◌, refl}
 use Rattle.std.proofs.lemmas.Result.{err_from_is_err_and}
-use Rattle.fb_read.proofs.Pairs.{parameter_is}
-use Rattle.fb_read.proofs.Reading.{stops, stops_as, went_on}
+use Rattle.fb_read.proofs.lemmas.rules.Pairs.{parameter_is}
+use Rattle.fb_read.proofs.lemmas.rules.Reading.{stops, stops_as, went_on}
 use Rattle.fb_read.proofs.network.ParameterRule.read.Goals as goal
 
 pub returns-in_err-name : goal.returns-in_err-name

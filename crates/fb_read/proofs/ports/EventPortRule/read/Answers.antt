@@ -1,7 +1,7 @@
 use Rattle.std.proofs.lemmas.Result.{err_from_is_err_and}
 use Rattle.fb_read.specs.Ports.{event, with_names}
 use Rattle.fb_read.specs.Parser.{listed}
-use Rattle.fb_read.proofs.Reading.{goes_on, stops, stops_later}
+use Rattle.fb_read.proofs.lemmas.rules.Reading.{goes_on, stops, stops_later}
 use Rattle.fb_read.proofs.ports.EventPortRule.read.Goals as goal
 
 pub returns-in_err-name : goal.returns-in_err-name

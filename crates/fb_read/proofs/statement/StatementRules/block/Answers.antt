@@ -1,9 +1,9 @@
 use Rattle.std.proofs.Common.{◌≡◌, ◌-◌, ℕ, true, false, [], length, ap, sym, ◌∙◌, arith}
 use Rattle.std.proofs.lemmas.Result.{err_from_is_err_and}
 use Rattle.fb_read.specs.Statements.{nested_statement, block, begins_statement, several, several_from}
-use Rattle.fb_read.proofs.Turns.{one_more, no_more}
-use Rattle.fb_read.proofs.Reading.{stops_as}
-use Rattle.fb_read.proofs.Turning.{several_fault, several_more, several_over}
+use Rattle.fb_read.proofs.lemmas.rules.CountedLoops.{one_more, no_more}
+use Rattle.fb_read.proofs.lemmas.rules.Reading.{stops_as}
+use Rattle.fb_read.proofs.lemmas.rules.ItemLoops.{several_fault, several_more, several_over}
 use Rattle.fb_read.proofs.statement.StatementRules.block.Goals as goal
 
 pub loop-turn-init : goal.loop-turn-init

@@ -2,10 +2,10 @@ use Rattle.std.proofs.Common.{◌≡◌, true, false, [], sym, ◌∙◌, arith}
 use Rattle.std.proofs.lemmas.Grind.{common_steps}
 use Rattle.std.proofs.lemmas.Result.{err_from_is_err_and}
 use Rattle.fb_read.specs.Statements.{nested_statement, branches, branch, begins_label, several, several_from}
-use Rattle.fb_read.proofs.Turns.{one_more, no_more}
-use Rattle.fb_read.proofs.Adding.{item_of, fault_of}
-use Rattle.fb_read.proofs.Reading.{stops, stops_as}
-use Rattle.fb_read.proofs.Turning.{several_fault, several_more, several_over}
+use Rattle.fb_read.proofs.lemmas.rules.CountedLoops.{one_more, no_more}
+use Rattle.fb_read.proofs.lemmas.rules.AddedItems.{item_of, fault_of}
+use Rattle.fb_read.proofs.lemmas.rules.Reading.{stops, stops_as}
+use Rattle.fb_read.proofs.lemmas.rules.ItemLoops.{several_fault, several_more, several_over}
 use Rattle.fb_read.proofs.statement.StatementRules.branches.Goals as goal
 
 pub returns-in_err-found : goal.returns-in_err-found

@@ -4,11 +4,11 @@ use Rattle.std.proofs.lemmas.Result.{err_from_is_err_and}
 use Rattle.fb_read.specs.declared.token.Mark.TheVariants as mark
 use Rattle.fb_read.specs.Parser.{sees}
 use Rattle.fb_read.specs.Statements.{nested_statement, choices, elsif, several, several_from}
-use Rattle.fb_read.proofs.Turns.{one_more, no_more}
-use Rattle.fb_read.proofs.Adding.{item_of, fault_of}
-use Rattle.fb_read.proofs.Reading.{stops, stops_as}
+use Rattle.fb_read.proofs.lemmas.rules.CountedLoops.{one_more, no_more}
+use Rattle.fb_read.proofs.lemmas.rules.AddedItems.{item_of, fault_of}
+use Rattle.fb_read.proofs.lemmas.rules.Reading.{stops, stops_as}
 use Rattle.fb_read.specs.Tokens.{Tokens}
-use Rattle.fb_read.proofs.Turning.{several_fault, several_more, several_over, after_none, elsif_reads}
+use Rattle.fb_read.proofs.lemmas.rules.ItemLoops.{several_fault, several_more, several_over, after_none, elsif_reads}
 use Rattle.fb_read.proofs.statement.StatementRules.choices.Goals as goal
 
 pub returns-in_err-found : goal.returns-in_err-found

@@ -3,8 +3,8 @@ use Rattle.std.proofs.lemmas.Result.{err_from_is_err_and}
 use Rattle.fb_types.specs.Names.{Name}
 use Rattle.fb_types.specs.declared.text.Stmt.TheVariants as s
 use Rattle.fb_read.specs.Statements.{nested_statement}
-use Rattle.fb_read.proofs.Pairs.{for_statement_is}
-use Rattle.fb_read.proofs.Reading.{stops, stops_as, stops_later, went_on}
+use Rattle.fb_read.proofs.lemmas.rules.Pairs.{for_statement_is}
+use Rattle.fb_read.proofs.lemmas.rules.Reading.{stops, stops_as, stops_later, went_on}
 use Rattle.fb_read.proofs.statement.StatementRules.for_statement.Goals as goal
 
 pub returns-in_err-first : goal.returns-in_err-first

@@ -1,6 +1,6 @@
 use Rattle.std.proofs.lemmas.Result.{err_from_is_err_and}
 use Rattle.fb_read.specs.Statements.{loop_body}
-use Rattle.fb_read.proofs.Reading.{goes_on, stops, stops_later}
+use Rattle.fb_read.proofs.lemmas.rules.Reading.{goes_on, stops, stops_later}
 use Rattle.fb_read.proofs.statement.StatementRules.loop_body.Goals as goal
 
 pub returns-in_err-expect : goal.returns-in_err-expect

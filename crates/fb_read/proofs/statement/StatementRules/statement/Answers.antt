@@ -1,6 +1,6 @@
 use Rattle.fb_read.specs.declared.token.Mark.TheVariants as mark
 use Rattle.fb_read.specs.Statements.{statement}
-use Rattle.fb_read.proofs.Reading.{begun, passed}
+use Rattle.fb_read.proofs.lemmas.rules.Reading.{begun, passed}
 use Rattle.fb_read.proofs.statement.StatementRules.statement.Goals as goal
 
 pub returns-then-eat : goal.returns-then-eat

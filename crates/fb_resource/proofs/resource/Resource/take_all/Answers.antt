@@ -1,7 +1,7 @@
 use Rattle.std.proofs.Common.{◌<◌, ◌≤◌, Bool, Some, refl, sym, ap, subst, ◌∙◌, arith}
 use Rattle.std.specs.Prelude.{unwrap_or}
 use Rattle.fb_types.specs.declared.key.Key.{Key}
-use Rattle.fb_laws.proofs.Accepting.{sound_of}
+use Rattle.fb_laws.proofs.lemmas.soundness.Accepting.{sound_of}
 use Rattle.fb_net.specs.Events.{event_of}
 use Rattle.fb_resource.proofs.lemmas.Finding.{finds_taken}
 use Rattle.fb_resource.proofs.lemmas.Fuel.{fuel_falls}

@@ -1,6 +1,6 @@
 use Rattle.std.proofs.Common.{◌∙◌, ap, sym}
 use Rattle.fb_session.specs.declared.breaks.Breaks.{Breaks}
-use Rattle.fb_session.proofs.BreakingIs.{hit_on}
+use Rattle.fb_session.proofs.lemmas.BreakingIs.{hit_on}
 use Rattle.fb_session.proofs.breaks.Breaks.first_for.Goals as goal
 use Rattle.fb_session.proofs.breaks.Breaks.first_for.Goals.{in-Some, in-None}
 

@@ -1,5 +1,5 @@
 use Rattle.std.proofs.Common.{refl}
-use Rattle.fb_session.proofs.BreakingIs.{only_from}
+use Rattle.fb_session.proofs.lemmas.BreakingIs.{only_from}
 use Rattle.fb_session.proofs.session.Session.clear_break.Goals as goal
 
 pub returns : goal.returns

@@ -6,9 +6,9 @@ use Rattle.fb_session.specs.Going.{IsBeginning, IsWhole}
 use Rattle.fb_session.specs.Pasts.{Past, StandsBy, Talk, now}
 use Rattle.fb_session.specs.declared.fault.SessionFault.{SessionFault}
 use Rattle.fb_session.specs.declared.stage.Stage.TheVariants as stage
-use Rattle.fb_session.proofs.GoingIs.{alive, fails_run}
-use Rattle.fb_session.proofs.Seen.{seen}
-use Rattle.fb_session.proofs.UntilIs.{end_fails, reach_of, stop_fails, whole_at, whole_stop}
+use Rattle.fb_session.proofs.lemmas.GoingIs.{alive, fails_run}
+use Rattle.fb_session.proofs.lemmas.Seen.{seen}
+use Rattle.fb_session.proofs.lemmas.UntilIs.{end_fails, reach_of, stop_fails, whole_at, whole_stop}
 use Rattle.fb_session.proofs.session.Session.finish.Goals as goal
 use Rattle.fb_session.proofs.session.Session.finish.Goals.{in-At+in_ok-write_end-in-At, in-Stop+in_ok-write_end-in-Stop}
 

@@ -5,9 +5,9 @@ use Rattle.fb_check.specs.Directory.{IsTaken}
 use Rattle.fb_check.proofs.lemmas.GoodStimuli.{good_from}
 use Rattle.fb_session.specs.Pasts.{StandsBy, Talk}
 use Rattle.fb_session.specs.declared.stage.Stage.TheVariants as stage
-use Rattle.fb_session.proofs.GivingIs.{known_names, put_gives}
-use Rattle.fb_session.proofs.ReadRows.{read_early}
-use Rattle.fb_session.proofs.Seen.{seen}
+use Rattle.fb_session.proofs.lemmas.GivingIs.{known_names, put_gives}
+use Rattle.fb_session.proofs.lemmas.ReadRows.{read_early}
+use Rattle.fb_session.proofs.lemmas.Seen.{seen}
 use Rattle.fb_session.proofs.session.Session.give.Goals as goal
 
 pub returns-then-stimulus-self : goal.returns-then-stimulus-self

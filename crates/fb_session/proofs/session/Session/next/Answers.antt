@@ -5,9 +5,9 @@ use Rattle.fb_system.specs.Lines.{BelongsTo}
 use Rattle.fb_session.specs.Going.{TakesOne}
 use Rattle.fb_session.specs.Pasts.{StandsBy, Talk, now}
 use Rattle.fb_session.specs.declared.going.Next.TheVariants as next
-use Rattle.fb_session.proofs.GoingIs.{alive}
-use Rattle.fb_session.proofs.NextIs.{lines_belong, next_nothing, next_stopped, next_took, piece_fails, stopped_fails}
-use Rattle.fb_session.proofs.Seen.{seen}
+use Rattle.fb_session.proofs.lemmas.GoingIs.{alive}
+use Rattle.fb_session.proofs.lemmas.NextIs.{lines_belong, next_nothing, next_stopped, next_took, piece_fails, stopped_fails}
+use Rattle.fb_session.proofs.lemmas.Seen.{seen}
 use Rattle.fb_session.proofs.session.Session.next.Goals as goal
 
 pub write_lines_with_count-requires : goal.write_lines_with_count-requires

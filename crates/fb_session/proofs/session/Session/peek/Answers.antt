@@ -1,4 +1,4 @@
-use Rattle.fb_session.proofs.PeekIs.{peeks}
+use Rattle.fb_session.proofs.lemmas.PeekIs.{peeks}
 use Rattle.fb_session.proofs.session.Session.peek.Goals as goal
 
 pub returns-in-Running : goal.returns-in-Running

@@ -1,11 +1,11 @@
 use Rattle.std.proofs.Common.{arith, refl, subst, sym, ◌≡◌, ◌≤◌}
 use Rattle.fb_check.specs.Directory.{IsTaken}
 use Rattle.fb_check.proofs.lemmas.GoodStimuli.{good_from}
-use Rattle.fb_sim_machine.proofs.GivenIs.{given_typed}
+use Rattle.fb_sim_machine.proofs.lemmas.GivenIs.{given_typed}
 use Rattle.fb_session.specs.Pasts.{Talk}
 use Rattle.fb_session.specs.declared.stage.Stage.TheVariants as stage
-use Rattle.fb_session.proofs.GivingIs.{given_is, known_names}
-use Rattle.fb_session.proofs.Seen.{seen}
+use Rattle.fb_session.proofs.lemmas.GivingIs.{given_is, known_names}
+use Rattle.fb_session.proofs.lemmas.Seen.{seen}
 use Rattle.fb_session.proofs.session.Session.put.Goals as goal
 
 pub give-requires-clause-typed : goal.give-requires-clause-typed

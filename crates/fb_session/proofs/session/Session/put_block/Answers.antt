@@ -4,7 +4,7 @@ use Rattle.fb_types.specs.OfSystem.{IsInstance}
 use Rattle.fb_net.specs.declared.resource.Forest.{Forest}
 use Rattle.fb_session.specs.Pasts.{StandsBy, Talk}
 use Rattle.fb_session.specs.declared.stage.Stage.TheVariants as stage
-use Rattle.fb_session.proofs.Showing.{stands_here}
+use Rattle.fb_session.proofs.lemmas.Showing.{stands_here}
 use Rattle.fb_session.proofs.session.Session.put_block.Goals as goal
 
 pub resource-resource-requires : goal.resource-resource-requires

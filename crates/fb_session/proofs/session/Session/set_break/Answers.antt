@@ -1,5 +1,5 @@
 use Rattle.std.proofs.Common.{refl}
-use Rattle.fb_session.proofs.BreakingIs.{only_from}
+use Rattle.fb_session.proofs.lemmas.BreakingIs.{only_from}
 use Rattle.fb_session.proofs.session.Session.set_break.Goals as goal
 use Rattle.fb_session.proofs.session.Session.set_break.Goals.{in-Ok, in-Err}
 

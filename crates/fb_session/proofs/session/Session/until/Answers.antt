@@ -2,9 +2,9 @@ use Rattle.std.proofs.Common.{Ok, arith, inl, inr, not, refl, subst, sym, true}
 use Rattle.fb_session.specs.Going.{GoesUntil}
 use Rattle.fb_session.specs.Pasts.{StandsBy, Talk, now}
 use Rattle.fb_session.specs.declared.going.Until.TheVariants as until
-use Rattle.fb_session.proofs.GoingIs.{alive, fails_run}
-use Rattle.fb_session.proofs.Seen.{seen}
-use Rattle.fb_session.proofs.UntilIs.{reach_of, stop_fails, until_at, until_break, until_stop}
+use Rattle.fb_session.proofs.lemmas.GoingIs.{alive, fails_run}
+use Rattle.fb_session.proofs.lemmas.Seen.{seen}
+use Rattle.fb_session.proofs.lemmas.UntilIs.{reach_of, stop_fails, until_at, until_break, until_stop}
 use Rattle.fb_session.proofs.session.Session.until.Goals as goal
 
 pub run_on-requires-clause-ready : goal.run_on-requires-clause-ready

@@ -1,7 +1,7 @@
 use Rattle.std.proofs.Common.{◌≤◌, List}
 use Rattle.fb_types.specs.States.{Line}
 use Rattle.fb_sim.specs.Rounds.{HasCome}
-use Rattle.fb_sim.proofs.RunIs.{Came}
+use Rattle.fb_sim.proofs.lemmas.rounds.RunIs.{Came}
 use Rattle.fb_sim.proofs.rounds.all_rounds.run_on.Given as goal
 
 abbrev pub invariant-loop : goal.invariant-loop

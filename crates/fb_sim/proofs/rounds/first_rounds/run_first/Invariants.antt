@@ -1,5 +1,5 @@
 use Rattle.std.proofs.Common.{◌≤◌, [], Some}
-use Rattle.fb_sim.proofs.RunIs.{Came}
+use Rattle.fb_sim.proofs.lemmas.rounds.RunIs.{Came}
 use Rattle.fb_sim.proofs.rounds.first_rounds.run_first.Given as goal
 
 abbrev pub invariant-loop : goal.invariant-loop

@@ -2,7 +2,7 @@ use Rattle.std.proofs.Common.{◌≡◌, ◌∙◌, List, ℕ, ap, arith, length
 use Rattle.fb_laws.specs.Sound.{AreGood}
 use Rattle.fb_sim.specs.Rounds.{HasBegun, HasRunOut, AreFirstRounds}
 use Rattle.fb_sim.specs.declared.rounds.first_rounds.FirstRounds.{FirstRounds}
-use Rattle.fb_sim.proofs.FirstRounds.{leg_ended, leg_failed, leg_on, leg_short}
+use Rattle.fb_sim.proofs.lemmas.rounds.FirstRounds.{leg_ended, leg_failed, leg_on, leg_short}
 use Rattle.fb_sim.proofs.rounds.first_rounds.run_rest.Goals as goal
 
 pub returns-then-count-length : goal.returns-then-count-length

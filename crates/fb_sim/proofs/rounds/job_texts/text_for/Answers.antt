@@ -1,7 +1,7 @@
 use Rattle.fb_types.specs.contracts.run.Form.{the_type}
 use Rattle.std.proofs.Common.{◌≡◌, rules}
 use denote.Enum.Bare.{same_true}
-use Rattle.fb_sim.proofs.TextsAre.{text_whole}
+use Rattle.fb_sim.proofs.lemmas.text.TextsAre.{text_whole}
 use Rattle.fb_sim.proofs.rounds.job_texts.text_for.Goals as goal
 
 pub returns-then-text-lines : goal.returns-then-text-lines

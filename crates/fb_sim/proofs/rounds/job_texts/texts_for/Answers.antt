@@ -5,7 +5,7 @@ use Rattle.std.proofs.lemmas.Option.{slice_get_read}
 use Rattle.fb_types.specs.declared.run.Line.{Line}
 use Rattle.fb_trace.specs.Marks.{IsMarkedText}
 use Rattle.fb_trace.specs.declared.marks.MarkedText.{MarkedText}
-use Rattle.fb_sim.proofs.TextsAre.{AreMade, one_made}
+use Rattle.fb_sim.proofs.lemmas.text.TextsAre.{AreMade, one_made}
 use Rattle.fb_sim.proofs.rounds.job_texts.texts_for.Goals as goal
 
 pub push_reserved-requires : goal.push_reserved-requires

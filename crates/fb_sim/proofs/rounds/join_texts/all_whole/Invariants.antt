@@ -1,6 +1,6 @@
 use Rattle.std.proofs.Common.{◌≡◌, ◌≤◌, length, take, vec_len, vec_capacity}
 use Rattle.std.specs.List.{AllZip}
-use Rattle.fb_sim.proofs.Cutting.{IsWhole}
+use Rattle.fb_sim.proofs.lemmas.text.Cutting.{IsWhole}
 use Rattle.fb_sim.proofs.rounds.join_texts.all_whole.Given as goal
 
 abbrev pub invariant-loop-text : goal.invariant-loop-text

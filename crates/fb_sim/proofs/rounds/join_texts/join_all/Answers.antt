@@ -1,6 +1,6 @@
 use Rattle.std.proofs.Common.{◌-◌, sym, ◌∙◌, subst, arith}
 use Rattle.fb_sim.specs.JoinedTexts.{ArePut}
-use Rattle.fb_sim.proofs.Cutting.{IsJoining, first_turn, lines_counted, no_tick_left, no_turn_left, one_turn}
+use Rattle.fb_sim.proofs.lemmas.text.Cutting.{IsJoining, first_turn, lines_counted, no_tick_left, no_turn_left, one_turn}
 use Rattle.fb_sim.proofs.rounds.join_texts.join_all.Goals as goal
 
 pub loop-next-init : goal.loop-next-init

@@ -5,7 +5,7 @@ use Rattle.fb_types.specs.declared.run.Form.{Form}
 use Rattle.fb_types.specs.declared.run.Line.{Line}
 use Rattle.fb_trace.specs.Marks.{IsMarkedText}
 use Rattle.fb_sim.specs.JoinedTexts.{IsRest}
-use Rattle.fb_sim.proofs.Cutting.{IsJoining}
+use Rattle.fb_sim.proofs.lemmas.text.Cutting.{IsJoining}
 use Rattle.fb_sim.proofs.rounds.join_texts.join_all.Given as goal
 
 abbrev pub invariant-loop-next : goal.invariant-loop-next

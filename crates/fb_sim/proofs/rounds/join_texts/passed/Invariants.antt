@@ -3,7 +3,7 @@ use Rattle.fb_types.specs.Headline.{Inputs}
 use Rattle.fb_types.specs.declared.run.Form.{Form}
 use Rattle.fb_types.specs.declared.run.Line.{Line}
 use Rattle.fb_trace.specs.Marks.{AreMarked}
-use Rattle.fb_sim.proofs.Cutting.{IsPassing}
+use Rattle.fb_sim.proofs.lemmas.text.Cutting.{IsPassing}
 use Rattle.fb_sim.proofs.rounds.join_texts.passed.Given as goal
 
 abbrev pub invariant-loop-count : goal.invariant-loop-count

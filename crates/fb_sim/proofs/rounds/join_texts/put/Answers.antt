@@ -1,5 +1,5 @@
 use Rattle.std.proofs.Common.{sym, ◌∙◌}
-use Rattle.fb_sim.proofs.Cutting.{cut_put, past_put}
+use Rattle.fb_sim.proofs.lemmas.text.Cutting.{cut_put, past_put}
 use Rattle.fb_sim.proofs.rounds.join_texts.put.Goals as goal
 
 pub returns-then-is_past : goal.returns-then-is_past

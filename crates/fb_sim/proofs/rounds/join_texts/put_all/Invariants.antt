@@ -4,7 +4,7 @@ use Rattle.fb_types.specs.Headline.{Inputs}
 use Rattle.fb_types.specs.declared.run.Form.{Form}
 use Rattle.fb_types.specs.declared.run.Line.{Line}
 use Rattle.fb_sim.specs.JoinedTexts.{IsRest}
-use Rattle.fb_sim.proofs.Cutting.{ArePutTo}
+use Rattle.fb_sim.proofs.lemmas.text.Cutting.{ArePutTo}
 use Rattle.fb_sim.proofs.rounds.join_texts.put_all.Given as goal
 
 abbrev pub invariant-loop-index : goal.invariant-loop-index

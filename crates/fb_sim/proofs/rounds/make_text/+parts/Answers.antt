@@ -10,9 +10,9 @@ use Rattle.fb_sim.proofs.rounds.make_text.+parts.Lts-parts_by.{arg-4-1}
 use Rattle.fb_types.specs.Headline.{system_of}
 use Rattle.fb_system.specs.Lines.{BelongsTo}
 use Rattle.fb_sim.specs.MergedText.{IsMergedText, all_bytes}
-use Rattle.fb_sim.proofs.Crossing.{system_sync}
-use Rattle.fb_sim.proofs.Texts.{last_joined, one_joined}
-use Rattle.fb_sim.proofs.MergedText.{parts_each}
+use Rattle.fb_sim.proofs.lemmas.runs.Crossing.{system_sync}
+use Rattle.fb_sim.proofs.lemmas.text.Texts.{last_joined, one_joined}
+use Rattle.fb_sim.proofs.lemmas.text.MergedText.{parts_each}
 use Rattle.fb_sim.proofs.rounds.make_text.+parts.Goals as goal
 
 pub parts_by-join-last-requires-send-F : goal.parts_by-join-last-requires-send-F

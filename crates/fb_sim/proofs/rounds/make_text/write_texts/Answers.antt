@@ -6,7 +6,7 @@ use Rattle.fb_sim.specs.Rounds.{WritesPartOf, after_bytes}
 use Rattle.fb_sim.specs.MergedText.{all_bytes}
 use Rattle.fb_sim.specs.declared.outcome.RunError.{RunError}
 use Rattle.fb_sim.specs.declared.outcome.RunError.TheVariants.{Refused, Memory, Write, BadOption, Failed}
-use Rattle.fb_sim.proofs.Texts.{all_bytes-more, all_bytes-parts, bounded-length, part-after, part-before}
+use Rattle.fb_sim.proofs.lemmas.text.Texts.{all_bytes-more, all_bytes-parts, bounded-length, part-after, part-before}
 use Rattle.fb_sim.proofs.rounds.make_text.write_texts.Goals as goal
 
 -- a writer that failed in the second of three texts

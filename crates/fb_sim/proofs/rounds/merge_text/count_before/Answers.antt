@@ -3,7 +3,7 @@ use Rattle.std.specs.Prelude.{nat_lt}
 use Rattle.std.specs.List.Sorted.{IsPartitionPoint}
 use Rattle.std.proofs.lemmas.List.Sorted.{IsPartitionPoint-from_clause}
 use Rattle.fb_sim.specs.MergedText.{until}
-use Rattle.fb_sim.proofs.MergedText.{parted, point_before, point_from}
+use Rattle.fb_sim.proofs.lemmas.text.MergedText.{parted, point_before, point_from}
 use Rattle.fb_sim.proofs.rounds.merge_text.count_before.Goals as goal
 
 pub returns-clause-before : goal.returns-clause-before

@@ -4,7 +4,7 @@ use Rattle.fb_types.specs.Machines.{Each}
 use Rattle.fb_types.specs.declared.run.Line.{Line}
 use Rattle.fb_trace.specs.Merging.{Rises, tick_of}
 use Rattle.fb_sim.specs.MergedText.{AreCut, until}
-use Rattle.fb_sim.proofs.MergedText.{cut_counted, cut_more}
+use Rattle.fb_sim.proofs.lemmas.text.MergedText.{cut_counted, cut_more}
 use Rattle.fb_sim.proofs.rounds.merge_text.divide.Goals as goal
 
 pub push_reserved-requires : goal.push_reserved-requires

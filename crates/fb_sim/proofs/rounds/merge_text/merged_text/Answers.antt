@@ -6,8 +6,8 @@ use Rattle.fb_types.specs.declared.run.Form.{Form}
 use Rattle.fb_types.specs.declared.run.Line.{Line}
 use Rattle.fb_system.specs.Lines.{BelongsTo}
 use Rattle.fb_trace.specs.Fronts.{IsLeast, all_early, all_late, joint}
-use Rattle.fb_trace.proofs.Taking.{fewer, none_left}
-use Rattle.fb_sim.proofs.Putting.{IsPut, all_put, more_taken, none_put, parts_put, put_each}
+use Rattle.fb_trace.proofs.lemmas.order.EarlyLines.{fewer, none_left}
+use Rattle.fb_sim.proofs.lemmas.text.Putting.{IsPut, all_put, more_taken, none_put, parts_put, put_each}
 use Rattle.fb_sim.proofs.rounds.merge_text.merged_text.Goals as goal
 
 abbrev lines_of : List (Bor (List Line)) → List (List Line)

@@ -1,7 +1,7 @@
 use Rattle.std.proofs.Common.{◌≡◌, ◌∙◌, ◌^◌, ◌<◌, ◌≤◌, ap, subst, sym}
 use Rattle.fb_sim.specs.Views.{SimulationView}
 use Rattle.fb_sim.specs.declared.state.Stage.TheVariants as going
-use Rattle.fb_sim.proofs.AdvanceIs.{fails_there, gets_there}
+use Rattle.fb_sim.proofs.lemmas.rounds.AdvanceIs.{fails_there, gets_there}
 use Rattle.fb_sim.proofs.simulation.Simulation.advance.Goals as goal
 
 pub go_on-requires-clause-later : goal.go_on-requires-clause-later

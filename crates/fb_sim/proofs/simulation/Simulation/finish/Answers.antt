@@ -1,6 +1,6 @@
 use Rattle.std.proofs.Common.{◌∙◌, sym}
-use Rattle.fb_sim.proofs.AdvanceIs.{unfinished}
-use Rattle.fb_sim.proofs.Seen.{seen}
+use Rattle.fb_sim.proofs.lemmas.rounds.AdvanceIs.{unfinished}
+use Rattle.fb_sim.proofs.lemmas.runs.SimulationFields.{seen}
 use Rattle.fb_sim.proofs.simulation.Simulation.finish.Goals as goal
 
 pub returns-in_err-close-in-Running : goal.returns-in_err-close-in-Running

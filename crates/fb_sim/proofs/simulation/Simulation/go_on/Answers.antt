@@ -1,6 +1,6 @@
 use Rattle.std.proofs.Common.{◌∙◌, ap, sym}
 use Rattle.fb_sim.specs.Views.{SimulationView}
-use Rattle.fb_sim.proofs.Seen.{has_core}
+use Rattle.fb_sim.proofs.lemmas.runs.SimulationFields.{has_core}
 use Rattle.fb_sim.proofs.simulation.Simulation.go_on.Goals as goal
 
 pub unreachable-requires : goal.unreachable-requires

@@ -1,5 +1,5 @@
 use Rattle.std.proofs.Common.{arith, rules}
-use Rattle.fb_sim.proofs.ViewIs.{ahead_first}
+use Rattle.fb_sim.proofs.lemmas.runs.ViewIs.{ahead_first}
 use Rattle.fb_sim.proofs.simulation.Simulation.open.Goals as goal
 
 pub invariant_of-result : goal.invariant_of-result

@@ -7,9 +7,9 @@ use Rattle.fb_sim.specs.declared.rounds.all_rounds.Finish.TheVariants.{AtEnd, At
 use Rattle.fb_trace.specs.declared.last.Outcome.TheVariants.{End, Stop}
 use Rattle.fb_sim.specs.declared.state.Stage.TheVariants as going
 use Rattle.fb_sim.specs.declared.state.SimulationState.{SimulationState}
-use Rattle.fb_sim.proofs.AdvanceIs.{onward, advanced_end, advanced_stop, broken_on, short_stop, fails_on, goes_on}
-use Rattle.fb_sim.proofs.ViewIs.{on_way, ahead_of, stopped_of}
-use Rattle.fb_sim.proofs.Seen.{seen}
+use Rattle.fb_sim.proofs.lemmas.rounds.AdvanceIs.{onward, advanced_end, advanced_stop, broken_on, short_stop, fails_on, goes_on}
+use Rattle.fb_sim.proofs.lemmas.runs.ViewIs.{on_way, ahead_of, stopped_of}
+use Rattle.fb_sim.proofs.lemmas.runs.SimulationFields.{seen}
 use Rattle.fb_sim.proofs.simulation.Simulation.run_to.Goals as goal
 
 pub run_on-requires-clause-come : goal.run_on-requires-clause-come

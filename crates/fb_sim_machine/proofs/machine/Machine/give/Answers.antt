@@ -6,8 +6,8 @@ use Rattle.fb_agenda.specs.Agendas.{Contents}
 use Rattle.fb_net.specs.Events.{event_of}
 use Rattle.fb_resource.proofs.lemmas.OpenIs.{named_resource, narrow_resource}
 use Rattle.fb_sim_machine.specs.Machines.{IsAt}
-use Rattle.fb_sim_machine.proofs.GivenIs.{at_put, given_waits, ready_put}
-use Rattle.fb_sim_machine.proofs.Nexts.{on_agenda}
+use Rattle.fb_sim_machine.proofs.lemmas.GivenIs.{at_put, given_waits, ready_put}
+use Rattle.fb_sim_machine.proofs.lemmas.Nexts.{on_agenda}
 use Rattle.fb_sim_machine.proofs.machine.Machine.give.Goals as goal
 
 on_ok : {A E P Q : Type 0} (r : Result A E) → (P → Q) → OnOk r P → OnOk r Q

@@ -5,8 +5,8 @@ use Rattle.fb_types.specs.Keys.{NoneBelow, without}
 use Rattle.fb_types.specs.Numbers.{line_of}
 use Rattle.fb_types.specs.Simulation.{AtStop, Taken, after}
 use Rattle.fb_types.specs.States.{Config}
-use Rattle.fb_laws.proofs.Accepting.{sound_of}
-use Rattle.fb_laws.proofs.Effects.{takes_good}
+use Rattle.fb_laws.proofs.lemmas.soundness.Accepting.{sound_of}
+use Rattle.fb_laws.proofs.lemmas.takings.Effects.{takes_good}
 use Rattle.fb_net.specs.Events.{event_of}
 use Rattle.fb_resource.specs.Takings.{Finds, with_next}
 use Rattle.fb_resource.proofs.lemmas.Finding.{finds_taken}
@@ -14,10 +14,10 @@ use Rattle.fb_resource.proofs.lemmas.Lone.{due_next}
 use Rattle.fb_sim_machine.specs.Machines.{IsAt}
 use Rattle.fb_sim_machine.specs.Pauses.{IsLater, Pauses}
 use Rattle.fb_sim_machine.specs.declared.pause.Pause.TheVariants.{Stop}
-use Rattle.fb_sim_machine.proofs.Joined.{completes_after, halts, lines_more, none_came, reaches_more, reaches_none}
-use Rattle.fb_sim_machine.proofs.AgendaIs.{all_falls, at_left, completes_rest, completes_stop, machine_left, takes_least}
-use Rattle.fb_sim_machine.proofs.Nexts.{at_alike, machine_alike, on_agenda}
-use Rattle.fb_sim_machine.proofs.Onward.{later_more, later_none}
+use Rattle.fb_sim_machine.proofs.lemmas.JoinedRuns.{completes_after, halts, lines_more, none_came, reaches_more, reaches_none}
+use Rattle.fb_sim_machine.proofs.lemmas.AgendaIs.{all_falls, at_left, completes_rest, completes_stop, machine_left, takes_least}
+use Rattle.fb_sim_machine.proofs.lemmas.Nexts.{at_alike, machine_alike, on_agenda}
+use Rattle.fb_sim_machine.proofs.lemmas.RisingTicks.{later_more, later_none}
 use Rattle.fb_sim_machine.proofs.machine.Machine.go_on.Goals as goal
 
 -- The first event was looked for on the agenda of the beginning.

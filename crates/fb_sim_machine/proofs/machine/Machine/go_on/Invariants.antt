@@ -7,7 +7,7 @@ use Rattle.fb_sim_machine.specs.Counts.{fuel_of_all}
 use Rattle.fb_sim_machine.specs.Machines.{IsAt, IsReady}
 use Rattle.fb_sim_machine.specs.Pauses.{IsLater, Pauses}
 use Rattle.fb_sim_machine.specs.declared.pause.Pause.TheVariants.{Lines}
-use Rattle.fb_sim_machine.proofs.Nexts.{on_agenda}
+use Rattle.fb_sim_machine.proofs.lemmas.Nexts.{on_agenda}
 use Rattle.fb_sim_machine.proofs.machine.Machine.go_on.Given as goal
 
 -- `was` is the agenda from which the event in the slot was taken, if one was found

@@ -5,7 +5,7 @@ use Rattle.fb_types.specs.Simulation.{opening_state}
 use Rattle.fb_resource.specs.Openings.{IsOpened}
 use Rattle.fb_resource.specs.Posts.{CountsAre}
 use Rattle.fb_resource.proofs.lemmas.Begins.{ready_opened as queues_opened}
-use Rattle.fb_sim_machine.proofs.OpenIs.{at_opened, ready_opened}
+use Rattle.fb_sim_machine.proofs.lemmas.OpenIs.{at_opened, ready_opened}
 use Rattle.fb_sim_machine.proofs.machine.Machine.open.Goals as goal
 
 pub returns-clause-ready : goal.returns-clause-ready

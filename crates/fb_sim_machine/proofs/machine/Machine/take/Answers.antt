@@ -6,9 +6,9 @@ use Rattle.fb_net.specs.Events.{event_of}
 use Rattle.fb_resource.specs.Posts.{IsMessage}
 use Rattle.fb_resource.specs.Takings.{AreReady, IsTakenHere, with_slot}
 use Rattle.fb_resource.proofs.lemmas.Meters.{here_later}
-use Rattle.fb_sim_machine.proofs.ReadyIs.{ready_after}
-use Rattle.fb_sim_machine.proofs.Nexts.{no_mail, nothing_delivered}
-use Rattle.fb_sim_machine.proofs.TakenIs.{taken_at}
+use Rattle.fb_sim_machine.proofs.lemmas.ReadyIs.{ready_after}
+use Rattle.fb_sim_machine.proofs.lemmas.Nexts.{no_mail, nothing_delivered}
+use Rattle.fb_sim_machine.proofs.lemmas.TakenIs.{taken_at}
 use Rattle.fb_sim_machine.proofs.machine.Machine.take.Goals as goal
 
 pub take-requires-clause-tree : goal.take-requires-clause-tree

@@ -4,9 +4,9 @@ use Rattle.fb_types.specs.Keys.{without}
 use Rattle.fb_net.specs.Events.{event_of}
 use Rattle.fb_resource.specs.Takings.{Finds}
 use Rattle.fb_resource.proofs.lemmas.Finding.{finds_taken}
-use Rattle.fb_sim_machine.proofs.AgendaIs.{at_left, machine_left}
-use Rattle.fb_sim_machine.proofs.Nexts.{at_alike, machine_alike}
-use Rattle.fb_sim_machine.proofs.OneStep.{one_gone}
+use Rattle.fb_sim_machine.proofs.lemmas.AgendaIs.{at_left, machine_left}
+use Rattle.fb_sim_machine.proofs.lemmas.Nexts.{at_alike, machine_alike}
+use Rattle.fb_sim_machine.proofs.lemmas.OneStep.{one_gone}
 use Rattle.fb_sim_machine.proofs.machine.Machine.take_next.Goals as goal
 
 -- ---- Nothing waits below the horizon

@@ -8,7 +8,7 @@ use Rattle.fb_types.specs.declared.value.Value.{Value}
 use Rattle.fb_stop.specs.Copies.{HasFollowed}
 use Rattle.fb_stop.specs.Found.{ArrivesAt}
 use Rattle.fb_stop.specs.declared.found.EventSite.{EventSite}
-use Rattle.fb_stop.proofs.Copying.{is_followed}
+use Rattle.fb_stop.proofs.lemmas.copies.Copying.{is_followed}
 use Rattle.fb_stop.proofs.replay.Replay.follow_at.Goals as goal
 
 pub returns-clause-followed : goal.returns-clause-followed

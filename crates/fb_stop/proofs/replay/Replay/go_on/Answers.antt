@@ -3,10 +3,10 @@ use Rattle.fb_types.specs.Simulation.{Taken, after}
 use Rattle.fb_types.specs.Headline.{system_of, stimuli_of}
 use Rattle.fb_types.specs.Simulation.{opening}
 use Rattle.fb_net.specs.Events.{event_of}
-use Rattle.fb_sim_machine.proofs.AgendaIs.{all_falls, at_left, machine_left, takes_least}
-use Rattle.fb_sim_machine.proofs.Joined.{reaches_more, reaches_none}
+use Rattle.fb_sim_machine.proofs.lemmas.AgendaIs.{all_falls, at_left, machine_left, takes_least}
+use Rattle.fb_sim_machine.proofs.lemmas.JoinedRuns.{reaches_more, reaches_none}
 use Rattle.fb_stop.specs.Copies.{Steps}
-use Rattle.fb_stop.proofs.Ending.{is_stop, never_stops}
+use Rattle.fb_stop.proofs.lemmas.runs.Ending.{is_stop, never_stops}
 use Rattle.fb_stop.proofs.replay.Replay.go_on.Goals as goal
 
 pub loop-self-init : goal.loop-self-init

@@ -6,7 +6,7 @@ use Rattle.fb_types.specs.declared.value.Value.{Value}
 use Rattle.fb_stop.specs.Copies.{HasLocated, IsSiteBy, Stopping}
 use Rattle.fb_stop.specs.declared.found.StopSite.TheVariants.{InReaction}
 use Rattle.fb_stop.specs.declared.site.ReactionStop.{ReactionStop}
-use Rattle.fb_stop.proofs.Locating.{copy_within, located, never_none}
+use Rattle.fb_stop.proofs.lemmas.copies.Locating.{copy_within, located, never_none}
 use Rattle.fb_stop.proofs.replay.Replay.site_at.Goals as goal
 
 pub unreachable-requires-in-None : goal.unreachable-requires-in-None

@@ -4,9 +4,9 @@ use Rattle.fb_types.specs.Headline.{system_of}
 use Rattle.fb_types.specs.Keys.{without}
 use Rattle.fb_types.specs.Numbers.{line_of}
 use Rattle.fb_types.specs.declared.run.Line.{Line}
-use Rattle.fb_types.proofs.ByIndex.{element_at}
+use Rattle.fb_types.proofs.lemmas.lists.ByIndex.{element_at}
 use Rattle.fb_net.specs.Events.{event_of}
-use Rattle.fb_stop.proofs.Stepping.{copies_after, has_stepped, is_site, left_is, stopping_if}
+use Rattle.fb_stop.proofs.lemmas.runs.Stepping.{copies_after, has_stepped, is_site, left_is, stopping_if}
 use Rattle.fb_stop.proofs.replay.Replay.step.Goals as goal
 
 pub site_of-at-requires : goal.site_of-at-requires

@@ -1,6 +1,6 @@
 use Rattle.std.proofs.Common.{◌<◌, length, arith, sym}
 use Rattle.fb_system.specs.Ends.{IsSourceRowAt}
-use Rattle.fb_system.proofs.InRanges.{found, found_within}
+use Rattle.fb_system.proofs.lemmas.rows.InRanges.{found, found_within}
 use Rattle.fb_system.proofs.ends.Ends.source.Goals as goal
 
 pub bounds-sources-row : goal.bounds-sources-row

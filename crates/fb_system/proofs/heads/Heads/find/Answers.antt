@@ -1,7 +1,7 @@
 use Rattle.std.proofs.Common.{◌<◌, ◌^◌, length, arith, sym}
 use Rattle.fb_system.specs.Heads.{IsRowAt}
-use Rattle.fb_system.proofs.KeptHeads.{row_found}
-use Rattle.fb_system.proofs.InRanges.{found, found_within}
+use Rattle.fb_system.proofs.lemmas.rows.KeptHeads.{row_found}
+use Rattle.fb_system.proofs.lemmas.rows.InRanges.{found, found_within}
 use Rattle.fb_system.proofs.heads.Heads.find.Goals as goal
 
 pub bounds-rows-row : goal.bounds-rows-row

@@ -1,5 +1,5 @@
 use Rattle.std.proofs.Common.{◌∙◌}
-use Rattle.fb_system.proofs.Linked.{linked_from}
+use Rattle.fb_system.proofs.lemmas.networks.Linked.{linked_from}
 use Rattle.fb_system.proofs.links.Links.of.Goals as goal
 
 pub returns : goal.returns

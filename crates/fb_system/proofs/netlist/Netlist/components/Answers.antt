@@ -1,4 +1,4 @@
-use Rattle.fb_system.proofs.Views.{within_of, row_of, components_of_row}
+use Rattle.fb_system.proofs.lemmas.inputs.Views.{within_of, row_of, components_of_row}
 use Rattle.fb_system.proofs.netlist.Netlist.components.Goals as goal
 
 pub row_at-requires-clause-within : goal.row_at-requires-clause-within

@@ -1,5 +1,5 @@
 use Rattle.std.proofs.Common.{◌∙◌}
-use Rattle.fb_system.proofs.Views.{count_of}
+use Rattle.fb_system.proofs.lemmas.inputs.Views.{count_of}
 use Rattle.fb_system.proofs.netlist.Netlist.count.Goals as goal
 
 pub returns : goal.returns

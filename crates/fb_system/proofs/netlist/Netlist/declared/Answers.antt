@@ -1,4 +1,4 @@
-use Rattle.fb_system.proofs.Views.{declared_seen, within_of}
+use Rattle.fb_system.proofs.lemmas.inputs.Views.{declared_seen, within_of}
 use Rattle.fb_system.proofs.netlist.Netlist.declared.Goals as goal
 
 pub declared_at-requires-clause-within : goal.declared_at-requires-clause-within

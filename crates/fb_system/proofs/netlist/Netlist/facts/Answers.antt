@@ -1,4 +1,4 @@
-use Rattle.fb_system.proofs.Views.{few_of, numbers_of}
+use Rattle.fb_system.proofs.lemmas.inputs.Views.{few_of, numbers_of}
 use Rattle.fb_system.proofs.netlist.Netlist.facts.Goals as goal
 
 pub returns-clause-few : goal.returns-clause-few

@@ -3,7 +3,7 @@ use Rattle.fb_types.specs.declared.library.BlockType.{BlockType}
 use Rattle.fb_system.specs.Layouts.{IsLayout}
 use Rattle.fb_check_names.specs.declared.numbers.NetworkNumbers.{NetworkNumbers}
 use Rattle.fb_system.specs.Networks.{AreNarrow}
-use Rattle.fb_system.proofs.Made.{ok_read, tables_made}
+use Rattle.fb_system.proofs.lemmas.rows.MadeTables.{ok_read, tables_made}
 use Rattle.fb_system.proofs.netlist.Netlist.of.Goals as goal
 
 pub invariant_of-result : goal.invariant_of-result

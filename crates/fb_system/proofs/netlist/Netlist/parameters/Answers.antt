@@ -1,4 +1,4 @@
-use Rattle.fb_system.proofs.Views.{parameters_seen, within_of}
+use Rattle.fb_system.proofs.lemmas.inputs.Views.{parameters_seen, within_of}
 use Rattle.fb_system.proofs.netlist.Netlist.parameters.Goals as goal
 
 pub parameters_at-requires-clause-within : goal.parameters_at-requires-clause-within

@@ -1,5 +1,5 @@
 use Rattle.fb_system.specs.Networks.{EventLeaves}
-use Rattle.fb_system.proofs.Views.{leads_seen, more_seen, port_of_tables}
+use Rattle.fb_system.proofs.lemmas.inputs.Views.{leads_seen, more_seen, port_of_tables}
 use Rattle.fb_system.proofs.netlist.Netlist.reached.Goals as goal
 
 pub leaving-around-requires-clause-port : goal.leaving-around-requires-clause-port

@@ -1,5 +1,5 @@
 use Rattle.std.proofs.Common.{◌∙◌}
-use Rattle.fb_system.proofs.Views.{within_of, row_of}
+use Rattle.fb_system.proofs.lemmas.inputs.Views.{within_of, row_of}
 use Rattle.fb_system.proofs.netlist.Netlist.route.Goals as goal
 
 pub row_at-requires-clause-within : goal.row_at-requires-clause-within

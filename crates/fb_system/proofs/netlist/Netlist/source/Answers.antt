@@ -1,4 +1,4 @@
-use Rattle.fb_system.proofs.Views.{comes_seen, variable_of_tables}
+use Rattle.fb_system.proofs.lemmas.inputs.Views.{comes_seen, variable_of_tables}
 use Rattle.fb_system.proofs.netlist.Netlist.source.Goals as goal
 
 pub entering-around-requires-clause-variable : goal.entering-around-requires-clause-variable

@@ -1,4 +1,4 @@
-use Rattle.fb_system.proofs.Seen.{components_seen, within_seen}
+use Rattle.fb_system.proofs.lemmas.inputs.TablesOfInputs.{components_seen, within_seen}
 use Rattle.fb_system.proofs.system.System.components.Goals as goal
 
 pub components-requires : goal.components-requires

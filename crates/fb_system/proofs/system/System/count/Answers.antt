@@ -1,5 +1,5 @@
 use Rattle.std.proofs.Common.{◌∙◌}
-use Rattle.fb_system.proofs.Seen.{count_seen}
+use Rattle.fb_system.proofs.lemmas.inputs.TablesOfInputs.{count_seen}
 use Rattle.fb_system.proofs.system.System.count.Goals as goal
 
 pub returns : goal.returns

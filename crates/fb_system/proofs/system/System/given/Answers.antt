@@ -1,5 +1,5 @@
 use Rattle.std.proofs.lemmas.Option.{slice_get-get_or}
-use Rattle.fb_system.proofs.Stimuli.{number_there, row_stands}
+use Rattle.fb_system.proofs.lemmas.inputs.Stimuli.{number_there, row_stands}
 use Rattle.fb_system.proofs.system.System.given.Goals as goal
 
 pub bounds-top-instance : goal.bounds-top-instance

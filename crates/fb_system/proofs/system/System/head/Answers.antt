@@ -1,5 +1,5 @@
 use Rattle.fb_types.specs.Headline.{system_of}
-use Rattle.fb_system.proofs.KeptRows.{heads_seen}
+use Rattle.fb_system.proofs.lemmas.rows.KeptRows.{heads_seen}
 use Rattle.fb_system.proofs.system.System.head.Goals as goal
 
 pub find-requires : goal.find-requires

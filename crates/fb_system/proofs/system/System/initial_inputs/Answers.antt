@@ -1,5 +1,5 @@
-use Rattle.fb_system.proofs.Beginning.{inputs_seen}
-use Rattle.fb_system.proofs.Seen.{accepted_seen, ok_seen, within_seen}
+use Rattle.fb_system.proofs.lemmas.values.InitialInputs.{inputs_seen}
+use Rattle.fb_system.proofs.lemmas.inputs.TablesOfInputs.{accepted_seen, ok_seen, within_seen}
 use Rattle.fb_system.proofs.system.System.initial_inputs.Goals as goal
 
 pub declared-declared-requires : goal.declared-declared-requires

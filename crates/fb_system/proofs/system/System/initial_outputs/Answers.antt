@@ -1,7 +1,7 @@
 use Rattle.fb_types.specs.Headline.{system_of}
 use Rattle.fb_types.specs.Numbers.{path_at}
-use Rattle.fb_system.proofs.Beginning.{outputs_begun}
-use Rattle.fb_system.proofs.Seen.{ok_seen}
+use Rattle.fb_system.proofs.lemmas.values.InitialInputs.{outputs_begun}
+use Rattle.fb_system.proofs.lemmas.inputs.TablesOfInputs.{ok_seen}
 use Rattle.fb_system.proofs.system.System.initial_outputs.Goals as goal
 
 pub returns : goal.returns

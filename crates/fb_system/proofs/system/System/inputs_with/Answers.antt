@@ -1,4 +1,4 @@
-use Rattle.fb_system.proofs.WithIndexesLaws.{inputs_read}
+use Rattle.fb_system.proofs.lemmas.types.WithIndexesLaws.{inputs_read}
 use Rattle.fb_system.proofs.system.System.inputs_with.Goals as goal
 
 pub returns : goal.returns

@@ -1,4 +1,4 @@
-use Rattle.fb_system.proofs.KeptRows.{ports_seen}
+use Rattle.fb_system.proofs.lemmas.rows.KeptRows.{ports_seen}
 use Rattle.fb_system.proofs.system.System.kept_port.Goals as goal
 
 pub port-requires : goal.port-requires

@@ -1,4 +1,4 @@
-use Rattle.fb_system.proofs.Seen.{kind_seen, within_seen}
+use Rattle.fb_system.proofs.lemmas.inputs.TablesOfInputs.{kind_seen, within_seen}
 use Rattle.fb_system.proofs.system.System.kind.Goals as goal
 
 pub kind-requires : goal.kind-requires

@@ -1,4 +1,4 @@
-use Rattle.fb_system.proofs.Seen.{latency_read}
+use Rattle.fb_system.proofs.lemmas.inputs.TablesOfInputs.{latency_read}
 use Rattle.fb_system.proofs.system.System.latency.Goals as goal
 
 pub returns : goal.returns

@@ -1,5 +1,5 @@
 use Rattle.std.proofs.Common.{◌∙◌}
-use Rattle.fb_system.proofs.Seen.{library_seen}
+use Rattle.fb_system.proofs.lemmas.inputs.TablesOfInputs.{library_seen}
 use Rattle.fb_system.proofs.system.System.library.Goals as goal
 
 pub returns : goal.returns

@@ -1,5 +1,5 @@
 use Rattle.std.proofs.Common.{◌∙◌}
-use Rattle.fb_system.proofs.Seen.{links_counted}
+use Rattle.fb_system.proofs.lemmas.inputs.TablesOfInputs.{links_counted}
 use Rattle.fb_system.proofs.system.System.links.Goals as goal
 
 pub returns : goal.returns

@@ -1,4 +1,4 @@
-use Rattle.fb_system.proofs.WithIndexesLaws.{outputs_read}
+use Rattle.fb_system.proofs.lemmas.types.WithIndexesLaws.{outputs_read}
 use Rattle.fb_system.proofs.system.System.outputs_with.Goals as goal
 
 pub returns : goal.returns

@@ -1,4 +1,4 @@
-use Rattle.fb_system.proofs.Seen.{parent_seen, within_seen}
+use Rattle.fb_system.proofs.lemmas.inputs.TablesOfInputs.{parent_seen, within_seen}
 use Rattle.fb_system.proofs.system.System.parent.Goals as goal
 
 pub parent-requires : goal.parent-requires

@@ -1,4 +1,4 @@
-use Rattle.fb_system.proofs.Seen.{text_seen, within_seen}
+use Rattle.fb_system.proofs.lemmas.inputs.TablesOfInputs.{text_seen, within_seen}
 use Rattle.fb_system.proofs.system.System.path.Goals as goal
 
 pub path-requires : goal.path-requires

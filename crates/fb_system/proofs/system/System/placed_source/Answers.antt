@@ -1,5 +1,5 @@
 use Rattle.fb_types.specs.Headline.{system_of}
-use Rattle.fb_system.proofs.Together.{comes_from, comes_from_nothing, source_there, together}
+use Rattle.fb_system.proofs.lemmas.networks.SameResource.{comes_from, comes_from_nothing, source_there, together}
 use Rattle.fb_system.proofs.system.System.placed_source.Goals as goal
 
 pub resource-requires : goal.resource-requires

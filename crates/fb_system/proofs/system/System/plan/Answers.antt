@@ -1,5 +1,5 @@
 use Rattle.std.proofs.Common.{◌∙◌}
-use Rattle.fb_system.proofs.Seen.{plan_seen}
+use Rattle.fb_system.proofs.lemmas.inputs.TablesOfInputs.{plan_seen}
 use Rattle.fb_system.proofs.system.System.plan.Goals as goal
 
 pub returns : goal.returns

@@ -1,5 +1,5 @@
 use Rattle.std.proofs.Common.{◌≡◌, length, arith}
-use Rattle.fb_system.proofs.PortTables.{no_index, only_index}
+use Rattle.fb_system.proofs.lemmas.rows.PortTables.{no_index, only_index}
 use Rattle.fb_system.proofs.system.System.port_by_tables.Goals as goal
 use Rattle.fb_system.proofs.system.System.port_by_tables.Goals.{in-empty, in-len1, in_default}
 

@@ -1,5 +1,5 @@
-use Rattle.fb_system.proofs.WithIndexesLaws.{ports_of_instance}
-use Rattle.fb_system.proofs.Seen.{stand_seen, within_seen}
+use Rattle.fb_system.proofs.lemmas.types.WithIndexesLaws.{ports_of_instance}
+use Rattle.fb_system.proofs.lemmas.inputs.TablesOfInputs.{stand_seen, within_seen}
 use Rattle.fb_system.proofs.system.System.ports.Goals as goal
 
 pub kind-requires : goal.kind-requires

@@ -1,5 +1,5 @@
-use Rattle.fb_system.proofs.KeptEnds.{first_read, row_read}
-use Rattle.fb_system.proofs.KeptRows.{ports_seen}
+use Rattle.fb_system.proofs.lemmas.rows.KeptEnds.{first_read, row_read}
+use Rattle.fb_system.proofs.lemmas.rows.KeptRows.{ports_seen}
 use Rattle.fb_system.proofs.system.System.reached.Goals as goal
 
 pub returns-in-Some-clause-leads : goal.returns-in-Some-clause-leads

@@ -1,5 +1,5 @@
 use Rattle.std.proofs.Common.{◌∙◌}
-use Rattle.fb_system.proofs.Seen.{receiver_seen}
+use Rattle.fb_system.proofs.lemmas.inputs.TablesOfInputs.{receiver_seen}
 use Rattle.fb_system.proofs.system.System.receiver.Goals as goal
 
 pub returns : goal.returns

@@ -1,5 +1,5 @@
 use Rattle.std.proofs.Common.{ap, sym, ◌∙◌, ◌<◌, get_or, length, List, ℕ, subst}
-use Rattle.fb_system.proofs.Holding.{home_seen, home_there}
+use Rattle.fb_system.proofs.lemmas.networks.HoldingResource.{home_seen, home_there}
 use Rattle.fb_system.proofs.system.System.resource.Goals as goal
 
 pub bounds-as_slice-instance : goal.bounds-as_slice-instance

@@ -1,5 +1,5 @@
 use Rattle.std.proofs.Common.{◌∙◌}
-use Rattle.fb_system.proofs.Seen.{resources_counted}
+use Rattle.fb_system.proofs.lemmas.inputs.TablesOfInputs.{resources_counted}
 use Rattle.fb_system.proofs.system.System.resources.Goals as goal
 
 pub returns : goal.returns

@@ -1,4 +1,4 @@
-use Rattle.fb_system.proofs.Seen.{route_seen, within_seen}
+use Rattle.fb_system.proofs.lemmas.inputs.TablesOfInputs.{route_seen, within_seen}
 use Rattle.fb_system.proofs.system.System.route.Goals as goal
 
 pub route-requires : goal.route-requires

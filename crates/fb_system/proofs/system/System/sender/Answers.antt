@@ -1,5 +1,5 @@
 use Rattle.std.proofs.Common.{◌∙◌}
-use Rattle.fb_system.proofs.Seen.{sender_seen}
+use Rattle.fb_system.proofs.lemmas.inputs.TablesOfInputs.{sender_seen}
 use Rattle.fb_system.proofs.system.System.sender.Goals as goal
 
 pub returns : goal.returns

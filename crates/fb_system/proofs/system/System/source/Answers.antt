@@ -1,8 +1,8 @@
 use Rattle.fb_types.specs.Headline.{system_of}
-use Rattle.fb_system.proofs.KeptEnds.{source_read}
-use Rattle.fb_system.proofs.KeptRows.{sources_seen}
-use Rattle.fb_system.proofs.Seen.{comes_seen, variable_there}
-use Rattle.fb_system.proofs.Seen as seen
+use Rattle.fb_system.proofs.lemmas.rows.KeptEnds.{source_read}
+use Rattle.fb_system.proofs.lemmas.rows.KeptRows.{sources_seen}
+use Rattle.fb_system.proofs.lemmas.inputs.TablesOfInputs.{comes_seen, variable_there}
+use Rattle.fb_system.proofs.lemmas.inputs.TablesOfInputs as seen
 use Rattle.fb_system.proofs.system.System.source.Goals as goal
 
 pub returns-in-Some-clause-comes : goal.returns-in-Some-clause-comes

@@ -1,5 +1,5 @@
 use Rattle.std.proofs.Common.{◌∙◌}
-use Rattle.fb_system.proofs.Seen.{stimuli_seen}
+use Rattle.fb_system.proofs.lemmas.inputs.TablesOfInputs.{stimuli_seen}
 use Rattle.fb_system.proofs.system.System.stimuli.Goals as goal
 
 pub returns : goal.returns

@@ -1,5 +1,5 @@
 use Rattle.std.proofs.lemmas.Option.{slice_get-get_or}
-use Rattle.fb_system.proofs.Stimuli.{number_there, row_is, row_within, rows_seen, stimulus_stands}
+use Rattle.fb_system.proofs.lemmas.inputs.Stimuli.{number_there, row_is, row_within, rows_seen, stimulus_stands}
 use Rattle.fb_system.proofs.system.System.stimulus.Goals as goal
 
 pub row_at-row-requires : goal.row_at-row-requires

@@ -1,4 +1,4 @@
-use Rattle.fb_system.proofs.Seen.{top_seen}
+use Rattle.fb_system.proofs.lemmas.inputs.TablesOfInputs.{top_seen}
 use Rattle.fb_system.proofs.system.System.top.Goals as goal
 
 pub returns : goal.returns

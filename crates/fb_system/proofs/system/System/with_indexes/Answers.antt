@@ -1,5 +1,5 @@
-use Rattle.fb_system.proofs.WithIndexesLaws.{with_indexes_of_instance}
-use Rattle.fb_system.proofs.Seen.{stand_seen, within_seen}
+use Rattle.fb_system.proofs.lemmas.types.WithIndexesLaws.{with_indexes_of_instance}
+use Rattle.fb_system.proofs.lemmas.inputs.TablesOfInputs.{stand_seen, within_seen}
 use Rattle.fb_system.proofs.system.System.with_indexes.Goals as goal
 
 pub kind-requires : goal.kind-requires

@@ -1,8 +1,8 @@
 use Rattle.std.proofs.Common.{◌≡◌, subst, sym}
 use Rattle.fb_system.specs.Systems.{HaveRows}
 use Rattle.fb_system.specs.declared.whole.Whole.{Whole}
-use Rattle.fb_system.proofs.KeptRows.{with_rows}
-use Rattle.fb_system.proofs.Seen.{ok_read}
+use Rattle.fb_system.proofs.lemmas.rows.KeptRows.{with_rows}
+use Rattle.fb_system.proofs.lemmas.inputs.TablesOfInputs.{ok_read}
 use Rattle.fb_system.proofs.system.System.with_rows.Goals as goal
 
 pub invariant_of-result : goal.invariant_of-result

@@ -1,5 +1,5 @@
 use Rattle.fb_window.specs.Jobs.{Does}
-use Rattle.fb_tests.proofs.Zips.{joined}
+use Rattle.fb_tests.proofs.lemmas.Zips.{joined}
 use Rattle.fb_tests.proofs.tests.jobs.+run_jobs.Goals as goal
 
 pub returns : goal.returns

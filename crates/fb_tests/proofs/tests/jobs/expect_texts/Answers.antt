@@ -1,5 +1,5 @@
 use Rattle.std.proofs.Common.{[]}
-use Rattle.fb_sim.proofs.WindowIs.{walk_keeps}
+use Rattle.fb_sim.proofs.lemmas.rounds.WindowIs.{walk_keeps}
 use Rattle.fb_tests.proofs.tests.jobs.expect_texts.Goals as goal
 
 pub first_round-finals-requires-clause-system : goal.first_round-finals-requires-clause-system

@@ -1,6 +1,6 @@
 use Rattle.std.proofs.Common.{[], Some}
-use Rattle.fb_sim.proofs.WindowIs.{walk_keeps}
-use Rattle.fb_tests.proofs.Coming.{goes_on}
+use Rattle.fb_sim.proofs.lemmas.rounds.WindowIs.{walk_keeps}
+use Rattle.fb_tests.proofs.lemmas.Coming.{goes_on}
 use Rattle.fb_tests.proofs.tests.rounds.make_rounds.Goals as goal
 
 pub loop-number-init : goal.loop-number-init

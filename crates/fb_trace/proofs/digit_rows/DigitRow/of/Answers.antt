@@ -1,5 +1,5 @@
 use Rattle.std.proofs.Common.{arith}
-use Rattle.fb_trace.proofs.RowDigits.{one_digit, three_digits, two_digits}
+use Rattle.fb_trace.proofs.lemmas.digits.RowDigits.{one_digit, three_digits, two_digits}
 use Rattle.fb_trace.proofs.digit_rows.DigitRow.of.Goals as goal
 
 pub returns-then-number-ge100-clause-text : goal.returns-then-number-ge100-clause-text

@@ -1,6 +1,6 @@
 use Rattle.std.proofs.Common.{◌<◌, get_or-set_same, subst, sym, arith}
 use Rattle.fb_trace.specs.declared.digit_rows.DigitRow.{DigitRow}
-use Rattle.fb_trace.proofs.RowDigits.{rows_made}
+use Rattle.fb_trace.proofs.lemmas.digits.RowDigits.{rows_made}
 use Rattle.fb_trace.proofs.digit_rows.DigitRows.make.Goals as goal
 
 pub invariant_of-self : goal.invariant_of-self

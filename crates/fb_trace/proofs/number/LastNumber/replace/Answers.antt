@@ -1,5 +1,5 @@
 use Rattle.std.proofs.Common.{◌≡◌, ◌/◌, sym, ◌∙◌, arith}
-use Rattle.fb_trace.proofs.Tens.{last_changed, of_one_ten, two_at_least}
+use Rattle.fb_trace.proofs.lemmas.digits.Tens.{last_changed, of_one_ten, two_at_least}
 use Rattle.fb_trace.proofs.number.LastNumber.replace.Goals as goal
 
 pub overflow_sub-self : goal.overflow_sub-self

@@ -1,6 +1,6 @@
 use Rattle.std.proofs.Common.{◌++◌, ◌/◌, ◌%◌, decimal, arith}
-use Rattle.fb_trace.proofs.Digits.{last_digits}
-use Rattle.fb_trace.proofs.Steps.{appended-more}
+use Rattle.fb_trace.proofs.lemmas.digits.Digits.{last_digits}
+use Rattle.fb_trace.proofs.lemmas.lines.PutPieces.{appended-more}
 use Rattle.fb_trace.proofs.page.Page.append_four.Goals as goal
 
 pub returns-clause-text : goal.returns-clause-text

@@ -1,6 +1,6 @@
 use Rattle.std.proofs.Common.{◌+◌, ◌-◌, ◌++◌, take, List, ℕ, ap, ◌∙◌, arith}
 use Rattle.fb_trace.specs.Page.{Page}
-use Rattle.fb_trace.proofs.Rows.{front_of_row}
+use Rattle.fb_trace.proofs.lemmas.digits.CopiedRows.{front_of_row}
 use Rattle.fb_trace.proofs.page.Page.append_front.Goals as goal
 
 pub returns-clause-text : goal.returns-clause-text

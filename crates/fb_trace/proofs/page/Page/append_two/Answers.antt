@@ -1,6 +1,6 @@
 use Rattle.std.proofs.Common.{◌≡◌, ◌/◌, ◌%◌, decimal, arith}
-use Rattle.fb_trace.proofs.Digits.{last_digit}
-use Rattle.fb_trace.proofs.Steps.{appended-more}
+use Rattle.fb_trace.proofs.lemmas.digits.Digits.{last_digit}
+use Rattle.fb_trace.proofs.lemmas.lines.PutPieces.{appended-more}
 use Rattle.fb_trace.proofs.page.Page.append_two.Goals as goal
 use Rattle.fb_trace.proofs.page.Page.append_two.Goals.{then-number-ge10, else-number-ge10}
 

@@ -1,6 +1,6 @@
 use Rattle.std.proofs.Common.{ap, ◌∙◌}
 use Rattle.fb_trace.specs.Page.{Page}
-use Rattle.fb_trace.proofs.Steps.{Puts-more, Puts-direct, Fails-after, Fails-before, Fails-past, Gathers-passed}
+use Rattle.fb_trace.proofs.lemmas.lines.PutPieces.{Puts-more, Puts-direct, Fails-after, Fails-before, Fails-past, Gathers-passed}
 use Rattle.fb_trace.proofs.page.Page.put.Goals as goal
 
 pub returns-in_err-flush : goal.returns-in_err-flush

@@ -1,5 +1,5 @@
 use Rattle.std.proofs.Common.{[], ◌∷◌}
-use Rattle.fb_types.proofs.Emitting.{alone, no_others}
+use Rattle.fb_types.proofs.lemmas.events.Emitting.{alone, no_others}
 use Rattle.fb_types.proofs.emits.Emits.only.Goals as goal
 
 pub returns : goal.returns

@@ -1,6 +1,6 @@
 use Rattle.std.proofs.Common.{ap, ◌∙◌}
 use Rattle.fb_types.specs.Emitted.{in_order}
-use Rattle.fb_types.proofs.Emitting.{err_kept, other_pushed}
+use Rattle.fb_types.proofs.lemmas.events.Emitting.{err_kept, other_pushed}
 use Rattle.fb_types.proofs.emits.Emits.push_other.Goals as goal
 
 pub returns-clause-ok : goal.returns-clause-ok

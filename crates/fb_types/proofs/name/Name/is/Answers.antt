@@ -2,8 +2,8 @@ use Rattle.std.proofs.Common.{◌≡◌, true, sym, ◌∙◌, ap, arith}
 use Rattle.std.proofs.lemmas.Bool.Decides.{nat_tests}
 use Rattle.fb_types.specs.Names.{same_name}
 use Rattle.fb_types.specs.Spelt.{spelt}
-use Rattle.fb_types.proofs.NameLaws.{same_name-itself}
-use Rattle.fb_types.proofs.Words.{is_the_name}
+use Rattle.fb_types.proofs.lemmas.names.NameLaws.{same_name-itself}
+use Rattle.fb_types.proofs.lemmas.names.NameNumbers.{is_the_name}
 use Rattle.fb_types.proofs.name.Name.is.Goals as goal
 
 pub returns-then-self-ne0 : goal.returns-then-self-ne0

@@ -2,7 +2,7 @@ use Rattle.std.proofs.Common.{◌≡◌, ◌+◌, ℕ, List, [], length, ap, sub
 use Rattle.std.specs.Io.KnownBytes.{Appends}
 use Rattle.std.proofs.lemmas.List.{take_all}
 use Rattle.fb_trace.specs.Progress.{Fails, bounded}
-use Rattle.fb_trace.proofs.Steps.{Fails-direct}
+use Rattle.fb_trace.proofs.lemmas.lines.PutPieces.{Fails-direct}
 use Rattle.fb_wave.proofs.page.Page.flush.Goals as goal
 
 pub returns-then-taken-len-clause-part : goal.returns-then-taken-len-clause-part

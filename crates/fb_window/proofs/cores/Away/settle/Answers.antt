@@ -1,7 +1,7 @@
 use Rattle.std.proofs.Common.{ap, subst, sym, ◌∙◌}
 use Rattle.fb_window.specs.Settling.{IsMerged, Settles, lists_of, settled_of}
 use Rattle.fb_window.specs.declared.cores.Settled.{Settled}
-use Rattle.fb_window.proofs.Walks.{made_ok}
+use Rattle.fb_window.proofs.lemmas.lines.FoundLines.{made_ok}
 use Rattle.fb_window.proofs.cores.Away.settle.Goals as goal
 
 pub returns : goal.returns

@@ -13,15 +13,15 @@ use Rattle.fb_laws.specs.Sound.{AreGood}
 use Rattle.fb_resource.specs.declared.resource.Resource.{Resource}
 use Rattle.fb_window.specs.Homes.{AreHome}
 use Rattle.fb_window.specs.Jobs.{Does}
-use Rattle.fb_trace.proofs.Together.{kept}
+use Rattle.fb_trace.proofs.lemmas.order.StableSort.{kept}
 use Rattle.fb_window.specs.Settling.{IsMerged, Settles, lists_of, settled_of}
 use Rattle.fb_window.specs.Frontiers.{AreCut, IsEnd, IsFrontier, edge_of}
 use Rattle.fb_window.specs.Mails.{ArePosted}
-use Rattle.fb_window.proofs.Given.{fronts_given}
-use Rattle.fb_window.proofs.Passes.{few_resources}
-use Rattle.fb_window.proofs.Rounds.{HasGathered, settle_each, settle_reached}
-use Rattle.fb_window.proofs.Walks.{made_ok}
-use Rattle.fb_window.proofs.Targets.{fronts_in, lines_belong, rests_in, targets_in}
+use Rattle.fb_window.proofs.lemmas.phases.JobsGiven.{fronts_given}
+use Rattle.fb_window.proofs.lemmas.phases.Passes.{few_resources}
+use Rattle.fb_window.proofs.lemmas.phases.Rounds.{HasGathered, settle_each, settle_reached}
+use Rattle.fb_window.proofs.lemmas.lines.FoundLines.{made_ok}
+use Rattle.fb_window.proofs.lemmas.phases.Targets.{fronts_in, lines_belong, rests_in, targets_in}
 use Rattle.fb_types.specs.Cores.{CoreStep, opening_core}
 use Rattle.fb_types.specs.Parts.{machine}
 use Rattle.fb_types.specs.Schedules.{IsSchedule}

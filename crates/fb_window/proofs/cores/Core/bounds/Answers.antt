@@ -7,12 +7,12 @@ use Rattle.fb_laws.specs.Sound.{AreGood}
 use Rattle.fb_types.specs.Systems.{System}
 use Rattle.fb_resource.specs.declared.resource.Resource.{Resource}
 use Rattle.fb_laws.specs.Cuts.{IsCut, LinkAllows, StopAllows}
-use Rattle.fb_types.proofs.Options.{some_from_is_some, none_from_is_some}
+use Rattle.fb_types.proofs.lemmas.lists.Options.{some_from_is_some, none_from_is_some}
 use Rattle.fb_window.specs.Reached.{IsReached}
 use Rattle.fb_window.specs.declared.cores.CoreState.{CoreState}
-use Rattle.fb_window.proofs.Bounding.{AreComputed, stop_live, stop_taken}
-use Rattle.fb_window.proofs.BoundsAre.{are_greatest, are_legal}
-use Rattle.fb_window.proofs.Passes.{clock_of, stop_of, Rests, few_resources, IsLeastOf, least_of, least_cut, AreRaised, raised_more}
+use Rattle.fb_window.proofs.lemmas.bounds.Bounding.{AreComputed, stop_live, stop_taken}
+use Rattle.fb_window.proofs.lemmas.bounds.BoundsAre.{are_greatest, are_legal}
+use Rattle.fb_window.proofs.lemmas.phases.Passes.{clock_of, stop_of, Rests, few_resources, IsLeastOf, least_of, least_cut, AreRaised, raised_more}
 use Rattle.fb_window.proofs.cores.Core.bounds.Goals as goal
 use Rattle.fb_window.proofs.cores.Core.bounds.Goals.{then-is_some, else-is_some}
 

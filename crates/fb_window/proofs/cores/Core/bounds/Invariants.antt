@@ -1,5 +1,5 @@
 use Rattle.fb_laws.specs.Cuts.{IsCut, StopAllows}
-use Rattle.fb_window.proofs.Passes.{AreRaised, clock_of, stop_of}
+use Rattle.fb_window.proofs.lemmas.phases.Passes.{AreRaised, clock_of, stop_of}
 use Rattle.fb_window.proofs.cores.Core.bounds.Given as goal
 
 abbrev pub invariant-loop-number : goal.invariant-loop-number

@@ -10,9 +10,9 @@ use Rattle.fb_window.specs.Reached.{KeepHorizon}
 use Rattle.fb_window.specs.Reaching.{OfEachCore}
 use Rattle.fb_window.specs.declared.cores.AwayState.{AwayState}
 use Rattle.fb_window.specs.declared.cores.CoreState.{CoreState}
-use Rattle.fb_window.proofs.Keeping.{is_away, leave}
-use Rattle.fb_window.proofs.Leaves.{jobs_few}
-use Rattle.fb_window.proofs.Passes.{few_resources}
+use Rattle.fb_window.proofs.lemmas.bounds.KeptHorizons.{is_away, leave}
+use Rattle.fb_window.proofs.lemmas.phases.Leaves.{jobs_few}
+use Rattle.fb_window.proofs.lemmas.phases.Passes.{few_resources}
 use Rattle.fb_window.proofs.cores.Core.jobs.Goals as goal
 
 pub leave_all-requires-clause-of : goal.leave_all-requires-clause-of

@@ -7,7 +7,7 @@ use Rattle.fb_types.specs.Parts.{count_of, machine}
 use Rattle.fb_types.specs.Schedules.{IsSchedule}
 use Rattle.fb_types.specs.declared.run.Line.{Line}
 use Rattle.fb_types.specs.declared.run.StopMark.{StopMark}
-use Rattle.fb_types.proofs.Options.{none_from_is_some, some_from_is_some}
+use Rattle.fb_types.proofs.lemmas.lists.Options.{none_from_is_some, some_from_is_some}
 use Rattle.fb_system.specs.Lines.{BelongsTo}
 use Rattle.fb_resource.specs.declared.resource.Resource.{Resource}
 use Rattle.fb_laws.specs.Sound.{AreGood}
@@ -16,8 +16,8 @@ use Rattle.fb_window.specs.Noting.{AreCurrent}
 use Rattle.fb_window.specs.Reached.{IsReached, KeepHorizon}
 use Rattle.fb_window.specs.Walking.{Walks}
 use Rattle.fb_window.specs.declared.cores.CoreState.{CoreState}
-use Rattle.fb_window.proofs.Keeping.{come, is_reached}
-use Rattle.fb_window.proofs.Walked.{by_stop, gone_none}
+use Rattle.fb_window.proofs.lemmas.bounds.KeptHorizons.{come, is_reached}
+use Rattle.fb_window.proofs.lemmas.turns.Walked.{by_stop, gone_none}
 use Rattle.fb_window.proofs.cores.Core.walk.Goals as goal
 
 stop_found : (xs : List Resource) (o : Option StopMark) → IfSome o (IsFirstStop xs (length xs)) → is_some o ≡ true → (m : StopMark) × IsFirstStop xs (length xs) m

@@ -4,8 +4,8 @@ use Rattle.std.specs.Vec.Iter.{into_iter_items}
 use Rattle.std.proofs.lemmas.List.{length-map}
 use Rattle.fb_resource.specs.declared.resource.Resource.{Resource}
 use Rattle.fb_window.specs.Jobs.{job_of, jobs_of, resting_of}
-use Rattle.fb_window.proofs.Leaves.{jobs_push, map_push, no_more}
-use Rattle.fb_laws.proofs.Indexes.{middle_at}
+use Rattle.fb_window.proofs.lemmas.phases.Leaves.{jobs_push, map_push, no_more}
+use Rattle.fb_laws.proofs.lemmas.lists.Indexes.{middle_at}
 use Rattle.fb_window.proofs.cores.CoreState.leave_all.Goals as goal
 
 pub leave-requires-clause-of : goal.leave-requires-clause-of

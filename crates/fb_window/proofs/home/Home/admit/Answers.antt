@@ -7,9 +7,9 @@ use Rattle.fb_resource.specs.declared.resource.WindowDone.{WindowDone}
 use Rattle.fb_resource.specs.declared.resource.WindowDone.TheVariants.{Ran}
 use Rattle.fb_window.specs.Homes.{AreAwaited, HasGiven, IsHomeTo}
 use Rattle.fb_window.specs.Jobs.{resting_of}
-use Rattle.fb_window.proofs.Given.{given_more}
-use Rattle.fb_window.proofs.HomeIs.{awaited_ran, awaited_rested, done_awaited, home_ran, home_rested, resting_none, resting_some}
-use Rattle.fb_window.proofs.Walks.{no_length}
+use Rattle.fb_window.proofs.lemmas.phases.JobsGiven.{given_more}
+use Rattle.fb_window.proofs.lemmas.phases.HomeIs.{awaited_ran, awaited_rested, done_awaited, home_ran, home_rested, resting_none, resting_some}
+use Rattle.fb_window.proofs.lemmas.lines.FoundLines.{no_length}
 use Rattle.fb_window.proofs.home.Home.admit.Goals as goal
 
 pub returns-in-Some-rested-clause-home : goal.returns-in-Some-rested-clause-home

@@ -2,15 +2,15 @@ use Rattle.std.proofs.Common.{◌≡◌, ◌++◌, ℕ, List, Option, None, [], 
 use Rattle.std.specs.Prelude.{slice_get}
 use Rattle.std.proofs.lemmas.List.{length-map}
 use Rattle.std.specs.Vec.Iter.{into_iter_items}
-use Rattle.fb_types.proofs.ByIndex.{all_at}
+use Rattle.fb_types.proofs.lemmas.lists.ByIndex.{all_at}
 use Rattle.fb_resource.specs.declared.resource.Resource.{Resource}
 use Rattle.fb_window.specs.Homes.{AreAwaited, IsHomeTo}
 use Rattle.fb_window.specs.Jobs.{resting_of}
-use Rattle.fb_window.proofs.Given.{given_all, given_none}
-use Rattle.fb_window.proofs.HomeIs.{home_all}
-use Rattle.fb_window.proofs.Leaves.{length_join}
-use Rattle.fb_window.proofs.Walks.{no_length}
-use Rattle.fb_laws.proofs.Indexes.{map_has, middle_at, push_counted}
+use Rattle.fb_window.proofs.lemmas.phases.JobsGiven.{given_all, given_none}
+use Rattle.fb_window.proofs.lemmas.phases.HomeIs.{home_all}
+use Rattle.fb_window.proofs.lemmas.phases.Leaves.{length_join}
+use Rattle.fb_window.proofs.lemmas.lines.FoundLines.{no_length}
+use Rattle.fb_laws.proofs.lemmas.lists.Indexes.{map_has, middle_at, push_counted}
 use Rattle.fb_window.proofs.home.Home.admit_all.Goals as goal
 
 pub admit-requires : goal.admit-requires

@@ -1,5 +1,5 @@
 use Rattle.std.proofs.Common.{◌≡◌, ℕ, ◌≤◌, Some, List, slice_get, subst}
-use Rattle.fb_window.proofs.Noting.{low_since, there_since}
+use Rattle.fb_window.proofs.lemmas.bounds.NextTicks.{low_since, there_since}
 use Rattle.fb_window.proofs.nexts.Nexts.least.Goals as goal
 
 pub returns-clause-low : goal.returns-clause-low

@@ -1,4 +1,4 @@
-use Rattle.fb_window.proofs.Noting.{current_set}
+use Rattle.fb_window.proofs.lemmas.bounds.NextTicks.{current_set}
 use Rattle.fb_window.proofs.nexts.Nexts.look_again.Goals as goal
 
 pub returns-clause-current : goal.returns-clause-current

@@ -1,4 +1,4 @@
-use Rattle.fb_window.proofs.Noting.{AreCurrentTo}
+use Rattle.fb_window.proofs.lemmas.bounds.NextTicks.{AreCurrentTo}
 use Rattle.fb_window.proofs.nexts.Nexts.of_all.Given as goal
 
 abbrev pub invariant-loop-resource : goal.invariant-loop-resource

@@ -5,15 +5,15 @@ use Rattle.std.proofs.lemmas.Option.{slice_get_read}
 use Rattle.fb_types.specs.Headline.{Inputs, system_of}
 use Rattle.fb_types.specs.Numbers.{path_at}
 use Rattle.fb_types.specs.declared.run.Message.{Message}
-use Rattle.fb_types.proofs.ByIndex.{all_at}
-use Rattle.fb_laws.proofs.Accepting.{sound_of}
-use Rattle.fb_link.proofs.Lists.{next_of}
+use Rattle.fb_types.proofs.lemmas.lists.ByIndex.{all_at}
+use Rattle.fb_laws.proofs.lemmas.soundness.Accepting.{sound_of}
+use Rattle.fb_link.proofs.lemmas.Lists.{next_of}
 use Rattle.fb_window.specs.Mails.{AreGiven}
 use Rattle.fb_window.specs.Noting.{IsHanded}
 use Rattle.fb_window.specs.Turning.{HasGiven, HasHanded}
-use Rattle.fb_window.proofs.Noting.{given_handed, given_only, on_ok, only_of}
-use Rattle.fb_window.proofs.Receives.{given_none}
-use Rattle.fb_window.proofs.Turned.{same_then}
+use Rattle.fb_window.proofs.lemmas.bounds.NextTicks.{given_handed, given_only, on_ok, only_of}
+use Rattle.fb_window.proofs.lemmas.messages.Receives.{given_none}
+use Rattle.fb_window.proofs.lemmas.turns.Turned.{same_then}
 use Rattle.fb_window.proofs.walk.Walk.give.Goals as goal
 use Rattle.fb_window.proofs.walk.Walk.give.Goals.{After-index}
 

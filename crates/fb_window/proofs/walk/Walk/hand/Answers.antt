@@ -3,9 +3,9 @@ use Rattle.std.specs.Prelude.{slice_set}
 use Rattle.std.proofs.lemmas.List.{length-set}
 use Rattle.std.proofs.lemmas.Option.{slice_get_read}
 use Rattle.fb_resource.specs.declared.resource.Resource.{Resource}
-use Rattle.fb_laws.proofs.Indexes.{one_at}
+use Rattle.fb_laws.proofs.lemmas.lists.Indexes.{one_at}
 use Rattle.fb_window.specs.Noting.{AreCurrent}
-use Rattle.fb_window.proofs.Receives.{set_same}
+use Rattle.fb_window.proofs.lemmas.messages.Receives.{set_same}
 use Rattle.fb_window.proofs.walk.Walk.hand.Goals as goal
 use Rattle.fb_window.proofs.walk.Walk.hand.Goals.{After-index}
 

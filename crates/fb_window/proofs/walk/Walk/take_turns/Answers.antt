@@ -11,11 +11,11 @@ use Rattle.fb_resource.specs.Resources.{IsOf}
 use Rattle.fb_resource.specs.declared.resource.Resource.{Resource}
 use Rattle.fb_window.specs.Walking.{HasTurned}
 use Rattle.fb_window.specs.declared.cores.CoreState.{CoreState}
-use Rattle.fb_types.proofs.Options.{none_from_is_some, some_from_is_some}
-use Rattle.fb_laws.proofs.Indexes.{is_at, one_at}
-use Rattle.fb_window.proofs.Single.{clock_before}
-use Rattle.fb_window.proofs.Turned.{same_after}
-use Rattle.fb_window.proofs.Walked.{HasStepped, HasGone, by_count, by_horizon, each_of, gone_none, stepped}
+use Rattle.fb_types.proofs.lemmas.lists.Options.{none_from_is_some, some_from_is_some}
+use Rattle.fb_laws.proofs.lemmas.lists.Indexes.{is_at, one_at}
+use Rattle.fb_window.proofs.lemmas.turns.OneTurn.{clock_before}
+use Rattle.fb_window.proofs.lemmas.turns.Turned.{same_after}
+use Rattle.fb_window.proofs.lemmas.turns.Walked.{HasStepped, HasGone, by_count, by_horizon, each_of, gone_none, stepped}
 use Rattle.fb_window.proofs.walk.Walk.take_turns.Goals as goal
 use Rattle.fb_window.proofs.walk.Walk.take_turns.Goals.{After-least-index}
 

@@ -1,6 +1,6 @@
 use Rattle.fb_window.specs.Frontiers.{AreLive}
 use Rattle.fb_window.specs.Turning.{IsSame, MayTurn}
-use Rattle.fb_window.proofs.Walked.{HasGone}
+use Rattle.fb_window.proofs.lemmas.turns.Walked.{HasGone}
 use Rattle.fb_window.proofs.walk.Walk.take_turns.Given as goal
 
 abbrev pub invariant-loop : goal.invariant-loop

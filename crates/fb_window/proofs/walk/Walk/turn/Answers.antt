@@ -10,8 +10,8 @@ use Rattle.fb_resource.specs.declared.resource.WindowDone.TheVariants.{Ran}
 use Rattle.fb_resource.specs.declared.resource.Resource.{Resource}
 use Rattle.fb_window.specs.Mails.{AreGiven}
 use Rattle.fb_window.specs.Noting.{AreCurrent}
-use Rattle.fb_laws.proofs.Indexes.{one_at}
-use Rattle.fb_window.proofs.Receives.{set_same}
+use Rattle.fb_laws.proofs.lemmas.lists.Indexes.{one_at}
+use Rattle.fb_window.proofs.lemmas.messages.Receives.{set_same}
 use Rattle.fb_window.proofs.walk.Walk.turn.Goals as goal
 use Rattle.fb_window.proofs.walk.Walk.turn.Goals.{After-index}
 

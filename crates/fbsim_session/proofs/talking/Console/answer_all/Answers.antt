@@ -1,4 +1,4 @@
-use Rattle.fbsim_session.proofs.Telling.{concludes_passed}
+use Rattle.fbsim_session.proofs.lemmas.Telling.{concludes_passed}
 use Rattle.fbsim_session.proofs.talking.Console.answer_all.Goals as goal
 
 pub returns-in_err-list_rows : goal.returns-in_err-list_rows

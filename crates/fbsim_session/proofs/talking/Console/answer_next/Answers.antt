@@ -1,6 +1,6 @@
 use Rattle.std.proofs.KnownBytes.{Keeps-refl}
 use Rattle.std.proofs.Common.{Ok}
-use Rattle.fbsim_session.proofs.Telling.{arrives_lost, arrives_passed, fails_here, leads_sent, same, unsent}
+use Rattle.fbsim_session.proofs.lemmas.Telling.{arrives_lost, arrives_passed, fails_here, leads_sent, same, unsent}
 use Rattle.fbsim_session.proofs.talking.Console.answer_next.Goals as goal
 
 pub returns-in-Ok-Whole : goal.returns-in-Ok-Whole

@@ -1,7 +1,7 @@
 use Rattle.std.proofs.Common.{◌≡◌, sym, subst}
 use Rattle.fb_session.specs.Pasts.{Talk}
 use Rattle.fbsim_session.specs.Talks.{Stays}
-use Rattle.fbsim_session.proofs.Telling.{stays_as, stays_broken}
+use Rattle.fbsim_session.proofs.lemmas.Telling.{stays_as, stays_broken}
 use Rattle.fbsim_session.proofs.talking.Console.clear_break.Goals as goal
 
 pub returns-in-Stopped : goal.returns-in-Stopped

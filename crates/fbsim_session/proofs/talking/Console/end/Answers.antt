@@ -1,5 +1,5 @@
 use Rattle.std.proofs.Common.{Ok}
-use Rattle.fbsim_session.proofs.Telling.{arrives_lost, arrives_passed, leads_sent, same, unsent}
+use Rattle.fbsim_session.proofs.lemmas.Telling.{arrives_lost, arrives_passed, leads_sent, same, unsent}
 use Rattle.fbsim_session.proofs.talking.Console.end.Goals as goal
 
 pub returns-in_err-number : goal.returns-in_err-number

@@ -1,7 +1,7 @@
 use Rattle.std.proofs.Common.{sym}
 use Rattle.std.proofs.KnownBytes.{Keeps-refl}
 use Rattle.fbsim_session.specs.declared.talking.TalkFault.TheVariants.{Memory}
-use Rattle.fbsim_session.proofs.Telling.{ended_by_stop, fails_here}
+use Rattle.fbsim_session.proofs.lemmas.Telling.{ended_by_stop, fails_here}
 use Rattle.fbsim_session.proofs.talking.Console.finish.Goals as goal
 
 pub returns-in-Stopped : goal.returns-in-Stopped

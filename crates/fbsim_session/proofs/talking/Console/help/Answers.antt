@@ -1,5 +1,5 @@
 use Rattle.std.proofs.Common.{Ok}
-use Rattle.fbsim_session.proofs.Telling.{leads_lost, leads_passed, leads_sent, same, unsent}
+use Rattle.fbsim_session.proofs.lemmas.Telling.{leads_lost, leads_passed, leads_sent, same, unsent}
 use Rattle.fbsim_session.proofs.talking.Console.help.Goals as goal
 
 pub loop-line-init : goal.loop-line-init

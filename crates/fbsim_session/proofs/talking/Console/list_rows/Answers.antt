@@ -1,5 +1,5 @@
 use Rattle.std.proofs.Common.{Ok}
-use Rattle.fbsim_session.proofs.Telling.{leads_lost, leads_passed, leads_sent, same, unsent}
+use Rattle.fbsim_session.proofs.lemmas.Telling.{leads_lost, leads_passed, leads_sent, same, unsent}
 use Rattle.fbsim_session.proofs.talking.Console.list_rows.Goals as goal
 
 pub loop-row-init : goal.loop-row-init

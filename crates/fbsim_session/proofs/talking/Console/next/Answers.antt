@@ -1,5 +1,5 @@
 use Rattle.std.proofs.Common.{◌≡◌, sym, subst}
-use Rattle.fbsim_session.proofs.Telling.{failed, gone_next, leads_same}
+use Rattle.fbsim_session.proofs.lemmas.Telling.{failed, gone_next, leads_same}
 use Rattle.fbsim_session.proofs.talking.Console.next.Goals as goal
 
 pub next-requires : goal.next-requires

@@ -1,4 +1,4 @@
-use Rattle.fbsim_session.proofs.Telling.{arrives_passed}
+use Rattle.fbsim_session.proofs.lemmas.Telling.{arrives_passed}
 use Rattle.fbsim_session.proofs.talking.Console.obey.Goals as goal
 
 pub returns-in-End : goal.returns-in-End

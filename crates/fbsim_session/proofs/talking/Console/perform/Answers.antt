@@ -1,4 +1,4 @@
-use Rattle.fbsim_session.proofs.Telling.{leads_same, leads_stayed}
+use Rattle.fbsim_session.proofs.lemmas.Telling.{leads_same, leads_stayed}
 use Rattle.fbsim_session.proofs.talking.Console.perform.Goals as goal
 
 pub returns-in-Give : goal.returns-in-Give

@@ -1,5 +1,5 @@
 use Rattle.std.proofs.Common.{◌∙◌}
-use Rattle.fbsim_session.proofs.Telling.{leads_as, leads_lost, leads_sent, same}
+use Rattle.fbsim_session.proofs.lemmas.Telling.{leads_as, leads_lost, leads_sent, same}
 use Rattle.fbsim_session.proofs.talking.Console.say_stop.Goals as goal
 
 pub returns-in_err-number : goal.returns-in_err-number

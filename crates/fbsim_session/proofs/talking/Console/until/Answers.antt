@@ -1,5 +1,5 @@
 use Rattle.std.proofs.Common.{◌≡◌, sym, subst}
-use Rattle.fbsim_session.proofs.Telling.{failed, gone_until, leads_same}
+use Rattle.fbsim_session.proofs.lemmas.Telling.{failed, gone_until, leads_same}
 use Rattle.fbsim_session.proofs.talking.Console.until.Goals as goal
 
 pub until-requires-clause-stands : goal.until-requires-clause-stands

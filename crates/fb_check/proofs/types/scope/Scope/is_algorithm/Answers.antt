@@ -3,7 +3,7 @@ use Rattle.std.specs.Prelude.{is_some}
 use Rattle.fb_types.specs.Names.{same_name}
 use Rattle.fb_types.specs.Blocks.{among}
 use Rattle.fb_types.specs.Repeated.{algorithm_names}
-use Rattle.fb_types.proofs.Positions.{is_some-position}
+use Rattle.fb_types.proofs.lemmas.lists.Positions.{is_some-position}
 use Rattle.fb_check.proofs.types.scope.Scope.is_algorithm.Goals as goal
 
 pub returns : goal.returns

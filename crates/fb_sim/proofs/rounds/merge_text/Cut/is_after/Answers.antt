@@ -1,4 +1,4 @@
-use Rattle.fb_sim.proofs.MergedText.{cut_after, cut_at}
+use Rattle.fb_sim.proofs.lemmas.text.MergedText.{cut_after, cut_at}
 use Rattle.fb_sim.proofs.rounds.merge_text.Cut.is_after.Goals as goal
 
 pub returns-then-index-self : goal.returns-then-index-self

@@ -5,9 +5,9 @@ use Rattle.fb_types.specs.Numbers.{line_of}
 use Rattle.fb_types.specs.declared.run.Line.{Line}
 use Rattle.fb_system.specs.Lines.{BelongsTo}
 use Rattle.fb_trace.specs.Progress.{bounded}
-use Rattle.fb_trace.proofs.Together.{kept}
+use Rattle.fb_trace.proofs.lemmas.order.StableSort.{kept}
 use Rattle.fb_sim.specs.Rounds.{FailsToHandOut, WritesPartOf, text_of}
-use Rattle.fb_sim.proofs.HandedOut.{failed_passed, part_by_list, whole_by_list}
+use Rattle.fb_sim.proofs.lemmas.text.HandedOut.{failed_passed, part_by_list, whole_by_list}
 use Rattle.fb_sim.proofs.rounds.unwritten_lines.UnwrittenLines.hand_out.Goals as goal
 
 pub hand_out-requires : goal.hand_out-requires

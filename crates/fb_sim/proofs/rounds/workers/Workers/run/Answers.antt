@@ -1,6 +1,6 @@
 use denote.Param.Send.{sendable}
-use Rattle.fb_window.proofs.Sends.{job_send}
-use Rattle.fb_sim.proofs.TextedSends.{texted_send}
+use Rattle.fb_window.proofs.lemmas.messages.JobsCross.{job_send}
+use Rattle.fb_sim.proofs.lemmas.text.TextedSends.{texted_send}
 use Rattle.fb_sim.proofs.rounds.workers.Workers.run.Goals as goal
 
 pub run_all-requires-send-W-Job : goal.run_all-requires-send-W-Job

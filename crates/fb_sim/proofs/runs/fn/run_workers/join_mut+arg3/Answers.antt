@@ -1,6 +1,6 @@
 use denote.Param.Send.{sendable}
-use Rattle.fb_window.proofs.Sends.{job_send}
-use Rattle.fb_sim.proofs.TextedSends.{texted_send}
+use Rattle.fb_window.proofs.lemmas.messages.JobsCross.{job_send}
+use Rattle.fb_sim.proofs.lemmas.text.TextedSends.{texted_send}
 use Rattle.fb_sim.proofs.runs.fn.run_workers.join_mut+arg3.Goals as goal
 
 pub dismiss-requires-send-W-Job : goal.dismiss-requires-send-W-Job

@@ -2,8 +2,8 @@ use Rattle.std.proofs.Common.{◌≡◌, sym, subst, Some, length}
 use Rattle.std.specs.Prelude.{slice_get}
 use Rattle.fb_types.specs.Headline.{system_of}
 use Rattle.fb_resource.specs.Posts.{IsMessage}
-use Rattle.fb_types.proofs.ByIndex.{slice_get-append_here}
-use Rattle.fb_tests.proofs.Handed.{handed}
+use Rattle.fb_types.proofs.lemmas.lists.ByIndex.{slice_get-append_here}
+use Rattle.fb_tests.proofs.lemmas.Handed.{handed}
 use Rattle.fb_tests.proofs.tests.parts.chain.handed.Goals as goal
 
 pub returns : goal.returns

@@ -1,5 +1,5 @@
-use Rattle.fb_laws.proofs.Accepting.{sound_of}
-use Rattle.fb_tests.proofs.Unheard.{unheard}
+use Rattle.fb_laws.proofs.lemmas.soundness.Accepting.{sound_of}
+use Rattle.fb_tests.proofs.lemmas.Unheard.{unheard}
 use Rattle.fb_tests.proofs.tests.parts.chain.opened.Goals as goal
 
 pub returns-clause-unheard : goal.returns-clause-unheard

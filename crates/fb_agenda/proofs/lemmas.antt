@@ -1,0 +1,10 @@
+pub mod Orders
+pub mod QueueAndOthers
+pub mod Timers
+pub mod MessagesPut
+pub mod Moments
+pub mod Lists
+pub mod NothingWaits
+pub mod TimerKeys
+pub mod TimersAndOthers
+pub mod Queueing

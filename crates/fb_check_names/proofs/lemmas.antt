@@ -1,0 +1,6 @@
+pub mod comparisons
+pub mod numbers
+pub mod twice
+pub mod unknown
+pub mod Listing
+pub mod Each

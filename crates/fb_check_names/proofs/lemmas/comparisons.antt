@@ -1,0 +1,3 @@
+pub mod DecidedSame
+pub mod ConnectionKeys
+pub mod SameNames

@@ -1,0 +1,5 @@
+pub mod Repeating
+pub mod TwiceIn
+pub mod NameTwice
+pub mod Once
+pub mod AllTwice

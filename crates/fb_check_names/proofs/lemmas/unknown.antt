@@ -1,0 +1,3 @@
+pub mod InNetworks
+pub mod NetworkUnknown
+pub mod Resolving

@@ -1,0 +1,167 @@
+-- What a block of each kind does at an event, by what the calls of its arm return.
+use Rattle.std.proofs.Common.{◌≡◌, ℕ, Bool, true, false, not, ◌&&◌, List, [], ◌∷◌, map, All, nat_eq, refl, sym, ap, ◌∙◌, subst, arith}
+use Rattle.std.specs.Prelude.{if◌then◌else◌, codes}
+use Rattle.std.proofs.lemmas.List.Elements.{All-cons, All-nil}
+use Rattle.fb_types.specs.Blocks.{ports_of_event_block}
+use Rattle.fb_types.specs.EventBlocks.{Flag, Reaction, differ, emits, emits_if, flag, latched, stays}
+use Rattle.fb_types.specs.Names.{Name}
+use Rattle.fb_types.specs.Numbers.{event_at}
+use Rattle.fb_types.specs.Values.{truth}
+use Rattle.fb_types.specs.declared.event_kind.EventKind.{EventKind}
+use Rattle.fb_types.specs.declared.event_kind.EventKind.TheVariants as kind
+use Rattle.fb_types.specs.declared.run.TimerAsk.{TimerAsk}
+use Rattle.fb_types.specs.declared.run.TimerAsk.TheVariants.{Keep}
+use Rattle.fb_types.specs.declared.value.Value.{Value}
+use Rattle.fb_event.specs.Block.{as_time, input_of, state_of, IsInRange}
+use Rattle.fb_event.specs.Reactions.{IsEventOutput}
+use Rattle.fb_event.specs.Seen.{seen_memory}
+use Rattle.fb_event.specs.Step.{IsTimerAfter, Performs, reaction_with, timed_with}
+use Rattle.fb_event.specs.declared.memory.EventMemory.{EventMemory}
+use Rattle.fb_event.specs.declared.memory.EventMemory.TheVariants as seen
+use Rattle.fb_event.specs.declared.step.Step.{Step}
+use Rattle.fb_event.proofs.lemmas.EventIndexes.{latch-set, select-low}
+
+-- what a block of this kind does at an event
+abbrev pub Does : EventKind → EventMemory → (event tick : ℕ) → Value → EventMemory → Step → Type 0
+Does k m event tick input after step = Performs (state_of k m) (reaction_with (state_of k m) event tick (input_of k input)) after step
+
+pub at_kind :
+    (k known : EventKind) (m after : EventMemory) (event tick : ℕ) (input : Value) (step : Step) → k ≡ known → Does known m event tick input after step
+    → Does k m event tick input after step
+at_kind k known m after event tick input step is does = subst (λ (k : EventKind). Does k m event tick input after step) (sym is) does
+
+pub range_at : (k known : EventKind) (m : EventMemory) → k ≡ known → IsInRange k m → IsInRange known m
+range_at k known m is range = subst (λ (k : EventKind). IsInRange k m) is range
+
+-- ---- What is emitted
+
+pub emitting :
+    (k : EventKind) (m after : EventMemory) (r : Reaction) (step : Step) (indexes : List ℕ) → seen_memory after ≡ r.memory → IsInRange k after
+    → map (event_at (ports_of_event_block k).event_outputs) indexes ≡ r.emits → All (IsEventOutput k) indexes → step.emits.now ≡ indexes → step.ask ≡ r.timer
+    → Performs (state_of k m) r after step
+emitting k m after r step indexes memory range names within are ask = record {
+  memory = memory;
+  in_range = range;
+  emits = ap (map (event_at (ports_of_event_block k).event_outputs)) are ∙ names;
+  within = subst (λ (ns : List ℕ). All (IsEventOutput k) ns) (sym are) within;
+  ask = ask;
+}
+
+-- the first event output where a condition holds
+pub choosing :
+    (k : EventKind) (m after : EventMemory) (b : Bool) (e : Name) (step : Step) → IsInRange k after → event_at (ports_of_event_block k).event_outputs 0 ≡ e
+    → IsEventOutput k 0 → step.emits.now ≡ (if b then 0 ∷ [] else []) → step.ask ≡ Keep → Performs (state_of k m) (emits_if b (seen_memory after) e) after step
+choosing k m after true e step range first within are ask =
+    emitting k m after (emits (seen_memory after) (e ∷ [])) step (0 ∷ []) refl range (ap (λ (n : Name). n ∷ []) first)
+    (All-cons (IsEventOutput k) 0 [] within (All-nil (IsEventOutput k))) are ask
+choosing k m after false e step range first within are ask =
+    emitting k m after (stays (seen_memory after)) step [] refl range refl (All-nil (IsEventOutput k)) are ask
+
+-- ---- The kinds
+
+pub restart_does :
+    (m : EventMemory) (event tick : ℕ) (input : Value) (step : Step) → IsInRange kind.Restart m → step.emits.now ≡ [] → step.ask ≡ Keep
+    → Does kind.Restart m event tick input m step
+restart_does m event tick input step range are ask =
+    emitting kind.Restart m m (stays (seen_memory m)) step [] refl range refl (All-nil (IsEventOutput kind.Restart)) are ask
+
+pub split_does :
+    (m : EventMemory) (event tick : ℕ) (input : Value) (step : Step) → IsInRange kind.Split m → step.emits.now ≡ 0 ∷ 1 ∷ [] → step.ask ≡ Keep
+    → Does kind.Split m event tick input m step
+split_does m event tick input step range are ask =
+    let IsOutput = IsEventOutput kind.Split in
+    emitting kind.Split m m (emits (seen_memory m) (codes "EO1" ∷ codes "EO2" ∷ [])) step (0 ∷ 1 ∷ []) refl range refl
+    (All-cons IsOutput 0 (1 ∷ []) (omega arith) (All-cons IsOutput 1 [] (omega arith) (All-nil IsOutput))) are ask
+
+pub merge_does :
+    (m : EventMemory) (event tick : ℕ) (input : Value) (step : Step) → IsInRange kind.Merge m → step.emits.now ≡ 0 ∷ [] → step.ask ≡ Keep
+    → Does kind.Merge m event tick input m step
+merge_does m event tick input step range are ask =
+    let IsOutput = IsEventOutput kind.Merge in
+    emitting kind.Merge m m (emits (seen_memory m) (codes "EO" ∷ [])) step (0 ∷ []) refl range refl (All-cons IsOutput 0 [] (omega arith) (All-nil IsOutput)) are ask
+
+pub permit_does :
+    (m : EventMemory) (event tick : ℕ) (input : Value) (step : Step) → IsInRange kind.Permit m → step.emits.now ≡ (if truth input then 0 ∷ [] else [])
+    → step.ask ≡ Keep → Does kind.Permit m event tick input m step
+permit_does m event tick input step range are ask = choosing kind.Permit m m (truth input) (codes "EO") step range refl (omega arith) are ask
+
+-- E_DELAY and E_CYCLE
+pub delay_does :
+    (m after : EventMemory) (event tick : ℕ) (input : Value) (step : Step) (asked : TimerAsk)
+    → IsTimerAfter (timed_with (seen_memory m) event tick (as_time input)) after asked → step.emits.now ≡ [] → step.ask ≡ asked
+    → Does kind.Delay m event tick input after step
+delay_does m after event tick input step asked timer are ask =
+    emitting kind.Delay m after (timed_with (seen_memory m) event tick (as_time input)) step [] timer.memory
+    (record { time = timer.in_range; values = refl }) (sym timer.emits) (All-nil (IsEventOutput kind.Delay)) are (ask ∙ timer.ask)
+
+pub cycle_does :
+    (m after : EventMemory) (event tick : ℕ) (input : Value) (step : Step) (asked : TimerAsk)
+    → IsTimerAfter (timed_with (seen_memory m) event tick (as_time input)) after asked → step.emits.now ≡ [] → step.ask ≡ asked
+    → Does kind.Cycle m event tick input after step
+cycle_does m after event tick input step asked timer are ask =
+    emitting kind.Cycle m after (timed_with (seen_memory m) event tick (as_time input)) step [] timer.memory
+    (record { time = timer.in_range; values = refl }) (sym timer.emits) (All-nil (IsEventOutput kind.Cycle)) are (ask ∙ timer.ask)
+
+-- E_SELECT
+pub select_does :
+    (m : EventMemory) (event tick : ℕ) (input : Value) (b : Bool) (step : Step) → IsInRange kind.Select m → b ≡ truth input
+    → step.emits.now ≡ (if differ (nat_eq event 0) b then 0 ∷ [] else []) → step.ask ≡ Keep → Does kind.Select m event tick input m step
+select_does m event tick input b step range is are ask =
+    subst (λ (r : Reaction). Performs (state_of kind.Select m) r m step) (λ i. emits_if (differ (sym (select-low event) i) (is i)) (seen_memory m) (codes "EO"))
+    (choosing kind.Select m m (differ (nat_eq event 0) b) (codes "EO") step range refl (omega arith) are ask)
+
+-- E_SWITCH
+pub switch_does :
+    (m : EventMemory) (event tick : ℕ) (input : Value) (b : Bool) (step : Step) → IsInRange kind.Switch m → b ≡ truth input
+    → step.emits.now ≡ (if b then 1 ∷ [] else 0 ∷ []) → step.ask ≡ Keep → Does kind.Switch m event tick input m step
+switch_does m event tick input b step range is are ask =
+    subst (λ (b : Bool). Performs (state_of kind.Switch m) (emits (seen_memory m) ((if b then codes "EO1" else codes "EO0") ∷ [])) m step) is (by b are) where
+      by : (b : Bool) → step.emits.now ≡ (if b then 1 ∷ [] else 0 ∷ []) → Performs (state_of kind.Switch m) (emits (seen_memory m) ((if b then codes "EO1" else codes "EO0") ∷ [])) m step
+      by true are =
+          emitting kind.Switch m m (emits (seen_memory m) (codes "EO1" ∷ [])) step (1 ∷ []) refl range refl
+          (All-cons (IsEventOutput kind.Switch) 1 [] (omega arith) (All-nil (IsEventOutput kind.Switch))) are ask
+      by false are =
+          emitting kind.Switch m m (emits (seen_memory m) (codes "EO0" ∷ [])) step (0 ∷ []) refl range refl
+          (All-cons (IsEventOutput kind.Switch) 0 [] (omega arith) (All-nil (IsEventOutput kind.Switch))) are ask
+
+-- ---- Kinds that remember a flag
+
+flagged :
+    (k : EventKind) (m : EventMemory) (q new : Bool) (step : Step) → IsInRange k (seen.Flag new) → event_at (ports_of_event_block k).event_outputs 0 ≡ codes "EO"
+    → IsEventOutput k 0 → q ≡ flag (seen_memory m) → step.emits.now ≡ (if differ q new then 0 ∷ [] else []) → step.ask ≡ Keep
+    → Performs (state_of k m) (latched (seen_memory m) new) (seen.Flag new) step
+flagged k m q new step range first within is are ask =
+    subst (λ (q : Bool). Performs (state_of k m) (emits_if (differ q new) (Flag new) (codes "EO")) (seen.Flag new) step) is
+    (choosing k m (seen.Flag new) (differ q new) (codes "EO") step range first within are ask)
+
+-- E_SR
+pub set_reset_does :
+    (m : EventMemory) (event tick : ℕ) (input : Value) (q : Bool) (step : Step) → q ≡ flag (seen_memory m)
+    → step.emits.now ≡ (if differ q (nat_eq event 0) then 0 ∷ [] else []) → step.ask ≡ Keep → Does kind.SetReset m event tick input (seen.Flag (nat_eq event 0)) step
+set_reset_does m event tick input q step is are ask =
+    subst (λ (b : Bool). Performs (state_of kind.SetReset m) (latched (seen_memory m) b) (seen.Flag (nat_eq event 0)) step) (sym (latch-set event))
+    (flagged kind.SetReset m q (nat_eq event 0) step (record { time = tt; values = refl }) refl (omega arith) is are ask)
+
+-- E_D_FF
+pub latch_does :
+    (m : EventMemory) (event tick : ℕ) (input : Value) (q d : Bool) (step : Step) → q ≡ flag (seen_memory m) → d ≡ truth input
+    → step.emits.now ≡ (if differ q d then 0 ∷ [] else []) → step.ask ≡ Keep → Does kind.DataLatch m event tick input (seen.Flag d) step
+latch_does m event tick input q d step is now are ask =
+    subst (λ (b : Bool). Performs (state_of kind.DataLatch m) (latched (seen_memory m) b) (seen.Flag d) step) now
+    (flagged kind.DataLatch m q d step (record { time = tt; values = refl }) refl (omega arith) is are ask)
+
+-- E_R_TRIG
+pub rising_does :
+    (m : EventMemory) (event tick : ℕ) (input : Value) (before now : Bool) (step : Step) → before ≡ flag (seen_memory m) → now ≡ truth input
+    → step.emits.now ≡ (if not before && now then 0 ∷ [] else []) → step.ask ≡ Keep → Does kind.RisingEdge m event tick input (seen.Flag now) step
+rising_does m event tick input before now step was is are ask =
+    subst (λ (r : Reaction). Performs (state_of kind.RisingEdge m) r (seen.Flag now) step) (λ i. emits_if (not (was i) && is i) (Flag (is i)) (codes "EO"))
+    (choosing kind.RisingEdge m (seen.Flag now) (not before && now) (codes "EO") step (record { time = tt; values = refl }) refl (omega arith) are ask)
+
+-- E_F_TRIG
+pub falling_does :
+    (m : EventMemory) (event tick : ℕ) (input : Value) (before now : Bool) (step : Step) → before ≡ flag (seen_memory m) → now ≡ truth input
+    → step.emits.now ≡ (if before && not now then 0 ∷ [] else []) → step.ask ≡ Keep → Does kind.FallingEdge m event tick input (seen.Flag now) step
+falling_does m event tick input before now step was is are ask =
+    subst (λ (r : Reaction). Performs (state_of kind.FallingEdge m) r (seen.Flag now) step) (λ i. emits_if (was i && not (is i)) (Flag (is i)) (codes "EO"))
+    (choosing kind.FallingEdge m (seen.Flag now) (before && not now) (codes "EO") step (record { time = tt; values = refl }) refl (omega arith) are ask)

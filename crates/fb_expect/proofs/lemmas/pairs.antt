@@ -1,0 +1,2 @@
+pub mod AnsweredLines
+pub mod Coupled

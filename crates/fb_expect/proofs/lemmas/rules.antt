@@ -1,0 +1,11 @@
+pub mod RulesOfAfter
+pub mod Growing
+pub mod RulesOfBefore
+pub mod Stretches
+pub mod Tallying
+pub mod Counts
+pub mod Stepping
+pub mod Concluding
+pub mod Verdicts
+pub mod Following
+pub mod Idle

@@ -1,0 +1,4 @@
+pub mod TextParts
+pub mod Digits
+pub mod JoinedTexts
+pub mod LinesOfTwo

@@ -1,0 +1,5 @@
+pub mod Indexes
+pub mod Alikeness
+pub mod Differing
+pub mod Gathering
+pub mod Numbering

@@ -1,0 +1,4 @@
+pub mod deployments
+pub mod positions
+pub mod stimuli
+pub mod Each

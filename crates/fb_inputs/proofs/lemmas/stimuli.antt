@@ -1,0 +1,9 @@
+pub mod TextParts
+pub mod Fields
+pub mod Records
+pub mod Rows
+pub mod StimulusFaults
+pub mod NextRecords
+pub mod RecordsReadOn
+pub mod Digits
+pub mod RowStimuli

@@ -1,0 +1,3 @@
+pub mod BackToSystem
+pub mod Bridge
+pub mod Opening

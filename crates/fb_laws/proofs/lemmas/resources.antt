@@ -1,0 +1,13 @@
+pub mod AgreeingWorlds
+pub mod ResourceAlone
+pub mod Chains
+pub mod FamilyEnds
+pub mod Families
+pub mod Global
+pub mod OwnPart
+pub mod Stopping
+pub mod Stops
+pub mod Takings
+pub mod OneResource
+pub mod Outboxes
+pub mod RunSteps

@@ -1,0 +1,10 @@
+pub mod Agendas
+pub mod Timers
+pub mod OneBlockChanges
+pub mod RunningTimers
+pub mod Effects
+pub mod NoLesserTick
+pub mod RowsAndTimers
+pub mod GivenRows
+pub mod Posting
+pub mod KeysRise

@@ -1,0 +1,15 @@
+pub mod DeclaredVariables
+pub mod Bodies
+pub mod Charts
+pub mod Values
+pub mod Worlds
+pub mod Sampling
+pub mod Emitting
+pub mod EventBlocks
+pub mod ReactionTypes
+pub mod Simulated
+pub mod Declared
+pub mod ConnectionEnds
+pub mod Sources
+pub mod Initials
+pub mod Accepted

@@ -1,0 +1,5 @@
+pub mod blocks
+pub mod emitting
+pub mod opening
+pub mod taking
+pub mod values

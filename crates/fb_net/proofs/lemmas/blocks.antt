@@ -1,0 +1,9 @@
+pub mod Charts
+pub mod Descents
+pub mod OtherBlocks
+pub mod WaysInTrees
+pub mod BlocksKept
+pub mod Changing
+pub mod Basics
+pub mod EventBlockReactions
+pub mod Leaves

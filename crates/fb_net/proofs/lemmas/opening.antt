@@ -1,0 +1,9 @@
+pub mod Components
+pub mod Frames
+pub mod BlockOpened
+pub mod Growing
+pub mod Roots
+pub mod Seating
+pub mod BlockWays
+pub mod OpeningCopies
+pub mod OwnParts

@@ -1,0 +1,9 @@
+pub mod Arriving
+pub mod AskedTimers
+pub mod Charting
+pub mod Crossing
+pub mod ByEvent
+pub mod TakingSteps
+pub mod Targets
+pub mod ArrivalKeys
+pub mod PassingOn

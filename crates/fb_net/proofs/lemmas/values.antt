@@ -1,0 +1,9 @@
+pub mod NamesDiffer
+pub mod HeldRows
+pub mod HeldCopyAlone
+pub mod ShownValues
+pub mod Sampled
+pub mod Writing
+pub mod Acceptance
+pub mod Sampling
+pub mod ReadIndexes

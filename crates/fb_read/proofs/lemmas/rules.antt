@@ -1,0 +1,14 @@
+pub mod NextLaws
+pub mod CountedLoops
+pub mod AddedItems
+pub mod Reading
+pub mod ItemLoops
+pub mod Pairs
+pub mod Options
+pub mod Steps
+pub mod Chained
+pub mod Lists
+pub mod Lengths
+pub mod Starts
+pub mod Several
+pub mod Counts

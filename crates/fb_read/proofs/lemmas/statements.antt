@@ -1,0 +1,5 @@
+pub mod StatementNesting
+pub mod StatementLengths
+pub mod StatementSound
+pub mod StatementComplete
+pub mod TextsInRules

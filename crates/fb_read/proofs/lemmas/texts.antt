@@ -1,0 +1,4 @@
+pub mod WholeLaws
+pub mod StopLaws
+pub mod RefusalLaws
+pub mod FaultLaws

@@ -1,0 +1,16 @@
+pub mod Keywords
+pub mod Skips
+pub mod NumberLaws
+pub mod FrontLaws
+pub mod TextEnds
+pub mod Comments
+pub mod TokenLaws
+pub mod ByteLaws
+pub mod LongestLaws
+pub mod CutLaws
+pub mod PauseLaws
+pub mod DurationLaws
+pub mod ShapeLaws
+pub mod SignLaws
+pub mod PrefixLaws
+pub mod PlaceLaws

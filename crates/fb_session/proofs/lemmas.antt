@@ -1,0 +1,12 @@
+pub mod Texts
+pub mod RunIs
+pub mod GivingIs
+pub mod GoingIs
+pub mod EndingIs
+pub mod PeekIs
+pub mod Seen
+pub mod UntilIs
+pub mod NextIs
+pub mod ReadRows
+pub mod BreakingIs
+pub mod Showing

@@ -1,0 +1,3 @@
+pub mod rounds
+pub mod runs
+pub mod text

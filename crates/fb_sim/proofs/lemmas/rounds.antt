@@ -1,0 +1,10 @@
+pub mod AdvanceIs
+pub mod HundredthSteps
+pub mod Edges
+pub mod FirstRounds
+pub mod Fronts
+pub mod OnePhase
+pub mod Rising
+pub mod RoundIs
+pub mod RunIs
+pub mod WindowIs

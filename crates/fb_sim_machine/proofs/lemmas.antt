@@ -1,0 +1,11 @@
+pub mod AgendaIs
+pub mod DeliverIs
+pub mod GivenIs
+pub mod JoinedRuns
+pub mod Nexts
+pub mod OneStep
+pub mod RisingTicks
+pub mod OpenIs
+pub mod ReadyIs
+pub mod Simulations
+pub mod TakenIs

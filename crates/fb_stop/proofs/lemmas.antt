@@ -1,0 +1,4 @@
+pub mod copies
+pub mod numbers
+pub mod operations
+pub mod runs

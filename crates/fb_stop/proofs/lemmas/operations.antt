@@ -1,0 +1,4 @@
+pub mod Operating
+pub mod OperationPlaces
+pub mod FirstWithoutValue
+pub mod Insides

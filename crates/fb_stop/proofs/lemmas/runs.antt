@@ -1,0 +1,4 @@
+pub mod Takings
+pub mod Stepping
+pub mod Ending
+pub mod Spending

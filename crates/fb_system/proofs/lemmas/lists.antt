@@ -1,0 +1,3 @@
+pub mod TwoLists
+pub mod ListParts
+pub mod Named

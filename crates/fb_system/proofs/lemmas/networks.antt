@@ -1,0 +1,12 @@
+pub mod EndIndexes
+pub mod Wired
+pub mod Leading
+pub mod EndLookups
+pub mod PortConnections
+pub mod InsideInstances
+pub mod Distinct
+pub mod Sites
+pub mod HoldingResource
+pub mod FirstLinks
+pub mod Linked
+pub mod SameResource

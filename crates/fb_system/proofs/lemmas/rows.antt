@@ -1,0 +1,10 @@
+pub mod MadeTables
+pub mod LayoutSteps
+pub mod LaidOut
+pub mod WireTables
+pub mod InRanges
+pub mod KeptHeads
+pub mod KeptEnds
+pub mod KeptRows
+pub mod PortTables
+pub mod Bounds

@@ -1,0 +1,4 @@
+pub mod DeclaredInstances
+pub mod InitialInputs
+pub mod ParameterIndexes
+pub mod InitialValues

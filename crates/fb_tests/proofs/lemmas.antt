@@ -1,0 +1,5 @@
+pub mod Again
+pub mod Coming
+pub mod Handed
+pub mod Unheard
+pub mod Zips

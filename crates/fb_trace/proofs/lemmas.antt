@@ -1,0 +1,3 @@
+pub mod digits
+pub mod lines
+pub mod order

@@ -1,0 +1,4 @@
+pub mod Sorting
+pub mod StableSort
+pub mod Merged
+pub mod EarlyLines

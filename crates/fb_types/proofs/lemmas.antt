@@ -1,0 +1,5 @@
+pub mod determined
+pub mod events
+pub mod examples
+pub mod lists
+pub mod names

@@ -1,0 +1,17 @@
+pub mod Derivations
+pub mod Cycle
+pub mod Delay
+pub mod LinkedEvent
+pub mod HeldCopy
+pub mod Stepper
+pub mod Looper
+pub mod Runs
+pub mod ReadBodies
+pub mod Twice
+pub mod Calc
+pub mod StoppedDelay
+pub mod ShortDelay
+pub mod Counter
+pub mod TwoLinks
+pub mod AcceptanceTests
+pub mod ExamplesAccepted

@@ -1,0 +1,10 @@
+pub mod Elements
+pub mod TwiceLaws
+pub mod Positions
+pub mod ByIndex
+pub mod ListTests
+pub mod Options
+pub mod LoopSteps
+pub mod EachLaws
+pub mod Lookups
+pub mod TakeLaws

@@ -1,0 +1,4 @@
+pub mod NameLaws
+pub mod NameNumbers
+pub mod NameOrders
+pub mod PathLaws

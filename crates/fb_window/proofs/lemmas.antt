@@ -1,0 +1,5 @@
+pub mod bounds
+pub mod lines
+pub mod messages
+pub mod phases
+pub mod turns

@@ -1,0 +1,2 @@
+pub mod FoundLines
+pub mod Gather

@@ -1,0 +1,5 @@
+pub mod Delivers
+pub mod Receives
+pub mod Posted
+pub mod JobsCross
+pub mod LinkLemmas

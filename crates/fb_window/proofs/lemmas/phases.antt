@@ -1,0 +1,9 @@
+pub mod Passes
+pub mod HomeIs
+pub mod Leaves
+pub mod Opens
+pub mod Loans
+pub mod Standings
+pub mod JobsGiven
+pub mod Targets
+pub mod Rounds

@@ -1,0 +1,4 @@
+pub mod OneTurn
+pub mod Walking
+pub mod Walked
+pub mod Turned

@@ -1,0 +1,10 @@
+pub mod DifferenceCalls
+pub mod Drawing
+pub mod Explaining
+pub mod Checking
+pub mod WaveCalls
+pub mod Reporting
+pub mod Warning
+pub mod StateWaveCalls
+pub mod Inspecting
+pub mod CoverageCalls

@@ -1,0 +1,194 @@
+-- How a call that inspects a trace ends.
+use Rattle.std.proofs.Common.{◌≡◌, ◌≤◌, ◌⊎◌, ℕ, Bool, List, Option, Some, None, Result, Ok, Err, codes, decimal, option_map, ◌++◌, inl, inr, refl, sym, ap, subst, ◌∙◌}
+use Rattle.std.specs.Prelude.{IfErr, IfSome, IsErrAnd, IsTrue, OnErr}
+use Rattle.fb_inspect.specs.Refusals.{IsWrongAt, OfRefusal}
+use Rattle.fb_inspect.specs.walk.Looks.{most}
+use Rattle.fb_wave.specs.Named.{HasNames}
+use Rattle.fb_types.specs.Headline.{Inputs, system_of}
+use Rattle.fb_read.specs.declared.error.ReadError.{ReadError}
+use Rattle.fb_read.specs.declared.error.ReadError.TheVariants as read
+use Rattle.fb_check.specs.Refusals as check
+use Rattle.fb_inputs.specs.Refusals as input
+use Rattle.fb_inspect.specs.Inspections.{ShowsFront}
+use Rattle.fb_inspect.specs.declared.error.InspectError.{InspectError}
+use Rattle.fb_inspect.specs.declared.error.InspectError.TheVariants as inspection
+use Rattle.fb_sim.specs.Given.{Given}
+use Rattle.fb_sim.specs.Serial.{Declares, IsRefusal, IsRightly}
+use Rattle.fb_sim.specs.declared.outcome.Refusal as sim
+use Rattle.fb_sim.specs.declared.outcome.Refusal.TheVariants as of
+use Rattle.fb_sim.specs.declared.outcome.RunError.{RunError}
+use Rattle.fb_sim.specs.declared.outcome.RunError.TheVariants as run
+use Rattle.clap.specs.Words.{Text}
+use Rattle.fbsim_command.specs.Failures.{failure_of, failure_of_inspection, failure_of_source, numbered_input}
+use Rattle.fbsim_command.specs.InsideNotes.{IsOpenNote, NotesInside, SaysLine}
+use Rattle.fbsim_command.specs.Inspecting.{Inspects, ShowsInsides, files_of, selection_of}
+use Rattle.fbsim_command.specs.Notes.{IsFileNote, Notes, NotesOf, NotesRest}
+use Rattle.fbsim_command.specs.Outcomes.{End, Held}
+use Rattle.fbsim_command.specs.WrongLines.{IsWrongIn}
+use Rattle.fbsim_command.specs.OwnLines.{EndsIn}
+use Rattle.fbsim_command.specs.Reading.{Reading, AreRead, IsUnread}
+use Rattle.fbsim_command.specs.Showing.{Opening}
+use Rattle.fbsim_command.specs.declared.failure.Failure.{Failure}
+use Rattle.fbsim_line.specs.declared.inspect_line.Inspect.{Inspect}
+use Rattle.fbsim_line.specs.declared.line.Task.{Task}
+use Rattle.fbsim_command.specs.declared.sources.SourceFault.{SourceFault}
+use Rattle.fbsim_command.proofs.lemmas.notes.NotedLines.{noted_so}
+use Rattle.fbsim_command.specs.declared.texts.Part.{Part}
+
+-- whatever the call answers
+pub on_err_any : {A E : Type 0} (r : Result A E) (P : Type 0) → P → OnErr r P
+on_err_any (Ok x) P p = tt
+on_err_any (Err e) P p = p
+
+-- nothing is written where the inputs are refused
+pub inspects_none : (given : Given) (x : Inspect) (trace old : Held) (error : RunError) → IsRefusal given error → Inspects given x trace old old (Err (failure_of error))
+inspects_none given x trace old (run.Refused r) is = refusal r is
+  where
+    numbered : (r : sim.Refusal) → IsRightly given r → (o : Option ℕ) → failure_of (run.Refused r) ≡ numbered_input o → Inspects given x trace old old (Err (numbered_input o))
+    numbered r is (Some n) reported = inl (record { error = run.Refused r; refused = is; reported = reported }, refl)
+    numbered r is None reported = inl refl
+
+    unread : (e : ReadError) → IsRightly given (of.Declaration e) → Inspects given x trace old old (Err (failure_of (run.Refused (of.Declaration e))))
+    unread read.Memory is = inl refl
+    unread read.Byte is = inl (record { error = run.Refused (of.Declaration read.Byte); refused = is; reported = refl }, refl)
+    unread read.Token is = inl (record { error = run.Refused (of.Declaration read.Token); refused = is; reported = refl }, refl)
+    unread (read.Syntax line) is = inl (record { error = run.Refused (of.Declaration (read.Syntax line)); refused = is; reported = refl }, refl)
+    unread read.TooLong is = inl (record { error = run.Refused (of.Declaration read.TooLong); refused = is; reported = refl }, refl)
+    unread read.Nesting is = inl (record { error = run.Refused (of.Declaration read.Nesting); refused = is; reported = refl }, refl)
+
+    refusal : (r : sim.Refusal) → IsRightly given r → Inspects given x trace old old (Err (failure_of (run.Refused r)))
+    refusal (of.Declaration e) is = unread e is
+    refusal (of.Deployment e) is = numbered (of.Deployment e) is (input.number_of e) refl
+    refusal (of.Stimuli e) is = numbered (of.Stimuli e) is (input.number_of e) refl
+    refusal (of.Check e) is = numbered (of.Check e) is (check.number_of e) refl
+inspects_none given x trace old run.Memory is = inl refl
+inspects_none given x trace old (run.Write n) is = absurd is
+inspects_none given x trace old run.BadOption is = absurd is
+inspects_none given x trace old run.Failed is = absurd is
+
+-- a beginning is written where the trace is refused, or where reading it, writing or memory fails
+pub inspects_front :
+    (given : Given) (x : Inspect) (trace old new : Held) (i : Inputs) → Declares given i → (e : InspectError) → ShowsFront (system_of i) (selection_of x) x.steps old new
+    → OfRefusal (IsWrongIn i x.steps trace) e → Inspects given x trace old new (Err (failure_of_inspection e))
+inspects_front given x trace old new i is (inspection.Refused line) front wrong = inr (i, is, front, wrong)
+inspects_front given x trace old new i is inspection.Names front wrong = inr (i, is, front)
+inspects_front given x trace old new i is inspection.Unknown front wrong = inr (i, is, front, refl)
+inspects_front given x trace old new i is inspection.Memory front wrong = inr (i, is, front)
+inspects_front given x trace old new i is inspection.Read front wrong = (i, is, front)
+inspects_front given x trace old new i is (inspection.Write n) front wrong = (i, is, front)
+
+-- a line that is refused is wrong, under the premises of the call below
+pub wrong_so :
+    {A : Type 0} (H L : Type 0) (W : ℕ → Type 0) (r : Result A InspectError) → (H → L → IfErr r (OfRefusal W)) → IfErr r (OfRefusal (λ n. H → L → W n))
+wrong_so H L W (Ok x) is = tt
+wrong_so H L W (Err (inspection.Refused n)) is = is
+wrong_so H L W (Err inspection.Names) is = tt
+wrong_so H L W (Err inspection.Unknown) is = tt
+wrong_so H L W (Err inspection.Memory) is = tt
+wrong_so H L W (Err inspection.Read) is = tt
+wrong_so H L W (Err (inspection.Write n)) is = tt
+
+-- the line for which a walk refuses a trace is wrong
+pub wrong-covered :
+    {A : Type 0} (i : Inputs) (steps : ℕ) (trace : Held) (r : Result A InspectError) (line : ℕ) → r ≡ Err (inspection.Refused line)
+    → (HasNames (system_of i) → steps ≤ most → IfErr r (OfRefusal (λ n. IfSome trace (IsWrongAt (system_of i) steps n)))) → IsWrongIn i steps trace line
+wrong-covered {A} i steps trace r line is wrong = λ names few. subst (λ (s : Result A InspectError). IfErr s (OfRefusal (λ n. IfSome trace (IsWrongAt (system_of i) steps n)))) is (wrong names few)
+
+-- a failure of memory is no refusal
+pub no_refusal : {A : Type 0} (r : Result A InspectError) (W : ℕ → Type 0) → IsErrAnd r (λ e. e ≡ inspection.Memory) → IfErr r (OfRefusal W)
+no_refusal (Ok x) W bad = tt
+no_refusal (Err e) W is = subst (OfRefusal W) (sym is) tt
+
+-- ---- What was read
+
+-- the note has the number of the line
+pub says_line :
+    {S : Type 0} (bytes : S → Text) (why : Bool) (front : Text) (line : ℕ) (words : Text) (note : Option S) → IsTrue why
+    → IfSome note (λ n. bytes n ≡ front ++ (codes ": line " ++ (decimal line ++ (codes ": " ++ words)))) → IfSome note (λ n. IsTrue why × SaysLine front line (bytes n))
+says_line bytes why front line words None asked is = tt
+says_line bytes why front line words (Some n) asked is = (asked, record { words = words; is = is })
+
+-- what is said of a refused line
+pub line_noted_inside :
+    {U S : Type 0} (bytes : S → Text) (why : Bool) (gone : Result U InspectError) (e : InspectError) (failure : Failure) (note : Option S) → gone ≡ Err e
+    → failure ≡ failure_of_inspection e → IfSome note (λ n. IsTrue why × ((line : ℕ) × (gone ≡ Err (inspection.Refused line)) × SaysLine (codes "trace") line (bytes n)))
+    → NotesInside why (Err failure) (option_map bytes note)
+line_noted_inside bytes why gone e failure None is reported noted = tt
+line_noted_inside {U = U} bytes why gone e failure (Some n) is reported noted =
+    let line : ℕ = noted.1.0 in
+    let both : ◌≡◌ {A = Result U InspectError} (Err e) (Err (inspection.Refused line)) = sym is ∙ noted.1.1 in
+    let same : e ≡ inspection.Refused line = cc in
+    (noted.0, (line, ap (λ (f : Failure). Err f) (reported ∙ ap failure_of_inspection same), noted.1.2))
+
+-- nothing is said of a trace that is gone through
+pub none_noted_inside :
+    {U S : Type 0} (bytes : S → Text) (why : Bool) (gone : Result U InspectError) (end : End) (u : U) (note : Option S) → gone ≡ Ok u
+    → IfSome note (λ n. IsTrue why × ((line : ℕ) × (gone ≡ Err (inspection.Refused line)) × SaysLine (codes "trace") line (bytes n))) → NotesInside why end (option_map bytes note)
+none_noted_inside bytes why gone end u None is noted = tt
+none_noted_inside {U = U} bytes why gone end u (Some n) is noted =
+    let both : ◌≡◌ {A = Result U InspectError} (Ok u) (Err (inspection.Refused noted.1.0)) = sym is ∙ noted.1.1 in
+    absurd (cc)
+
+-- the trace is opened, and it is inspected
+pub read_and_inspected :
+    {S : Type 0} (reads : Reading S) (opens : Opening S) (from between to : S) (types : List Text) (x : Inspect) (old new : Held) (lines : List ℕ) (given : Given) (task : Task)
+    (trace : Held) (own : Given) (inner end : End) (note : Option Text) → task ≡ files_of x → own ≡ given → AreRead reads types task from between lines given
+    → opens between x.trace.now (Ok trace) to → Inspects own x trace old new inner → (line first : Option Text) → NotesInside x.why inner first
+    → (line ≡ first) ⊎ NotesRest x.why x.trace.now inner line → NotesOf types task lines given inner note ⊎ (note ≡ line) → EndsIn types x.declaration.now lines inner end
+    → ShowsInsides reads opens from to types x old new end note
+read_and_inspected reads opens from between to types x old new lines given task trace own inner end note as_task as_given was_read opened done line first of_line last noted ends =
+    inl
+    (record {
+      lines = lines;
+      given = given;
+      between = between;
+      read = subst (λ (k : Task). AreRead reads types k from between lines given) as_task was_read;
+      trace = trace;
+      opened = opened;
+      inner = inner;
+      done = subst (λ (z : Given). Inspects z x trace old new inner) as_given done;
+      noted = noted_so (NotesOf types (files_of x) lines given inner) (NotesInside x.why inner) (NotesRest x.why x.trace.now inner) note line first of_line last
+          (subst (λ (k : Task). NotesOf types k lines given inner note ⊎ (note ≡ line)) as_task noted);
+      ends = ends;
+    })
+
+-- a file is not read that the trace is of
+pub not_read :
+    {S : Type 0} (reads : Reading S) (opens : Opening S) (from to : S) (types : List Text) (x : Inspect) (same : Held) (task : Task) (part : Part) (fault : SourceFault) (failed : Failure)
+    (note : Option Text) → task ≡ files_of x → failed ≡ failure_of_source fault → IsUnread reads types task from to part fault
+    → Notes task.why (IsFileNote types task part fault) note → ShowsInsides reads opens from to types x same same (Err failed) note
+not_read reads opens from to types x same task part fault failed note as_task is unread noted =
+    let reported : ◌≡◌ {A = End} (Err failed) (Err (failure_of_source fault)) = ap (λ (f : Failure). Err f) is in
+    inr (
+      fault,
+      inl
+          (record {
+            part = part;
+            unread = subst (λ (k : Task). IsUnread reads types k from to part fault) as_task unread;
+            noted = subst (λ (k : Task). Notes k.why (IsFileNote types k part fault) note) as_task noted;
+          }),
+      reported,
+      refl,
+    )
+
+-- the trace is not opened
+pub not_opened :
+    {S : Type 0} (reads : Reading S) (opens : Opening S) (from between to : S) (types : List Text) (x : Inspect) (same : Held) (lines : List ℕ) (given : Given) (task : Task) (fault : SourceFault)
+    (failed : Failure) (note : Option Text) → task ≡ files_of x → failed ≡ failure_of_source fault → AreRead reads types task from between lines given
+    → opens between x.trace.now (Err fault) to → Notes x.why (IsOpenNote x.trace.now fault) note → ShowsInsides reads opens from to types x same same (Err failed) note
+not_opened reads opens from between to types x same lines given task fault failed note as_task is was_read unread noted =
+    let reported : ◌≡◌ {A = End} (Err failed) (Err (failure_of_source fault)) = ap (λ (f : Failure). Err f) is in
+    inr (
+      fault,
+      inr
+          (record {
+            lines = lines;
+            given = given;
+            between = between;
+            read = subst (λ (k : Task). AreRead reads types k from between lines given) as_task was_read;
+            unread = unread;
+            noted = noted;
+          }),
+      reported,
+      refl,
+    )

@@ -1,0 +1,142 @@
+-- How a call for waveforms ends where there are none, or no whole ones.
+use Rattle.std.proofs.Common.{◌≡◌, ◌⊎◌, ℕ, List, Option, Some, None, Ok, Err, inl, inr, refl, ap, subst}
+use Rattle.fb_types.specs.Headline.{Inputs, system_of}
+use Rattle.fb_read.specs.declared.error.ReadError.{ReadError}
+use Rattle.fb_read.specs.declared.error.ReadError.TheVariants as read
+use Rattle.fb_check.specs.Refusals as check
+use Rattle.fb_inputs.specs.Refusals as input
+use Rattle.fb_sim.specs.Given.{Given}
+use Rattle.fb_sim.specs.Serial.{Declares, IsRefusal, IsRightly}
+use Rattle.fb_sim.specs.declared.outcome.Refusal as sim
+use Rattle.fb_sim.specs.declared.outcome.Refusal.TheVariants as of
+use Rattle.fb_sim.specs.declared.outcome.RunError.{RunError}
+use Rattle.fb_sim.specs.declared.outcome.RunError.TheVariants as run
+use Rattle.fb_wave.specs.CutOff.{BlamesShown, FailsCut, FailsShown}
+use Rattle.fb_wave.specs.Waves.{WritesFront}
+use Rattle.fb_wave.specs.declared.error.WaveError.{WaveError}
+use Rattle.fb_wave.specs.declared.error.WaveError.TheVariants as wave
+use Rattle.fb_wave.specs.declared.truncation.Cut.{Cut}
+use Rattle.fb_wave.specs.declared.truncation.Cut.TheVariants as cut
+use Rattle.clap.specs.Words.{Text}
+use Rattle.fbsim_line.specs.declared.line.Task.{Task}
+use Rattle.fbsim_line.specs.declared.line.Wave.{Wave}
+use Rattle.fbsim_command.specs.Failures.{failure_of, failure_of_source, failure_of_wave, numbered_input}
+use Rattle.fbsim_command.specs.declared.failure.Failure.{Failure}
+use Rattle.fbsim_command.specs.Outcomes.{End, Held}
+use Rattle.fbsim_command.specs.Notes.{IsFileNote, Notes, NotesOf, NotesRest}
+use Rattle.fbsim_command.specs.OwnLines.{EndsIn}
+use Rattle.fbsim_command.specs.Reading.{Reading, AreRead, IsUnread}
+use Rattle.fbsim_command.specs.Showing.{Dumps, DumpsAs, IsTraceFileNote, NotesAs, Opening, Shows, cut_of, files_of}
+use Rattle.fbsim_command.specs.declared.sources.SourceFault.{SourceFault}
+use Rattle.fbsim_command.specs.declared.texts.Part.{Part}
+use Rattle.fbsim_command.proofs.lemmas.notes.NotedLines.{noted_so}
+
+-- nothing is written where the inputs are refused
+pub dumps_none : (may : Cut) (given : Given) (trace old : Held) (error : RunError) → IsRefusal given error → Dumps may given trace old old (Err (failure_of error))
+dumps_none may given trace old (run.Refused r) is = refusal r is
+  where
+    numbered : (r : sim.Refusal) → IsRightly given r → (o : Option ℕ) → failure_of (run.Refused r) ≡ numbered_input o → Dumps may given trace old old (Err (numbered_input o))
+    numbered r is (Some n) reported = inl (record { error = run.Refused r; refused = is; reported = reported }, refl)
+    numbered r is None reported = inl refl
+
+    unread : (e : ReadError) → IsRightly given (of.Declaration e) → Dumps may given trace old old (Err (failure_of (run.Refused (of.Declaration e))))
+    unread read.Memory is = inl refl
+    unread read.Byte is = inl (record { error = run.Refused (of.Declaration read.Byte); refused = is; reported = refl }, refl)
+    unread read.Token is = inl (record { error = run.Refused (of.Declaration read.Token); refused = is; reported = refl }, refl)
+    unread (read.Syntax line) is = inl (record { error = run.Refused (of.Declaration (read.Syntax line)); refused = is; reported = refl }, refl)
+    unread read.TooLong is = inl (record { error = run.Refused (of.Declaration read.TooLong); refused = is; reported = refl }, refl)
+    unread read.Nesting is = inl (record { error = run.Refused (of.Declaration read.Nesting); refused = is; reported = refl }, refl)
+
+    refusal : (r : sim.Refusal) → IsRightly given r → Dumps may given trace old old (Err (failure_of (run.Refused r)))
+    refusal (of.Declaration e) is = unread e is
+    refusal (of.Deployment e) is = numbered (of.Deployment e) is (input.number_of e) refl
+    refusal (of.Stimuli e) is = numbered (of.Stimuli e) is (input.number_of e) refl
+    refusal (of.Check e) is = numbered (of.Check e) is (check.number_of e) refl
+dumps_none may given trace old run.Memory is = inl refl
+dumps_none may given trace old (run.Write n) is = absurd is
+dumps_none may given trace old run.BadOption is = absurd is
+dumps_none may given trace old run.Failed is = absurd is
+
+-- what a writer got where it did not fail
+front_of : (may : Cut) (i : Inputs) (old new : Held) (e : WaveError) → (FailsShown cut.Refused (system_of i) old new e → WritesFront (system_of i) old new) → ¬ (FailsCut (system_of i) old new e)
+    → FailsShown may (system_of i) old new e → WritesFront (system_of i) old new
+front_of cut.Refused i old new e front other fails = front fails
+front_of cut.Allowed i old new e front other (inl fails) = front fails
+front_of cut.Allowed i old new e front other (inr fails) = absurd (other fails)
+
+-- a beginning is written where the trace is refused, or where reading it, writing or memory fails
+pub dumps_front :
+    (may : Cut) (given : Given) (trace old new : Held) (i : Inputs) → Declares given i → (e : WaveError) → FailsShown may (system_of i) old new e
+    → BlamesShown may (system_of i) trace e → Dumps may given trace old new (Err (failure_of_wave e))
+dumps_front may given trace old new i is (wave.Refused line) fails blames =
+    inr (line, refl, (i, is, front_of may i old new (wave.Refused line) (λ f. f) (λ f. f) fails, blames))
+dumps_front may given trace old new i is wave.Memory fails blames = inr (i, is, front_of may i old new wave.Memory (λ f. f) (λ f. f) fails)
+dumps_front may given trace old new i is wave.Read fails blames = (i, is, front_of may i old new wave.Read (λ f. f) (λ f. f) fails)
+dumps_front may given trace old new i is (wave.Write n) fails blames = (i, is, fails)
+dumps_front may given trace old new i is wave.Names fails blames = inr (i, is, front_of may i old new wave.Names (λ f. f) (λ f. f) fails)
+
+-- ---- What was read
+
+-- the trace is opened, and its dump is written
+pub read_and_shown :
+    {S : Type 0} (reads : Reading S) (opens : Opening S) (from between to : S) (types : List Text) (w : Wave) (old new : Held) (lines : List ℕ) (given : Given) (task : Task) (may : Cut)
+    (trace : Held) (x : Given) (inner end : End) (note : Option Text) → task ≡ files_of w → may ≡ cut_of w → x ≡ given → AreRead reads types task from between lines given
+    → opens between w.trace.now (Ok trace) to → DumpsAs w.has_states w.steps may x trace old new inner → (line first : Option Text) → NotesAs w.has_states w.why x trace inner first
+    → (line ≡ first) ⊎ NotesRest w.why w.trace.now inner line → NotesOf types task lines given inner note ⊎ (note ≡ line) → EndsIn types w.declaration.now lines inner end
+    → Shows reads opens from to types w old new end note
+read_and_shown reads opens from between to types w old new lines given task may trace x inner end note as_task as_cut as_given was_read opened done line first of_line last noted ends =
+    inl
+    (record {
+      lines = lines;
+      given = given;
+      between = between;
+      read = subst (λ (k : Task). AreRead reads types k from between lines given) as_task was_read;
+      trace = trace;
+      opened = opened;
+      inner = inner;
+      done = subst (λ (m : Cut). DumpsAs w.has_states w.steps m given trace old new inner) as_cut (subst (λ (z : Given). DumpsAs w.has_states w.steps may z trace old new inner) as_given done);
+      noted = noted_so (NotesOf types (files_of w) lines given inner) (NotesAs w.has_states w.why given trace inner) (NotesRest w.why w.trace.now inner) note line first
+          (subst (λ (z : Given). NotesAs w.has_states w.why z trace inner first) as_given of_line) last (subst (λ (k : Task). NotesOf types k lines given inner note ⊎ (note ≡ line)) as_task noted);
+      ends = ends;
+    })
+
+-- a file is not read that the trace is of
+pub unread_for :
+    {S : Type 0} (reads : Reading S) (opens : Opening S) (from to : S) (types : List Text) (w : Wave) (same : Held) (task : Task) (part : Part) (fault : SourceFault) (failed : Failure)
+    (note : Option Text) → task ≡ files_of w → failed ≡ failure_of_source fault → IsUnread reads types task from to part fault
+    → Notes task.why (IsFileNote types task part fault) note → Shows reads opens from to types w same same (Err failed) note
+unread_for reads opens from to types w same task part fault failed note as_task is unread noted =
+    let reported : ◌≡◌ {A = End} (Err failed) (Err (failure_of_source fault)) = ap (λ (f : Failure). Err f) is in
+    inr (
+      fault,
+      inl
+          (record {
+            part = part;
+            unread = subst (λ (k : Task). IsUnread reads types k from to part fault) as_task unread;
+            noted = subst (λ (k : Task). Notes k.why (IsFileNote types k part fault) note) as_task noted;
+          }),
+      reported,
+      refl,
+    )
+
+-- the trace is not opened
+pub unopened :
+    {S : Type 0} (reads : Reading S) (opens : Opening S) (from between to : S) (types : List Text) (w : Wave) (same : Held) (lines : List ℕ) (given : Given) (task : Task) (fault : SourceFault)
+    (failed : Failure) (note : Option Text) → task ≡ files_of w → failed ≡ failure_of_source fault → AreRead reads types task from between lines given
+    → opens between w.trace.now (Err fault) to → Notes w.why (IsTraceFileNote w fault) note → Shows reads opens from to types w same same (Err failed) note
+unopened reads opens from between to types w same lines given task fault failed note as_task is was_read unread noted =
+    let reported : ◌≡◌ {A = End} (Err failed) (Err (failure_of_source fault)) = ap (λ (f : Failure). Err f) is in
+    inr (
+      fault,
+      inr
+          (record {
+            lines = lines;
+            given = given;
+            between = between;
+            read = subst (λ (k : Task). AreRead reads types k from between lines given) as_task was_read;
+            unread = unread;
+            noted = noted;
+          }),
+      reported,
+      refl,
+    )

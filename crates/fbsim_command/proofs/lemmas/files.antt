@@ -1,0 +1,6 @@
+pub mod FirstBytes
+pub mod Gathering
+pub mod OpenLaws
+pub mod LinesLaws
+pub mod FileNames
+pub mod PlacedLines

@@ -1,0 +1,4 @@
+pub mod SomeNumber
+pub mod HeldRules
+pub mod RuleNames
+pub mod Declaring

@@ -1,0 +1,7 @@
+pub mod AlikeFaults
+pub mod AlikeTakes
+pub mod AlikeWalk
+pub mod BuildLaws
+pub mod FormLaws
+pub mod GetterLaws
+pub mod LineLaws

@@ -1,0 +1,3 @@
+pub mod Commanding
+pub mod Pieces
+pub mod Telling
