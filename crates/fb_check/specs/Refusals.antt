@@ -6,14 +6,14 @@ use Rattle.fb_types.specs.declared.library.Library.{Library}
 use Rattle.fb_types.specs.declared.deploy.Plan.{Plan}
 use Rattle.fb_types.specs.declared.deploy.Stimulus.{Stimulus}
 use Rattle.fb_check_names.specs.TwiceLists.{twice_all}
-use Rattle.fb_check.specs.types.MisfitLists.{misfits_all}
+use Rattle.fb_check.specs.types.KindWrongLists.{kinds_wrong_all}
 use Rattle.fb_check.specs.types.Unknowns.{unknown_all}
 use Rattle.fb_check.specs.networks.Heights.{IsTooHighAt}
-use Rattle.fb_check.specs.networks.Links.{unlinked_all}
-use Rattle.fb_check.specs.networks.Misjoins.{misjoins_all}
-use Rattle.fb_check.specs.networks.Sources.{joined_all}
-use Rattle.fb_check.specs.networks.Unmapped.{unmapped_all}
-use Rattle.fb_check.specs.networks.Unserved.{unserved_all}
+use Rattle.fb_check.specs.networks.Links.{no_link_all}
+use Rattle.fb_check.specs.networks.OutOfRange.{out_of_range_all}
+use Rattle.fb_check.specs.networks.Sources.{two_sources_all}
+use Rattle.fb_check.specs.networks.NotMapped.{not_mapped_all}
+use Rattle.fb_check.specs.networks.NoEvent.{no_event_all}
 use Rattle.fb_check.specs.Faults as fault
 use Rattle.fb_check.specs.Stimuli.{AreAllBad, IsBadAt, IsOver}
 use Rattle.fb_check.specs.declared.case.Case.{Case}
@@ -28,7 +28,7 @@ use Rattle.fb_check.specs.declared.location.Limit.{Limit}
 use Rattle.fb_check.specs.declared.location.Location.{Location}
 use Rattle.fb_check.specs.declared.location.Location.TheVariants as at
 use Rattle.fb_check.specs.declared.location.StimulusLocation.{StimulusLocation}
-use Rattle.fb_check_names.specs.declared.location.Descent.{Descent}
+use Rattle.fb_check_names.specs.declared.location.TooHighAt.{TooHighAt}
 
 -- the number of a refusal
 abbrev pub number_of : CheckError → Option ℕ
@@ -48,7 +48,7 @@ inputs_in c = inputs c.library.now c.plan.now c.stimuli.now
 
 -- The one location of a composite type that is too high.
 abbrev pub IsOneTooHigh : Library → List Location → Type 0
-IsOneTooHigh lib locations = (d : Descent) × (locations ≡ at.TooHigh d ∷ []) × IsTooHighAt lib d
+IsOneTooHigh lib locations = (d : TooHighAt) × (locations ≡ at.TooHigh d ∷ []) × IsTooHighAt lib d
 
 -- Stimuli that the application can't take: each that it can't take is among them.
 abbrev pub AreAllStimuli : Library → List Stimulus → List Location → Type 0
@@ -63,13 +63,13 @@ IsOneOver lib stimuli locations = (l : Limit) × (locations ≡ at.OverLimit l �
 abbrev pub AreAll : Library → Plan → List Stimulus → Fault → List Location → Type 0
 AreAll lib plan stimuli of.NameTwice locations = locations ≡ map (λ p. at.NameTwice p) (twice_all lib plan)
 AreAll lib plan stimuli of.NameUnknown locations = locations ≡ map (λ p. at.NameUnknown p) (unknown_all lib plan)
-AreAll lib plan stimuli of.KindWrong locations = locations ≡ map (λ p. at.KindWrong p) (misfits_all lib)
-AreAll lib plan stimuli of.OutOfRange locations = locations ≡ map (λ p. at.OutOfRange p) (misjoins_all lib)
-AreAll lib plan stimuli of.TwoSources locations = locations ≡ map (λ p. at.TwoSources p) (joined_all lib)
+AreAll lib plan stimuli of.KindWrong locations = locations ≡ map (λ p. at.KindWrong p) (kinds_wrong_all lib)
+AreAll lib plan stimuli of.OutOfRange locations = locations ≡ map (λ p. at.OutOfRange p) (out_of_range_all lib)
+AreAll lib plan stimuli of.TwoSources locations = locations ≡ map (λ p. at.TwoSources p) (two_sources_all lib)
 AreAll lib plan stimuli of.TooHigh locations = IsOneTooHigh lib locations
-AreAll lib plan stimuli of.NotMapped locations = locations ≡ map (λ p. at.NotMapped p) (unmapped_all lib plan)
-AreAll lib plan stimuli of.NoLink locations = locations ≡ map (λ p. at.NoLink p) (unlinked_all lib plan)
-AreAll lib plan stimuli of.NoEvent locations = locations ≡ map (λ p. at.NoEvent p) (unserved_all lib plan)
+AreAll lib plan stimuli of.NotMapped locations = locations ≡ map (λ p. at.NotMapped p) (not_mapped_all lib plan)
+AreAll lib plan stimuli of.NoLink locations = locations ≡ map (λ p. at.NoLink p) (no_link_all lib plan)
+AreAll lib plan stimuli of.NoEvent locations = locations ≡ map (λ p. at.NoEvent p) (no_event_all lib plan)
 AreAll lib plan stimuli of.BadStimulus locations = AreAllStimuli lib stimuli locations
 AreAll lib plan stimuli of.OverLimit locations = IsOneOver lib stimuli locations
 

@@ -3,13 +3,13 @@ pub mod Variables
 pub mod Networks
 pub mod Parameters
 pub mod Joins
-pub mod Misjoins
+pub mod OutOfRange
 pub mod Sources
 pub mod Heights
 pub mod Counts
 pub mod Serving
 pub mod Links
-pub mod Unserved
-pub mod Unmapped
+pub mod NoEvent
+pub mod NotMapped
 pub mod Mapping
 pub mod Applies

@@ -1,7 +1,7 @@
 pub mod Insides
 pub mod Statements
-pub mod MisfitLists
-pub mod Misfits
+pub mod KindWrongLists
+pub mod KindsWrong
 pub mod KindsApply
 pub mod Roles
 pub mod Trees

@@ -1,7 +1,7 @@
 //! Locations at which refusals apply, and limits.
 
 use fb_check_names::{
-    Descent, GivenTwice, Joined, Misfit, Misjoin, UnknownName, Unlinked, Unmapped,
+    TooHighAt, GivenTwice, TwoSourcesAt, KindWrongAt, OutOfRangeAt, UnknownName, NoLinkAt, NotMappedAt,
 };
 
 /// A location at which a refusal applies, under the name of its fault. It counts what is meant by its indexes in the
@@ -13,17 +13,17 @@ pub enum Location {
     /// A name that nothing of the required kind has (E21).
     NameUnknown(UnknownName),
     /// An expression, a statement or a value of a wrong kind (E22).
-    KindWrong(Misfit),
+    KindWrong(KindWrongAt),
     /// A data connection to a type that does not contain all values (E23).
-    OutOfRange(Misjoin),
+    OutOfRange(OutOfRangeAt),
     /// Two data connections that lead to one port (E24).
-    TwoSources(Joined),
+    TwoSources(TwoSourcesAt),
     /// A composite type that contains itself or is too high (E25).
-    TooHigh(Descent),
+    TooHigh(TooHighAt),
     /// An instance of the application that is not mapped to one resource (E26).
-    NotMapped(Unmapped),
+    NotMapped(NotMappedAt),
     /// A connection between two resources without a link (E27).
-    NoLink(Unlinked),
+    NoLink(NoLinkAt),
     /// A data connection between two resources that no event serves, by its index in the application (E28).
     NoEvent(usize),
     /// A stimulus that the application can't take (E29).

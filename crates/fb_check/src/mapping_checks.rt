@@ -10,7 +10,7 @@ ghost use Rattle.fb_check.specs.networks.Mapping.{IsMapping};
 use crate::case::Case;
 use crate::fault::Fault;
 use crate::location::Location;
-use crate::networks::{Mapping, holders_of, mapping_of, unlinked_locations, unserved_locations};
+use crate::networks::{Mapping, holders_of, mapping_of, no_link_locations, no_event_locations};
 use crate::refusal::{CheckEnd, passed};
 use fb_check_names::Resolved;
 use fb_types::Items;
@@ -27,7 +27,7 @@ fn mapping<'a>(alloc: Global, case: &Case<'a>) -> Result<Mapping<'a>, CheckEnd>
     let mapping = mapping_of(alloc, &mut found, case.library, case.plan)?;
     let locations = found
         .into_iter()
-        .map(|unmapped| Location::NotMapped(unmapped))
+        .map(|not_mapped| Location::NotMapped(not_mapped))
         .collect(alloc)?;
     passed(Fault::NotMapped, locations, mapping)
 }
@@ -39,7 +39,7 @@ fn judge_links(alloc: Global, case: &Case, mapping: &Mapping) -> Result<(), Chec
     ensures ok { IfOk result (λ _. HasPassed 28 case.now) }
     ensures refused { IfErr result (IsCheckEnd (inputs_in case.now)) }
 {
-    let found = unlinked_locations(alloc, case.library, case.plan, mapping)?;
+    let found = no_link_locations(alloc, case.library, case.plan, mapping)?;
     let locations = found
         .into_iter()
         .map(|connection| Location::NoLink(connection))
@@ -60,7 +60,7 @@ fn judge_events(
     ensures ok { IfOk result (λ _. HasPassed 29 case.now) }
     ensures refused { IfErr result (IsCheckEnd (inputs_in case.now)) }
 {
-    let found = unserved_locations(alloc, case.library, case.plan, mapping, resolved)?;
+    let found = no_event_locations(alloc, case.library, case.plan, mapping, resolved)?;
     let locations = found
         .into_iter()
         .map(|connection| Location::NoEvent(connection))

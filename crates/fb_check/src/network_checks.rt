@@ -9,9 +9,9 @@ ghost use Rattle.fb_check.specs.Verdicts.{HasPassed};
 use crate::case::Case;
 use crate::fault::Fault;
 use crate::location::Location;
-use crate::networks::{joined_locations, misjoin_locations, too_high_location};
+use crate::networks::{two_sources_locations, out_of_range_locations, too_high_location};
 use crate::refusal::{CheckEnd, Refusal, passed};
-use crate::types::misfit_locations;
+use crate::types::kind_wrong_locations;
 use fb_check_names::{Catalog, Resolved};
 use std::alloc::Global;
 
@@ -28,10 +28,10 @@ fn judge_kinds(
     ensures ok { IfOk result (λ _. HasPassed 23 case.now) }
     ensures refused { IfErr result (IsCheckEnd (inputs_in case.now)) }
 {
-    let found = misfit_locations(alloc, case.library, catalog, resolved)?;
+    let found = kind_wrong_locations(alloc, case.library, catalog, resolved)?;
     let locations = found
         .into_iter()
-        .map(|misfit| Location::KindWrong(misfit))
+        .map(|kind_wrong| Location::KindWrong(kind_wrong))
         .collect(alloc)?;
     passed(Fault::KindWrong, locations, ())
 }
@@ -43,7 +43,7 @@ fn judge_ranges(alloc: Global, case: &Case, resolved: &Resolved) -> Result<(), C
     ensures ok { IfOk result (λ _. HasPassed 24 case.now) }
     ensures refused { IfErr result (IsCheckEnd (inputs_in case.now)) }
 {
-    let found = misjoin_locations(alloc, case.library, resolved)?;
+    let found = out_of_range_locations(alloc, case.library, resolved)?;
     let locations = found
         .into_iter()
         .map(|connection| Location::OutOfRange(connection))
@@ -57,7 +57,7 @@ fn judge_sources(alloc: Global, case: &Case) -> Result<(), CheckEnd>
     ensures ok { IfOk result (λ _. HasPassed 25 case.now) }
     ensures refused { IfErr result (IsCheckEnd (inputs_in case.now)) }
 {
-    let found = joined_locations(alloc, case.library)?;
+    let found = two_sources_locations(alloc, case.library)?;
     let locations = found
         .into_iter()
         .map(|joined| Location::TwoSources(joined))
@@ -81,8 +81,8 @@ pub fn judge_networks(
     judge_ranges(alloc, case, resolved)?;
     judge_sources(alloc, case)?;
     match too_high_location(alloc, resolved)? {
-        Some(descent) => {
-            let high = Location::TooHigh(descent);
+        Some(too_high) => {
+            let high = Location::TooHigh(too_high);
             Err(CheckEnd::Refused(Refusal::at(alloc, Fault::TooHigh, high)?))
         }
         None => Ok(()),

@@ -28,10 +28,10 @@ mod variables;
 
 pub use counts::has_too_many_instances;
 pub use heights::too_high_location;
-pub use links::unlinked_locations;
+pub use links::no_link_locations;
 pub use mapping::{Listed, Mapping, holders_of, mapping_of, resource_of};
 pub use parameters::push_wrong_parameters;
-pub use ranges::misjoin_locations;
-pub use sources::joined_locations;
-pub use uncarried::unserved_locations;
+pub use ranges::out_of_range_locations;
+pub use sources::two_sources_locations;
+pub use uncarried::no_event_locations;
 pub use values::is_within;

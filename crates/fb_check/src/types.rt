@@ -4,14 +4,14 @@
 //! Guarantees to callers: `resolution::resolve` lists the locations at which nothing of the required kind has a name,
 //! exactly those. If there is none, it returns types, ports, instances, resources and links by their indexes. `scope`
 //! has the meaning of the names of a basic type, `value_kinds` the kinds of expressions, and `variables` the types of
-//! variables if no index of names is at hand. `misfits::misfit_locations` lists all locations at which a declared
+//! variables if no index of names is at hand. `kinds_wrong::kind_wrong_locations` lists all locations at which a declared
 //! value, a parameter, a guard or a statement has the wrong kind, in the order of the declaration. By the functions of
 //! `laws` and `kind_laws` the number applies if a location is listed. `statements::all_statements` lists the statements
 //! of an algorithm as they begin in the text.
 //!
 //! Read in this order: `interface` and `scope`, the meaning of names; `adding`, items added to lists; `mentions`,
 //! `charts` and `basics`, names in basic types; `ends` and `networks`, networks; `blocks` and `deployment`;
-//! `resolution`; `laws`. Then `value_kinds`, kinds; `variables`; `statements`, `misfits`; `kind_laws`.
+//! `resolution`; `laws`. Then `value_kinds`, kinds; `variables`; `statements`, `kinds_wrong`; `kind_laws`.
 
 pub(crate) mod adding;
 mod basics;
@@ -23,7 +23,7 @@ mod interface;
 pub mod kind_laws;
 pub mod laws;
 pub mod mentions;
-pub mod misfits;
+pub mod kinds_wrong;
 mod networks;
 pub mod resolution;
 pub mod scope;
@@ -32,7 +32,7 @@ pub mod value_kinds;
 pub mod variables;
 
 pub use ends::{input_of, output_of};
-pub use misfits::{internals_of, misfit_locations};
+pub use kinds_wrong::{internals_of, kind_wrong_locations};
 pub use resolution::resolve;
 pub use scope::Scope;
 pub use statements::{Standing, all_statements};

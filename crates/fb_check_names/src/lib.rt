@@ -35,8 +35,8 @@ pub mod types;
 pub use catalog::{BlockIndexes, Catalog, catalog_of};
 pub use listed::push_unless;
 pub use location::{
-    ActionPart, Descent, Direction, FlowKind, Joined, Misfit, Misjoin, Side, Site, StatementPart,
-    TransitionPart, UnknownName, Unlinked, Unmapped, Variables,
+    ActionPart, TooHighAt, Direction, FlowKind, TwoSourcesAt, KindWrongAt, OutOfRangeAt, Side, Site, StatementPart,
+    TransitionPart, UnknownName, NoLinkAt, NotMappedAt, Variables,
 };
 pub use named::{Named, indexes, push_names};
 pub use numbers::{

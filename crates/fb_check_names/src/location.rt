@@ -151,7 +151,7 @@ pub enum StatementPart {
 
 /// A location at which a kind is wrong. Items of lists are counted from 0, in the order of the text.
 #[derive(Clone, Copy)]
-pub enum Misfit {
+pub enum KindWrongAt {
     /// The declared value of a variable of the block type.
     Initial {
         block: usize,
@@ -180,7 +180,7 @@ pub enum Misfit {
 
 /// A data connection, among those of its network, counted from 0 in the order of the text.
 #[derive(Clone, Copy)]
-pub struct Misjoin {
+pub struct OutOfRangeAt {
     /// The network.
     pub site: Site,
     /// The index among the data connections of the network.
@@ -189,7 +189,7 @@ pub struct Misjoin {
 
 /// Two data connections of one network that lead to one port.
 #[derive(Clone, Copy)]
-pub struct Joined {
+pub struct TwoSourcesAt {
     /// The network.
     pub site: Site,
     /// Their indexes among the data connections of the network.
@@ -198,7 +198,7 @@ pub struct Joined {
 
 /// A connection of the application between two resources without a link.
 #[derive(Clone, Copy)]
-pub struct Unlinked {
+pub struct NoLinkAt {
     /// What it carries.
     pub flow: FlowKind,
     /// Its index among the connections that carry the same.
@@ -207,7 +207,7 @@ pub struct Unlinked {
 
 /// Where an instance of the application is not mapped to one resource (E26).
 #[derive(Clone, Copy)]
-pub enum Unmapped {
+pub enum NotMappedAt {
     /// No resource lists the instance at this index of the application.
     Unlisted(usize),
     /// A name is listed twice, in the lists of all resources, one after another.
@@ -216,7 +216,7 @@ pub enum Unmapped {
 
 /// A composite type and an instance inside it that makes it too high, by their indexes (E25).
 #[derive(Clone, Copy)]
-pub enum Descent {
+pub enum TooHighAt {
     /// The type contains itself.
     Circle(usize, usize),
     /// The type has a height over 16.

@@ -34,8 +34,8 @@ use Rattle.fb_check_names.specs.declared.location.Direction.{Direction}
 use Rattle.fb_check_names.specs.declared.location.Direction.TheVariants as direction
 use Rattle.fb_check_names.specs.declared.location.FlowKind.{FlowKind}
 use Rattle.fb_check_names.specs.declared.location.FlowKind.TheVariants as flow
-use Rattle.fb_check_names.specs.declared.location.Misfit.{Misfit}
-use Rattle.fb_check_names.specs.declared.location.Misfit.TheVariants as misfit
+use Rattle.fb_check_names.specs.declared.location.KindWrongAt.{KindWrongAt}
+use Rattle.fb_check_names.specs.declared.location.KindWrongAt.TheVariants as kind_wrong
 use Rattle.fb_check_names.specs.declared.location.Side.{Side}
 use Rattle.fb_check_names.specs.declared.location.Side.TheVariants as side
 use Rattle.fb_check_names.specs.declared.location.Site.{Site}
@@ -48,17 +48,17 @@ use Rattle.fb_check_names.specs.declared.location.UnknownName.{UnknownName}
 use Rattle.fb_check_names.specs.declared.location.UnknownName.TheVariants as unknown
 use Rattle.fb_check_names.specs.declared.location.Variables.{Variables}
 use Rattle.fb_check_names.specs.declared.location.Variables.TheVariants as variables
-use Rattle.fb_check_names.specs.declared.location.Descent.{Descent}
-use Rattle.fb_check_names.specs.declared.location.Descent.TheVariants as descent
+use Rattle.fb_check_names.specs.declared.location.TooHighAt.{TooHighAt}
+use Rattle.fb_check_names.specs.declared.location.TooHighAt.TheVariants as too_high
 use Rattle.fb_check_names.specs.declared.twice.GivenTwice.{GivenTwice}
 use Rattle.fb_check_names.specs.declared.twice.GivenTwice.TheVariants as given
 use Rattle.fb_check_names.specs.declared.twice.InBlock.{InBlock}
 use Rattle.fb_check_names.specs.declared.twice.InBlock.TheVariants as in_block
 use Rattle.fb_check_names.specs.declared.twice.InNetwork.{InNetwork}
 use Rattle.fb_check_names.specs.declared.twice.InNetwork.TheVariants as in_network
-use Rattle.fb_check_names.specs.declared.location.Unlinked.{Unlinked}
-use Rattle.fb_check_names.specs.declared.location.Unmapped.{Unmapped}
-use Rattle.fb_check_names.specs.declared.location.Unmapped.TheVariants as unmapped
+use Rattle.fb_check_names.specs.declared.location.NoLinkAt.{NoLinkAt}
+use Rattle.fb_check_names.specs.declared.location.NotMappedAt.{NotMappedAt}
+use Rattle.fb_check_names.specs.declared.location.NotMappedAt.TheVariants as not_mapped
 
 -- a part of the network of a site
 abbrev pub in_site : Site → NetworkPart → Position
@@ -185,25 +185,25 @@ statement_part algorithm statement (part.Choice k) = basic_part.Clause algorithm
 statement_part algorithm statement part.Until = basic_part.Clause algorithm statement 1
 statement_part algorithm statement _ = basic_part.Statement algorithm statement
 
-abbrev pub misfit_position : Misfit → Position
-misfit_position (misfit.Initial block list k) = variable_position block list k
-misfit_position (misfit.Parameter s instance parameter) = in_site s (network_part.Parameter instance parameter)
-misfit_position (misfit.Guard block k) = position.InBasic block (basic_part.Transition k transition_part.Guard)
-misfit_position (misfit.Statement block algorithm statement which) = position.InBasic block (statement_part algorithm statement which)
+abbrev pub kind_wrong_position : KindWrongAt → Position
+kind_wrong_position (kind_wrong.Initial block list k) = variable_position block list k
+kind_wrong_position (kind_wrong.Parameter s instance parameter) = in_site s (network_part.Parameter instance parameter)
+kind_wrong_position (kind_wrong.Guard block k) = position.InBasic block (basic_part.Transition k transition_part.Guard)
+kind_wrong_position (kind_wrong.Statement block algorithm statement which) = position.InBasic block (statement_part algorithm statement which)
 
 -- ---- Networks and their mapping
 
-abbrev pub descent_position : Descent → Position
-descent_position (descent.Circle block instance) = position.InComposite block (network_part.Instance instance)
-descent_position (descent.Height block instance) = position.InComposite block (network_part.Instance instance)
+abbrev pub too_high_position : TooHighAt → Position
+too_high_position (too_high.Circle block instance) = position.InComposite block (network_part.Instance instance)
+too_high_position (too_high.Height block instance) = position.InComposite block (network_part.Instance instance)
 
-abbrev pub unmapped_position : Unmapped → Option Position
-unmapped_position (unmapped.Unlisted instance) = Some (position.InApplication (network_part.Instance instance))
-unmapped_position (unmapped.Again pair) = None
+abbrev pub not_mapped_position : NotMappedAt → Option Position
+not_mapped_position (not_mapped.Unlisted instance) = Some (position.InApplication (network_part.Instance instance))
+not_mapped_position (not_mapped.Again pair) = None
 
 abbrev pub event_or_data : FlowKind → ℕ → Position
 event_or_data flow.Events k = position.InApplication (network_part.EventConnection k connection_part.From)
 event_or_data flow.Data k = data_position site.Application k
 
-abbrev pub unlinked_position : Unlinked → Position
-unlinked_position u = event_or_data u.flow u.connection
+abbrev pub no_link_position : NoLinkAt → Position
+no_link_position u = event_or_data u.flow u.connection

@@ -8,8 +8,8 @@ ghost use Rattle.fb_read_positions.specs.FindingPositions as spec;
 use crate::names::{action_at, network_inside};
 use crate::position::{BasicPart, ConnectionPart, NetworkPart, PortPart, Position, TransitionPart};
 use fb_check_names::{
-    ActionPart, Descent, Direction, FlowKind, GivenTwice, InBlock, InNetwork, Misfit, Side, Site,
-    StatementPart, TransitionPart as NamedPart, UnknownName, Unlinked, Unmapped, Variables,
+    ActionPart, TooHighAt, Direction, FlowKind, GivenTwice, InBlock, InNetwork, KindWrongAt, Side, Site,
+    StatementPart, TransitionPart as NamedPart, UnknownName, NoLinkAt, NotMappedAt, Variables,
 };
 use fb_types::{
     Action, BlockType, Connection, Instance, Library, Network, PortName, Ports, State,
@@ -301,25 +301,25 @@ fn statement_part(algorithm: usize, statement: usize, part: StatementPart) -> Ba
 }
 
 /// A wrong kind.
-pub fn misfit_position(location: Misfit) -> Position
-    ensures { result ≡ spec.misfit_position location }
+pub fn kind_wrong_position(location: KindWrongAt) -> Position
+    ensures { result ≡ spec.kind_wrong_position location }
 {
     match location {
-        Misfit::Initial {
+        KindWrongAt::Initial {
             block,
             variables,
             variable,
         } => variable_position(block, variables, variable),
-        Misfit::Parameter {
+        KindWrongAt::Parameter {
             site,
             instance,
             parameter,
         } => in_site(site, NetworkPart::Parameter(instance, parameter)),
-        Misfit::Guard { block, transition } => Position::InBasic(
+        KindWrongAt::Guard { block, transition } => Position::InBasic(
             block,
             BasicPart::Transition(transition, TransitionPart::Guard),
         ),
-        Misfit::Statement {
+        KindWrongAt::Statement {
             block,
             algorithm,
             statement,
@@ -339,33 +339,33 @@ pub fn data_position(site: Site, connection: usize) -> Position
 }
 
 /// A composite type that is too high, at the instance through which it is.
-pub fn descent_position(descent: Descent) -> Position
-    ensures { result ≡ spec.descent_position descent }
+pub fn too_high_position(too_high: TooHighAt) -> Position
+    ensures { result ≡ spec.too_high_position too_high }
 {
-    match descent {
-        Descent::Circle(block, instance) | Descent::Height(block, instance) => {
+    match too_high {
+        TooHighAt::Circle(block, instance) | TooHighAt::Height(block, instance) => {
             Position::InComposite(block, NetworkPart::Instance(instance))
         }
     }
 }
 
 /// An instance that is not mapped to one resource. One that is listed twice has its position in the deployment.
-pub fn unmapped_position(unmapped: Unmapped) -> Option<Position>
-    ensures { result ≡ spec.unmapped_position unmapped }
+pub fn not_mapped_position(not_mapped: NotMappedAt) -> Option<Position>
+    ensures { result ≡ spec.not_mapped_position not_mapped }
 {
-    match unmapped {
-        Unmapped::Unlisted(instance) => {
+    match not_mapped {
+        NotMappedAt::Unlisted(instance) => {
             Some(Position::InApplication(NetworkPart::Instance(instance)))
         }
-        Unmapped::Again(_) => None,
+        NotMappedAt::Again(_) => None,
     }
 }
 
 /// The beginning of a connection without a link.
-pub fn unlinked_position(unlinked: Unlinked) -> Position
-    ensures { result ≡ spec.unlinked_position unlinked }
+pub fn no_link_position(no_link: NoLinkAt) -> Position
+    ensures { result ≡ spec.no_link_position no_link }
 {
-    let Unlinked { flow, connection } = unlinked;
+    let NoLinkAt { flow, connection } = no_link;
     match flow {
         FlowKind::Events => Position::InApplication(NetworkPart::EventConnection(
             connection,

@@ -25,11 +25,11 @@ use Rattle.fb_check.specs.declared.location.Location.TheVariants as at
 use Rattle.fb_why.specs.declared.location.FindingLocation.{FindingLocation}
 use Rattle.fb_why.specs.declared.location.FindingLocation.TheVariants as found
 use Rattle.fb_check.specs.networks.Heights.{IsTooHighAt}
-use Rattle.fb_check.specs.networks.Sources.{IsJoinedAt}
+use Rattle.fb_check.specs.networks.Sources.{IsTwoSourcesAt}
 use Rattle.fb_check_names.specs.Twice.{IsTwiceAt}
-use Rattle.fb_check.specs.networks.Links.{IsUnlinkedAt}
-use Rattle.fb_check.specs.networks.Unmapped.{IsUnmappedAt}
-use Rattle.fb_check.specs.networks.Unserved.{IsUnservedAt}
+use Rattle.fb_check.specs.networks.Links.{IsNoLinkAt}
+use Rattle.fb_check.specs.networks.NotMapped.{IsNotMappedAt}
+use Rattle.fb_check.specs.networks.NoEvent.{IsNoEventAt}
 use Rattle.fb_inputs.specs.Faults as rows
 use Rattle.fb_inputs.specs.Faults.{AreTaken}
 use Rattle.fb_inputs.specs.StimuliLocations.{number_at}
@@ -41,8 +41,8 @@ use Rattle.fb_why.specs.Faults.{FindsFault}
 use Rattle.fb_read_positions.specs.declared.places.Place.{Place}
 use Rattle.fb_inputs.specs.declared.deploy_location.DeployLocation.{DeployLocation}
 use Rattle.fb_inputs.specs.declared.location.StimuliLocation.{StimuliLocation}
-use Rattle.fb_check.specs.types.Misfits.{IsMisfitAt}
-use Rattle.fb_check.specs.networks.Misjoins.{IsMisjoinedAt}
+use Rattle.fb_check.specs.types.KindsWrong.{IsKindWrongAt}
+use Rattle.fb_check.specs.networks.OutOfRange.{IsOutOfRangeAt}
 
 -- ---- What is found
 
@@ -98,13 +98,13 @@ AreNotFed flaw given = AreNotFedIf (is_of_stimuli flaw) given
 abbrev pub AppliesAt : Fault → Library → Plan → List Stimulus → Location → Type 0
 AppliesAt check.NameTwice lib plan stimuli (at.NameTwice p) = IsTwiceAt lib plan p
 AppliesAt check.NameUnknown lib plan stimuli (at.NameUnknown p) = IsUnknownAt lib plan p
-AppliesAt check.KindWrong lib plan stimuli (at.KindWrong p) = IsMisfitAt lib p
-AppliesAt check.OutOfRange lib plan stimuli (at.OutOfRange p) = IsMisjoinedAt lib p
-AppliesAt check.TwoSources lib plan stimuli (at.TwoSources p) = IsJoinedAt lib p
+AppliesAt check.KindWrong lib plan stimuli (at.KindWrong p) = IsKindWrongAt lib p
+AppliesAt check.OutOfRange lib plan stimuli (at.OutOfRange p) = IsOutOfRangeAt lib p
+AppliesAt check.TwoSources lib plan stimuli (at.TwoSources p) = IsTwoSourcesAt lib p
 AppliesAt check.TooHigh lib plan stimuli (at.TooHigh p) = IsTooHighAt lib p
-AppliesAt check.NotMapped lib plan stimuli (at.NotMapped p) = IsUnmappedAt lib plan p
-AppliesAt check.NoLink lib plan stimuli (at.NoLink p) = IsUnlinkedAt lib plan p
-AppliesAt check.NoEvent lib plan stimuli (at.NoEvent p) = IsUnservedAt lib plan p
+AppliesAt check.NotMapped lib plan stimuli (at.NotMapped p) = IsNotMappedAt lib plan p
+AppliesAt check.NoLink lib plan stimuli (at.NoLink p) = IsNoLinkAt lib plan p
+AppliesAt check.NoEvent lib plan stimuli (at.NoEvent p) = IsNoEventAt lib plan p
 AppliesAt check.BadStimulus lib plan stimuli (at.BadStimulus p) = IsBadAt lib stimuli p
 AppliesAt check.OverLimit lib plan stimuli (at.OverLimit l) = IsOver lib stimuli l
 AppliesAt _ lib plan stimuli _ = ⊥

@@ -33,7 +33,7 @@ use Rattle.fb_why.specs.declared.location.FindingLocation.{FindingLocation}
 use Rattle.fb_why.specs.declared.location.FindingLocation.TheVariants as found
 use Rattle.fb_check_names.specs.declared.twice.GivenTwice.{GivenTwice}
 use Rattle.fb_check_names.specs.declared.twice.GivenTwice.TheVariants as given
-use Rattle.fb_check_names.specs.declared.location.Unmapped.TheVariants as unmapped
+use Rattle.fb_check_names.specs.declared.location.NotMappedAt.TheVariants as not_mapped
 
 abbrev pub Text : Type 0
 Text = List ℕ
@@ -105,7 +105,7 @@ IsListedIn deploy index position =
 
 -- The location is shown at the position.
 abbrev pub IsInputPosition : (deploy : Option Text) → FindingLocation → InputPosition → Type 0
-IsInputPosition deploy (found.Check (at.NotMapped (unmapped.Again pair))) position = IsListedIn deploy pair.1 position
+IsInputPosition deploy (found.Check (at.NotMapped (not_mapped.Again pair))) position = IsListedIn deploy pair.1 position
 IsInputPosition deploy location position = position_of location ≡ Some position
 
 -- ---- Places

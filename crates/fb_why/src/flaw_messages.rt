@@ -6,7 +6,7 @@ use crate::place::position_of;
 use crate::stimulus_messages::push_stimulus;
 use crate::unknown_messages::push_unknown;
 use fb_check::{Case, Limit, Location};
-use fb_check_names::{Descent, FlowKind, GivenTwice, InBlock, Joined, Repeat, Unlinked, Unmapped};
+use fb_check_names::{TooHighAt, FlowKind, GivenTwice, InBlock, TwoSourcesAt, Repeat, NoLinkAt, NotMappedAt};
 use fb_read_positions::finding_positions::port_at;
 use fb_read_positions::headings::{
     network_at, push_connection, push_item, push_position, site_position,
@@ -150,21 +150,21 @@ fn push_untyped(text: &mut Text, library: &Library, plan: &Plan, location: Locat
     let resources = plan.resources.as_slice();
     match location {
         Location::NameTwice(given) => push_given(text, library, plan, given),
-        Location::TwoSources(Joined { site, connections }) => {
+        Location::TwoSources(TwoSourcesAt { site, connections }) => {
             if let Some(network) = network_at(library, site) {
                 push_two_sources(text, network.data_connections.as_slice(), connections);
             }
         }
-        Location::TooHigh(Descent::Circle(block, _)) => {
+        Location::TooHigh(TooHighAt::Circle(block, _)) => {
             push_item(text, ": ", library.blocks.as_slice(), block);
             text.words(" contains itself through it");
         }
-        Location::TooHigh(Descent::Height(_, _)) => {
+        Location::TooHigh(TooHighAt::Height(_, _)) => {
             text.words(": composites nest more than 16 deep through it");
         }
-        Location::NotMapped(Unmapped::Again(pair)) => push_listed(text, resources, pair),
-        Location::NotMapped(Unmapped::Unlisted(_)) => text.words(": no resource lists it"),
-        Location::NoLink(Unlinked { flow, connection }) => {
+        Location::NotMapped(NotMappedAt::Again(pair)) => push_listed(text, resources, pair),
+        Location::NotMapped(NotMappedAt::Unlisted(_)) => text.words(": no resource lists it"),
+        Location::NoLink(NoLinkAt { flow, connection }) => {
             let connections = match flow {
                 FlowKind::Events => network.event_connections.as_slice(),
                 FlowKind::Data => network.data_connections.as_slice(),
@@ -190,8 +190,8 @@ fn heading_of(location: Location, position: Option<Position>) -> Option<Position
             Some(Position::Block(block))
         }
         Location::TwoSources(joined) => Some(site_position(joined.site)),
-        Location::NotMapped(Unmapped::Again(_)) => Some(Position::Application),
-        Location::TooHigh(Descent::Circle(block, instance) | Descent::Height(block, instance)) => {
+        Location::NotMapped(NotMappedAt::Again(_)) => Some(Position::Application),
+        Location::TooHigh(TooHighAt::Circle(block, instance) | TooHighAt::Height(block, instance)) => {
             Some(Position::InComposite(block, NetworkPart::InstanceType(instance)))
         }
         Location::OverLimit(_) => None,
@@ -215,8 +215,8 @@ pub(crate) fn push_flaw<'a>(
         Location::NameUnknown(name) => {
             push_unknown(text, types, contents, case.plan, name, position);
         }
-        Location::KindWrong(misfit) => push_kind_wrong(text, types, contents, misfit),
-        Location::OutOfRange(misjoin) => push_out_of_range(text, types, misjoin),
+        Location::KindWrong(kind_wrong) => push_kind_wrong(text, types, contents, kind_wrong),
+        Location::OutOfRange(out_of_range) => push_out_of_range(text, types, out_of_range),
         Location::BadStimulus(at) => push_stimulus(text, types, case.stimuli, at),
         _ => push_untyped(text, case.library, case.plan, location),
     }

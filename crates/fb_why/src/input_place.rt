@@ -9,7 +9,7 @@ ghost use Rattle.fb_why.specs.InputStretches.{IsDeployPlace};
 use crate::location::FindingLocation;
 use crate::place::PlacedFinding;
 use fb_check::{Limit, Location, StimulusFault, StimulusLocation};
-use fb_check_names::{GivenTwice, Side, UnknownName, Unmapped};
+use fb_check_names::{GivenTwice, Side, UnknownName, NotMappedAt};
 use fb_inputs::{
     DeployKey, DeployPosition, InputError, StimuliPosition, TableLocation, deploy_position,
     nearest_in_deployment, nearest_spans, read_deploy, stimuli_position,
@@ -182,7 +182,7 @@ fn input_position(
     ensures { IfOk result (λ o. IfSome o (IsInputPosition (option_map (λ b. b.now) deploy.entry) location)) }
 {
     match location {
-        FindingLocation::Check(Location::NotMapped(Unmapped::Again((_, index)))) => {
+        FindingLocation::Check(Location::NotMapped(NotMappedAt::Again((_, index)))) => {
             listed_in(alloc, deploy, index)
         }
         _ => Ok(position_of(location)),

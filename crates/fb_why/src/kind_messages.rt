@@ -5,7 +5,7 @@ use crate::contents::Contents;
 use fb_check::types::{
     Typing, internals_of, port_type, value_kind_of, value_kind_of_type, variable_type,
 };
-use fb_check_names::{Misfit, Misjoin, Site, StatementPart, Variables};
+use fb_check_names::{KindWrongAt, OutOfRangeAt, Site, StatementPart, Variables};
 use fb_read_positions::headings::{basic_at, network_at};
 use fb_read_positions::{BlockTypes, Text};
 use fb_text::type_words;
@@ -165,11 +165,11 @@ pub(crate) fn push_kind_wrong<'a>(
     text: &mut Text,
     types: &BlockTypes<'a>,
     contents: &mut Contents<'a>,
-    misfit: Misfit,
+    kind_wrong: KindWrongAt,
 ) {
     let library = types.library;
-    match misfit {
-        Misfit::Initial {
+    match kind_wrong {
+        KindWrongAt::Initial {
             block,
             variables,
             variable,
@@ -178,7 +178,7 @@ pub(crate) fn push_kind_wrong<'a>(
                 push_initial(text, block, variables, variable);
             }
         }
-        Misfit::Parameter {
+        KindWrongAt::Parameter {
             site,
             instance,
             parameter,
@@ -190,12 +190,12 @@ pub(crate) fn push_kind_wrong<'a>(
                 }
             }
         }
-        Misfit::Guard { block, transition } => {
+        KindWrongAt::Guard { block, transition } => {
             if let Some(basic) = basic_at(library, block) {
                 push_guard(text, basic, transition);
             }
         }
-        Misfit::Statement {
+        KindWrongAt::Statement {
             block,
             algorithm,
             statement,
@@ -230,8 +230,8 @@ fn type_at_end(types: &BlockTypes, site: Site, network: &Network, end: &PortName
 }
 
 /// Adds the types of which the first does not fit the second.
-pub(crate) fn push_out_of_range(text: &mut Text, types: &BlockTypes, misjoin: Misjoin) {
-    let Misjoin { site, connection } = misjoin;
+pub(crate) fn push_out_of_range(text: &mut Text, types: &BlockTypes, out_of_range: OutOfRangeAt) {
+    let OutOfRangeAt { site, connection } = out_of_range;
     let Some(network) = network_at(types.library, site) else {
         return;
     };

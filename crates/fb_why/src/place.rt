@@ -5,10 +5,10 @@ ghost use Rattle.fb_why.specs.Positions as spec;
 
 use crate::location::Finding;
 use fb_check::{Limit, Location};
-use fb_check_names::{Joined, Misjoin, Site};
+use fb_check_names::{TwoSourcesAt, OutOfRangeAt, Site};
 use fb_read_positions::finding_positions::{
-    data_position, descent_position, misfit_position, twice_position, unknown_position,
-    unlinked_position, unmapped_position,
+    data_position, too_high_position, kind_wrong_position, twice_position, unknown_position,
+    no_link_position, not_mapped_position,
 };
 use fb_read_positions::{Place, Position};
 use fb_types::Library;
@@ -29,18 +29,18 @@ pub(crate) fn position_of(library: &Library, location: Location) -> Option<Posit
     match location {
         Location::NameTwice(given) => twice_position(library, given),
         Location::NameUnknown(name) => unknown_position(library, name),
-        Location::KindWrong(misfit) => Some(misfit_position(misfit)),
-        Location::OutOfRange(Misjoin { site, connection }) => Some(data_position(site, connection)),
+        Location::KindWrong(kind_wrong) => Some(kind_wrong_position(kind_wrong)),
+        Location::OutOfRange(OutOfRangeAt { site, connection }) => Some(data_position(site, connection)),
         // The later one of two data connections that lead to one port.
         Location::TwoSources(
-            Joined {
+            TwoSourcesAt {
                 site,
                 connections: (_, later),
             },
         ) => Some(data_position(site, later)),
-        Location::TooHigh(descent) => Some(descent_position(descent)),
-        Location::NotMapped(unmapped) => unmapped_position(unmapped),
-        Location::NoLink(unlinked) => Some(unlinked_position(unlinked)),
+        Location::TooHigh(too_high) => Some(too_high_position(too_high)),
+        Location::NotMapped(not_mapped) => not_mapped_position(not_mapped),
+        Location::NoLink(no_link) => Some(no_link_position(no_link)),
         Location::NoEvent(connection) => Some(data_position(Site::Application, connection)),
         Location::OverLimit(Limit::Instances) => Some(Position::Application),
         Location::OverLimit(Limit::Stimuli) => None,

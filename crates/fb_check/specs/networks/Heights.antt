@@ -11,8 +11,8 @@ use Rattle.fb_types.specs.declared.library.Library.{Library}
 use Rattle.fb_check_names.specs.declared.numbers.TypeNumber.{TypeNumber}
 use Rattle.fb_check_names.specs.declared.numbers.TypeNumber.TheVariants as number
 use Rattle.fb_check_names.specs.declared.numbers.NetworkNumbers.{NetworkNumbers}
-use Rattle.fb_check_names.specs.declared.location.Descent.{Descent}
-use Rattle.fb_check_names.specs.declared.location.Descent.TheVariants.{Circle, Height}
+use Rattle.fb_check_names.specs.declared.location.TooHighAt.{TooHighAt}
+use Rattle.fb_check_names.specs.declared.location.TooHighAt.TheVariants.{Circle, Height}
 
 -- ---- Marks, one for each block type
 
@@ -83,9 +83,9 @@ IsHolder xs marks r = (o : Option NetworkNumbers) × (slice_get xs r.0 ≡ Some 
 abbrev pub IsRound : List (Option NetworkNumbers) → List Bool → ℕ × ℕ → Type 0
 IsRound xs marks r = (o : Option NetworkNumbers) × (slice_get xs r.0 ≡ Some o) × (first_marked_component marks o ≡ Some r.1) × LeadsBack xs r.0 o r.1
 
-abbrev pub IsDescent : List (Option NetworkNumbers) → List Bool → Descent → Type 0
-IsDescent xs marks (Circle k i) = IsRound xs marks (k, i)
-IsDescent xs marks (Height k i) = IsHolder xs marks (k, i)
+abbrev pub IsTooHighIn : List (Option NetworkNumbers) → List Bool → TooHighAt → Type 0
+IsTooHighIn xs marks (Circle k i) = IsRound xs marks (k, i)
+IsTooHighIn xs marks (Height k i) = IsHolder xs marks (k, i)
 
 -- ---- Locations
 
@@ -105,6 +105,6 @@ abbrev pub GoesDeep : Library → CompositeType → Type 0
 GoesDeep lib u = (v : CompositeType) × Descends lib 15 u v
 
 -- Through the instance the composite type leads to itself, or 16 steps down.
-abbrev pub IsTooHighAt : Library → Descent → Type 0
+abbrev pub IsTooHighAt : Library → TooHighAt → Type 0
 IsTooHighAt lib (Circle k i) = (t : CompositeType) × (u : CompositeType) × IsHeld lib k i t u × Returns lib u t
 IsTooHighAt lib (Height k i) = (t : CompositeType) × (u : CompositeType) × IsHeld lib k i t u × GoesDeep lib u

@@ -17,7 +17,7 @@ use Rattle.fb_check_names.specs.Listed.{each_at, unless}
 use Rattle.fb_check_names.specs.Sites.{connections_of}
 use Rattle.fb_check_names.specs.declared.location.FlowKind.{FlowKind}
 use Rattle.fb_check_names.specs.declared.location.FlowKind.TheVariants.{Data, Events}
-use Rattle.fb_check_names.specs.declared.location.Unlinked.{Unlinked}
+use Rattle.fb_check_names.specs.declared.location.NoLinkAt.{NoLinkAt}
 
 -- the ends of a connection of the application
 abbrev pub pair_of : Connection → Port × Port
@@ -43,7 +43,7 @@ abbrev pub is_linked : Plan → Connection → Bool
 is_linked plan c = are_linked plan (resource_of plan (pair_of c).0.at) (resource_of plan (pair_of c).1.at)
 
 -- The connection is there, its ends are in two resources, and there is no link (E27).
-pub record IsUnlinkedAt (lib : Library) (plan : Plan) (u : Unlinked) : Type 0 where
+pub record IsNoLinkAt (lib : Library) (plan : Plan) (u : NoLinkAt) : Type 0 where
   pub at_index : Connection
   pub found : slice_get (connections_of u.flow lib.application.network) u.connection ≡ Some at_index
   pub cut : IsCut plan (pair_of at_index)
@@ -51,9 +51,9 @@ pub record IsUnlinkedAt (lib : Library) (plan : Plan) (u : Unlinked) : Type 0 wh
 
 -- ---- All, in the order of the declaration
 
-abbrev pub unlinked_at : Plan → FlowKind → ℕ → Connection → List Unlinked
-unlinked_at plan f k c = unless (is_linked plan c) (record { flow = f; connection = k })
+abbrev pub no_link_at : Plan → FlowKind → ℕ → Connection → List NoLinkAt
+no_link_at plan f k c = unless (is_linked plan c) (record { flow = f; connection = k })
 
-abbrev pub unlinked_all : Library → Plan → List Unlinked
-unlinked_all lib plan =
-    each_at (unlinked_at plan Events) lib.application.network.event_connections ++ each_at (unlinked_at plan Data) lib.application.network.data_connections
+abbrev pub no_link_all : Library → Plan → List NoLinkAt
+no_link_all lib plan =
+    each_at (no_link_at plan Events) lib.application.network.event_connections ++ each_at (no_link_at plan Data) lib.application.network.data_connections

@@ -12,8 +12,8 @@ use Rattle.fb_types.specs.declared.deploy.Plan.{Plan}
 use Rattle.fb_types.specs.declared.deploy.ResourceEntry.{ResourceEntry}
 use Rattle.fb_check_names.specs.Indexes.{index_in}
 use Rattle.fb_check_names.specs.Listed.{unless}
-use Rattle.fb_check_names.specs.declared.location.Unmapped.{Unmapped}
-use Rattle.fb_check_names.specs.declared.location.Unmapped.TheVariants.{Unlisted}
+use Rattle.fb_check_names.specs.declared.location.NotMappedAt.{NotMappedAt}
+use Rattle.fb_check_names.specs.declared.location.NotMappedAt.TheVariants.{Unlisted}
 use Rattle.fb_check.specs.declared.networks.mapping.Listed.{Listed}
 use Rattle.fb_check.specs.declared.networks.mapping.Mapping.{Mapping}
 use Rattle.fb_check.specs.declared.networks.mapping.Mapping.TheVariants as mapping
@@ -25,7 +25,7 @@ abbrev pub owners_in : ℕ → ResourceEntry → List ℕ
 owners_in k r = map (λ n. k) r.instances
 
 -- an instance that no resource lists
-abbrev pub unlisted_by : BTreeMap (Bor Name) ℕ → ℕ → Instance → List Unmapped
+abbrev pub unlisted_by : BTreeMap (Bor Name) ℕ → ℕ → Instance → List NotMappedAt
 unlisted_by m k i = unless (is_some (index_in m i.name)) (Unlisted k)
 
 -- ---- The mapping

@@ -9,22 +9,22 @@ use Rattle.fb_types.specs.declared.library.Library.{Library}
 use Rattle.fb_types.specs.declared.library.Parameter.{Parameter}
 use Rattle.fb_check_names.specs.declared.numbers.TypeNumber.{TypeNumber}
 use Rattle.fb_check_names.specs.Listed.{each_at, unless}
-use Rattle.fb_check_names.specs.declared.location.Misfit.{Misfit}
-use Rattle.fb_check_names.specs.declared.location.Misfit.TheVariants as misfit
+use Rattle.fb_check_names.specs.declared.location.KindWrongAt.{KindWrongAt}
+use Rattle.fb_check_names.specs.declared.location.KindWrongAt.TheVariants as kind_wrong
 use Rattle.fb_check_names.specs.declared.location.Site.{Site}
 use Rattle.fb_check.specs.networks.Variables.{input_type}
 
 -- ---- All, in the order of the declaration
 
-abbrev pub misfit_parameters : Library → Site → ℕ → Instance → List Misfit
-misfit_parameters lib s i x =
+abbrev pub kind_wrong_parameters : Library → Site → ℕ → Instance → List KindWrongAt
+kind_wrong_parameters lib s i x =
     elim (kind_of_instance lib x) [
       | None ↦ []
-      | Some k ↦ each_at (λ p v. unless (parameter_right (ports_of k) v) (misfit.Parameter s i p)) x.parameters
+      | Some k ↦ each_at (λ p v. unless (parameter_right (ports_of k) v) (kind_wrong.Parameter s i p)) x.parameters
     ]
 
-abbrev pub misfits_in_network : Library → Site → List Instance → List Misfit
-misfits_in_network lib s is = each_at (misfit_parameters lib s) is
+abbrev pub kinds_wrong_in_network : Library → Site → List Instance → List KindWrongAt
+kinds_wrong_in_network lib s is = each_at (kind_wrong_parameters lib s) is
 
 -- ---- By number
 

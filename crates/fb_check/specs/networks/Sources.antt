@@ -7,7 +7,7 @@ use Rattle.fb_types.specs.declared.library.Connection.{Connection}
 use Rattle.fb_types.specs.declared.library.Library.{Library}
 use Rattle.fb_check_names.specs.Repeats.{IsPair, repeats}
 use Rattle.fb_check_names.specs.Sites.{in_networks, network_at}
-use Rattle.fb_check_names.specs.declared.location.Joined.{Joined}
+use Rattle.fb_check_names.specs.declared.location.TwoSourcesAt.{TwoSourcesAt}
 use Rattle.fb_check_names.specs.declared.location.Site.{Site}
 
 -- the port to which a connection leads
@@ -18,20 +18,20 @@ abbrev pub targets : List Connection → List Port
 targets cs = map target cs
 
 -- The two data connections of the network lead to one port.
-abbrev pub IsJoinedAt : Library → Joined → Type 0
-IsJoinedAt lib j = (n : OwnedNetwork) × (network_at lib j.site ≡ Some n) × IsPair (targets n.1.data_connections) j.connections
+abbrev pub IsTwoSourcesAt : Library → TwoSourcesAt → Type 0
+IsTwoSourcesAt lib j = (n : OwnedNetwork) × (network_at lib j.site ≡ Some n) × IsPair (targets n.1.data_connections) j.connections
 
 -- ---- All, in the order of the declaration
 
-abbrev pub joined_at : Site → ℕ × ℕ → Joined
-joined_at s r = record { site = s; connections = r }
+abbrev pub two_sources_at : Site → ℕ × ℕ → TwoSourcesAt
+two_sources_at s r = record { site = s; connections = r }
 
 -- the data connections that lead to the port of one before
-abbrev pub joined_among : Site → List Connection → List Joined
-joined_among s cs = map (joined_at s) (repeats same_port (targets cs))
+abbrev pub two_sources_among : Site → List Connection → List TwoSourcesAt
+two_sources_among s cs = map (two_sources_at s) (repeats same_port (targets cs))
 
-abbrev pub joined_in : Site → OwnedNetwork → List Joined
-joined_in s n = joined_among s n.1.data_connections
+abbrev pub two_sources_in : Site → OwnedNetwork → List TwoSourcesAt
+two_sources_in s n = two_sources_among s n.1.data_connections
 
-abbrev pub joined_all : Library → List Joined
-joined_all lib = in_networks joined_in lib
+abbrev pub two_sources_all : Library → List TwoSourcesAt
+two_sources_all lib = in_networks two_sources_in lib

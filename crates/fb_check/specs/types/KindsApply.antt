@@ -1,8 +1,8 @@
 -- What is reported of a location makes its number apply.
 use Rattle.fb_types.specs.Kinds.{KindWrong}
 use Rattle.fb_types.specs.declared.library.Library.{Library}
-use Rattle.fb_check.specs.types.Misfits.{IsMisfitAt}
-use Rattle.fb_check_names.specs.declared.location.Misfit.{Misfit}
+use Rattle.fb_check.specs.types.KindsWrong.{IsKindWrongAt}
+use Rattle.fb_check_names.specs.declared.location.KindWrongAt.{KindWrongAt}
 
-abbrev pub MisfitApplies : Type 0
-MisfitApplies = (lib : Library) (p : Misfit) → IsMisfitAt lib p → KindWrong lib
+abbrev pub KindWrongApplies : Type 0
+KindWrongApplies = (lib : Library) (p : KindWrongAt) → IsKindWrongAt lib p → KindWrong lib

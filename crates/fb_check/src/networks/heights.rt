@@ -8,7 +8,7 @@ ghost use Rattle.fb_check_names.specs.Numbers.{IsResolved};
 ghost use Rattle.fb_check.specs.networks.Heights as spec;
 ghost use Rattle.fb_check.specs.networks.Heights.{IsTooHighAt};
 
-use fb_check_names::{Descent, NetworkNumbers, Resolved, TypeNumber};
+use fb_check_names::{TooHighAt, NetworkNumbers, Resolved, TypeNumber};
 use std::alloc::{AllocError, Global};
 
 /// The number of steps below a component's type from which its holder is too high. A composite type that contains no
@@ -171,14 +171,14 @@ fn first_circle(blocks: &[Option<NetworkNumbers>], marks: &[bool]) -> Option<(us
     None
 }
 
-fn descent_by(blocks: &[Option<NetworkNumbers>], marks: &[bool]) -> Option<Descent>
-    ensures { MatchOption result (All (spec.HoldsNone marks.now) blocks.now) (spec.IsDescent blocks.now marks.now) }
+fn too_high_by(blocks: &[Option<NetworkNumbers>], marks: &[bool]) -> Option<TooHighAt>
+    ensures { MatchOption result (All (spec.HoldsNone marks.now) blocks.now) (spec.IsTooHighIn blocks.now marks.now) }
 {
     if let Some((block, component)) = first_circle(blocks, marks) {
-        return Some(Descent::Circle(block, component));
+        return Some(TooHighAt::Circle(block, component));
     }
     match first_holder(blocks, marks) {
-        Some((block, component)) => Some(Descent::Height(block, component)),
+        Some((block, component)) => Some(TooHighAt::Height(block, component)),
         None => None,
     }
 }
@@ -189,10 +189,10 @@ fn descent_by(blocks: &[Option<NetworkNumbers>], marks: &[bool]) -> Option<Desce
 /// # Errors
 ///
 /// When memory runs out.
-pub fn too_high_location(alloc: Global, numbers: &Resolved) -> Result<Option<Descent>, AllocError>
+pub fn too_high_location(alloc: Global, numbers: &Resolved) -> Result<Option<TooHighAt>, AllocError>
     ensures { IfOk result (λ o. (library : Library) (plan : Plan) → IsResolved library plan numbers.now → MatchOption o (¬ (TooHigh library)) (IsTooHighAt library)) }
 {
     let blocks = numbers.blocks.as_slice();
     let marks = marks_after(alloc, blocks, MOST_STEPS)?;
-    Ok(descent_by(blocks, &marks))
+    Ok(too_high_by(blocks, &marks))
 }

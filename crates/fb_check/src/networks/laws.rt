@@ -1,6 +1,6 @@
 //! What the conditions at locations mean for a declaration and a deployment.
 
-ghost use Rattle.fb_check.specs.networks.Applies.{HeightApplies, JoinedApplies, MisjoinApplies, UnlinkedApplies, UnmappedApplies, UnservedApplies};
+ghost use Rattle.fb_check.specs.networks.Applies.{TooHighApplies, TwoSourcesApplies, OutOfRangeApplies, NoLinkApplies, NotMappedApplies, NoEventApplies};
 
 /// If a location is listed, its number applies:
 ///
@@ -11,10 +11,10 @@ ghost use Rattle.fb_check.specs.networks.Applies.{HeightApplies, JoinedApplies, 
 /// - E27: a connection between two resources has no link.
 /// - E28: no event serves a data connection between two resources.
 pub fn locations_apply()
-    ensures misjoin { MisjoinApplies }
-    ensures joined { JoinedApplies }
-    ensures too_high { HeightApplies }
-    ensures unmapped { UnmappedApplies }
-    ensures unlinked { UnlinkedApplies }
-    ensures unserved { UnservedApplies }
+    ensures out_of_range { OutOfRangeApplies }
+    ensures joined { TwoSourcesApplies }
+    ensures too_high { TooHighApplies }
+    ensures not_mapped { NotMappedApplies }
+    ensures no_link { NoLinkApplies }
+    ensures no_event { NoEventApplies }
 {}

@@ -6,10 +6,10 @@ ghost use Rattle.fb_types.specs.Mapped.{NoLink};
 ghost use Rattle.fb_check.specs.networks.Mapping.{IsMapping, IsHolding};
 ghost use Rattle.fb_check_names.specs.Listed.{each_at};
 ghost use Rattle.fb_check_names.specs.Pairs.{link_names};
-ghost use Rattle.fb_check.specs.networks.Links.{AreWays, IsUnlinkedAt, names_of_link, unlinked_all, unlinked_at};
+ghost use Rattle.fb_check.specs.networks.Links.{AreWays, IsNoLinkAt, names_of_link, no_link_all, no_link_at};
 
 use crate::networks::mapping::{Mapping, resource_of};
-use fb_check_names::{FlowKind, Unlinked, push_unless};
+use fb_check_names::{FlowKind, NoLinkAt, push_unless};
 use fb_types::{Connection, Library, Link, Plan};
 use std::alloc::{AllocError, Global};
 use std::collections::BTreeSet;
@@ -46,8 +46,8 @@ fn name_of(plan: &Plan, resource: usize) -> &[u8]
 }
 
 /// Adds those of these connections, which carry the same, that go from one resource to another with no link for it.
-fn push_unlinked<'a>(
-    found: &mut Vec<Unlinked>,
+fn push_no_link<'a>(
+    found: &mut Vec<NoLinkAt>,
     plan: &'a Plan,
     mapping: &Mapping,
     ways: &BTreeSet<Way<'a>, Global>,
@@ -56,14 +56,14 @@ fn push_unlinked<'a>(
 ) -> Result<(), AllocError>
     requires mapping { IsHolding plan.now mapping.now }
     requires ways { AreWays plan.now.links ways.now }
-    ensures { IfOk result (λ _. found.new.items ≡ found.old.items ++ each_at (unlinked_at plan.now flow) connections.now) }
+    ensures { IfOk result (λ _. found.new.items ≡ found.old.items ++ each_at (no_link_at plan.now flow) connections.now) }
 {
     for (connection, declared) in connections.iter().enumerate() {
         let from = resource_of(mapping, &declared.from);
         let to = resource_of(mapping, &declared.to);
         // One resource holds both ends, or there is a link.
         let is_linked = from == to || ways.contains(&(name_of(plan, from), name_of(plan, to)));
-        push_unless(found, is_linked, Unlinked { flow, connection })?;
+        push_unless(found, is_linked, NoLinkAt { flow, connection })?;
     }
     Ok(())
 }
@@ -74,15 +74,15 @@ fn push_unlinked<'a>(
 /// # Errors
 ///
 /// When memory runs out.
-pub fn unlinked_locations(
+pub fn no_link_locations(
     alloc: Global,
     library: &Library,
     plan: &Plan,
     mapping: &Mapping,
-) -> Result<Vec<Unlinked>, AllocError>
+) -> Result<Vec<NoLinkAt>, AllocError>
     requires { IsMapping library.now plan.now mapping.now }
-    ensures listed { IfOk result (λ found. found.items ≡ unlinked_all library.now plan.now) }
-    ensures each { IfOk result (λ found. All (IsUnlinkedAt library.now plan.now) found.items) }
+    ensures listed { IfOk result (λ found. found.items ≡ no_link_all library.now plan.now) }
+    ensures each { IfOk result (λ found. All (IsNoLinkAt library.now plan.now) found.items) }
     ensures none { IfOk result (λ found. found.items ≡ [] → ¬ (NoLink library.now plan.now)) }
 {
     let mut ways = BTreeSet::new(alloc);
@@ -91,7 +91,7 @@ pub fn unlinked_locations(
     let mut found = Vec::new(alloc);
     let events = network.event_connections.as_slice();
     let data = network.data_connections.as_slice();
-    push_unlinked(&mut found, plan, mapping, &ways, FlowKind::Events, events)
-        .and(push_unlinked(&mut found, plan, mapping, &ways, FlowKind::Data, data))
+    push_no_link(&mut found, plan, mapping, &ways, FlowKind::Events, events)
+        .and(push_no_link(&mut found, plan, mapping, &ways, FlowKind::Data, data))
         .and(Ok(found))
 }

@@ -4,12 +4,12 @@ ghost use Rattle.std.specs.Prelude.{◌≡◌, ◌++◌, [], IfOk, flat_map, map
 ghost use Rattle.fb_types.specs.Repeated.{NameTwice};
 ghost use Rattle.fb_check_names.specs.Indexes.{AreLastIndexes, names_in};
 ghost use Rattle.fb_check_names.specs.Listed.{each_at};
-ghost use Rattle.fb_check_names.specs.declared.location.Unmapped.TheVariants.{Again};
+ghost use Rattle.fb_check_names.specs.declared.location.NotMappedAt.TheVariants.{Again};
 ghost use Rattle.fb_check.specs.networks.Mapping.{IsMapping, holder_in, owner_of, owners_in, resource_in, unlisted_by};
-ghost use Rattle.fb_check.specs.networks.Unmapped.{unmapped_all, unmapped_among};
+ghost use Rattle.fb_check.specs.networks.NotMapped.{not_mapped_all, not_mapped_among};
 
 use fb_check_names::{
-    Indexes, Repeat, Unmapped, index_of_name, last_indexes, push_names, push_unless,
+    Indexes, Repeat, NotMappedAt, index_of_name, last_indexes, push_names, push_unless,
 };
 use fb_types::{Instance, Items, Library, Name, Plan, PortName, ResourceEntry};
 use std::alloc::{AllocError, Global};
@@ -85,7 +85,7 @@ fn owners_of(alloc: Global, resources: &[ResourceEntry]) -> Result<Vec<usize>, A
 
 /// Adds the instances that no resource lists.
 fn push_unlisted(
-    found: &mut Vec<Unmapped>,
+    found: &mut Vec<NotMappedAt>,
     indexes: &Indexes,
     instances: &[Instance],
 ) -> Result<(), AllocError>
@@ -93,17 +93,17 @@ fn push_unlisted(
 {
     for (instance, declared) in instances.iter().enumerate() {
         let is_listed = indexes.contains_key(&declared.name);
-        push_unless(found, is_listed, Unmapped::Unlisted(instance))?;
+        push_unless(found, is_listed, NotMappedAt::Unlisted(instance))?;
     }
     Ok(())
 }
 
 /// Adds the names that are listed before.
-fn push_again(found: &mut Vec<Unmapped>, pairs: &[Repeat]) -> Result<(), AllocError>
+fn push_again(found: &mut Vec<NotMappedAt>, pairs: &[Repeat]) -> Result<(), AllocError>
     ensures { IfOk result (λ _. found.new.items ≡ found.old.items ++ map (λ r. Again r) pairs.now) }
 {
     for pair in pairs {
-        found.push(Unmapped::Again(*pair))?;
+        found.push(NotMappedAt::Again(*pair))?;
     }
     Ok(())
 }
@@ -111,11 +111,11 @@ fn push_again(found: &mut Vec<Unmapped>, pairs: &[Repeat]) -> Result<(), AllocEr
 /// The resource that lists each name. Adds all instances that none lists, and all names that are listed before.
 fn list_all<'a>(
     alloc: Global,
-    found: &mut Vec<Unmapped>,
+    found: &mut Vec<NotMappedAt>,
     instances: &[Instance],
     resources: &'a [ResourceEntry],
 ) -> Result<Listed<'a>, AllocError>
-    ensures found { IfOk result (λ _. found.new.items ≡ found.old.items ++ unmapped_among (flat_map (λ r. r.instances) resources.now) instances.now) }
+    ensures found { IfOk result (λ _. found.new.items ≡ found.old.items ++ not_mapped_among (flat_map (λ r. r.instances) resources.now) instances.now) }
     ensures indexes { IfOk result (λ l. AreLastIndexes (flat_map (λ r. r.instances) resources.now) l.indexes) }
     ensures owners { IfOk result (λ l. l.owners.items ≡ each_at owners_in resources.now) }
 {
@@ -136,13 +136,13 @@ fn list_all<'a>(
 /// When memory runs out.
 pub fn mapping_of<'a>(
     alloc: Global,
-    found: &mut Vec<Unmapped>,
+    found: &mut Vec<NotMappedAt>,
     library: &Library,
     plan: &'a Plan,
 ) -> Result<Mapping<'a>, AllocError>
     requires once { plan.now.holds_all ≡ true → ¬ (NameTwice library.now plan.now) }
-    ensures found { IfOk result (λ _. found.new.items ≡ found.old.items ++ unmapped_all library.now plan.now) }
-    ensures mapping { IfOk result (λ m. unmapped_all library.now plan.now ≡ [] → IsMapping library.now plan.now m) }
+    ensures found { IfOk result (λ _. found.new.items ≡ found.old.items ++ not_mapped_all library.now plan.now) }
+    ensures mapping { IfOk result (λ m. not_mapped_all library.now plan.now ≡ [] → IsMapping library.now plan.now m) }
 {
     if plan.holds_all {
         return Ok(Mapping::All);

@@ -8,12 +8,12 @@ ghost use Rattle.fb_types.specs.declared.deploy.Plan.{Plan};
 ghost use Rattle.fb_check_names.specs.Numbers.{IsResolved};
 ghost use Rattle.fb_check_names.specs.Listed.{each_at};
 ghost use Rattle.fb_check.specs.networks.Joins as spec;
-ghost use Rattle.fb_check.specs.networks.Misjoins.{IsMisjoinedAt, misjoins_all, out_at_index, out_in};
+ghost use Rattle.fb_check.specs.networks.OutOfRange.{IsOutOfRangeAt, out_of_range_all, out_at_index, out_in};
 
 use crate::networks::values::is_within;
 use crate::networks::variables::{source_type, target_type};
 use fb_check_names::{
-    Misjoin, NetworkNumbers, NumberedConnection, Resolved, Site, TypeNumber, push_unless,
+    OutOfRangeAt, NetworkNumbers, NumberedConnection, Resolved, Site, TypeNumber, push_unless,
 };
 use fb_types::{BlockType, Items, Library, Ports};
 use std::alloc::{AllocError, Global};
@@ -38,7 +38,7 @@ fn leads_out(
 
 /// Adds the data connections of a network that lead out of range.
 fn push_in_network(
-    found: &mut Vec<Misjoin>,
+    found: &mut Vec<OutOfRangeAt>,
     library: &Library,
     site: Site,
     boundary: Option<&Ports>,
@@ -50,14 +50,14 @@ fn push_in_network(
     let wires = numbers.data_wires.as_slice();
     for (connection, wire) in wires.iter().enumerate() {
         let leads_out = leads_out(library, boundary, types, wire);
-        push_unless(found, !leads_out, Misjoin { site, connection })?;
+        push_unless(found, !leads_out, OutOfRangeAt { site, connection })?;
     }
     Ok(())
 }
 
 /// The same for the network inside the block type at an index, if there is one, by the numbers of all.
 fn push_inside(
-    found: &mut Vec<Misjoin>,
+    found: &mut Vec<OutOfRangeAt>,
     library: &Library,
     blocks: &Items<Option<NetworkNumbers>>,
     block: usize,
@@ -79,7 +79,7 @@ fn push_inside(
 
 /// The same for all block types.
 fn push_in_blocks(
-    found: &mut Vec<Misjoin>,
+    found: &mut Vec<OutOfRangeAt>,
     library: &Library,
     blocks: &Items<Option<NetworkNumbers>>,
 ) -> Result<(), AllocError>
@@ -98,14 +98,14 @@ fn push_in_blocks(
 /// # Errors
 ///
 /// When memory runs out.
-pub fn misjoin_locations(
+pub fn out_of_range_locations(
     alloc: Global,
     library: &Library,
     numbers: &Resolved,
-) -> Result<Vec<Misjoin>, AllocError>
+) -> Result<Vec<OutOfRangeAt>, AllocError>
     requires { (plan : Plan) × IsResolved library.now plan numbers.now × ¬ (NameTwice library.now plan) }
-    ensures listed { IfOk result (λ found. found.items ≡ misjoins_all library.now) }
-    ensures each { IfOk result (λ found. All (IsMisjoinedAt library.now) found.items) }
+    ensures listed { IfOk result (λ found. found.items ≡ out_of_range_all library.now) }
+    ensures each { IfOk result (λ found. All (IsOutOfRangeAt library.now) found.items) }
     ensures none { IfOk result (λ found. found.items ≡ [] → ¬ (OutOfRange library.now)) }
 {
     let mut found = Vec::new(alloc);

@@ -7,9 +7,9 @@ ghost use Rattle.fb_check_names.specs.Ends.{end_port};
 ghost use Rattle.fb_check_names.specs.Listed.{each_at};
 ghost use Rattle.fb_check_names.specs.Repeats.{repeats};
 ghost use Rattle.fb_check_names.specs.Sites.{inside_of};
-ghost use Rattle.fb_check.specs.networks.Sources.{IsJoinedAt, joined_all, joined_among, joined_at, joined_in, target, targets};
+ghost use Rattle.fb_check.specs.networks.Sources.{IsTwoSourcesAt, two_sources_all, two_sources_among, two_sources_at, two_sources_in, target, targets};
 
-use fb_check_names::{EndNames, Joined, Repeat, Site, end_names, push_pair};
+use fb_check_names::{EndNames, TwoSourcesAt, Repeat, Site, end_names, push_pair};
 use fb_types::{BlockType, Connection, Library};
 use std::alloc::{AllocError, Global};
 use std::collections::BTreeMap;
@@ -35,11 +35,11 @@ fn target_pairs(alloc: Global, connections: &[Connection]) -> Result<Vec<Repeat>
 }
 
 /// Adds pairs of data connections of a network.
-fn push_pairs(found: &mut Vec<Joined>, site: Site, pairs: &[Repeat]) -> Result<(), AllocError>
-    ensures { IfOk result (λ _. found.new.items ≡ found.old.items ++ map (joined_at site) pairs.now) }
+fn push_pairs(found: &mut Vec<TwoSourcesAt>, site: Site, pairs: &[Repeat]) -> Result<(), AllocError>
+    ensures { IfOk result (λ _. found.new.items ≡ found.old.items ++ map (two_sources_at site) pairs.now) }
 {
     for pair in pairs {
-        found.push(Joined {
+        found.push(TwoSourcesAt {
             site,
             connections: *pair,
         })?;
@@ -50,11 +50,11 @@ fn push_pairs(found: &mut Vec<Joined>, site: Site, pairs: &[Repeat]) -> Result<(
 /// Adds the data connections of a network that lead to the port of one before.
 fn push_in_network(
     alloc: Global,
-    found: &mut Vec<Joined>,
+    found: &mut Vec<TwoSourcesAt>,
     site: Site,
     connections: &[Connection],
 ) -> Result<(), AllocError>
-    ensures { IfOk result (λ _. found.new.items ≡ found.old.items ++ joined_among site connections.now) }
+    ensures { IfOk result (λ _. found.new.items ≡ found.old.items ++ two_sources_among site connections.now) }
 {
     let pairs = target_pairs(alloc, connections)?;
     push_pairs(found, site, pairs.as_slice())
@@ -63,11 +63,11 @@ fn push_in_network(
 /// The same for the network inside a block type, if there is one.
 fn push_inside(
     alloc: Global,
-    found: &mut Vec<Joined>,
+    found: &mut Vec<TwoSourcesAt>,
     block: usize,
     declared: &BlockType,
 ) -> Result<(), AllocError>
-    ensures { IfOk result (λ _. found.new.items ≡ found.old.items ++ inside_of joined_in block declared.now) }
+    ensures { IfOk result (λ _. found.new.items ≡ found.old.items ++ inside_of two_sources_in block declared.now) }
 {
     match declared {
         BlockType::Basic(_) => Ok(()),
@@ -83,10 +83,10 @@ fn push_inside(
 /// The same for all block types.
 fn push_in_blocks(
     alloc: Global,
-    found: &mut Vec<Joined>,
+    found: &mut Vec<TwoSourcesAt>,
     blocks: &[BlockType],
 ) -> Result<(), AllocError>
-    ensures { IfOk result (λ _. found.new.items ≡ found.old.items ++ each_at (inside_of joined_in) blocks.now) }
+    ensures { IfOk result (λ _. found.new.items ≡ found.old.items ++ each_at (inside_of two_sources_in) blocks.now) }
 {
     for (block, declared) in blocks.iter().enumerate() {
         push_inside(alloc, found, block, declared)?;
@@ -99,9 +99,9 @@ fn push_in_blocks(
 /// # Errors
 ///
 /// When memory runs out.
-pub fn joined_locations(alloc: Global, library: &Library) -> Result<Vec<Joined>, AllocError>
-    ensures listed { IfOk result (λ found. found.items ≡ joined_all library.now) }
-    ensures each { IfOk result (λ found. All (IsJoinedAt library.now) found.items) }
+pub fn two_sources_locations(alloc: Global, library: &Library) -> Result<Vec<TwoSourcesAt>, AllocError>
+    ensures listed { IfOk result (λ found. found.items ≡ two_sources_all library.now) }
+    ensures each { IfOk result (λ found. All (IsTwoSourcesAt library.now) found.items) }
     ensures none { IfOk result (λ found. found.items ≡ [] → ¬ (TwoSources library.now)) }
 {
     let mut found = Vec::new(alloc);

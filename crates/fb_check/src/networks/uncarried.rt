@@ -6,7 +6,7 @@ ghost use Rattle.fb_types.specs.Mapped.{NoEvent};
 ghost use Rattle.fb_check_names.specs.Numbers.{IsNetwork, IsResolved};
 ghost use Rattle.fb_check.specs.networks.Mapping.{IsMapping, IsHolding};
 ghost use Rattle.fb_check.specs.networks.Serving.{AreServed};
-ghost use Rattle.fb_check.specs.networks.Unserved.{IsUnservedAt, unserved_all};
+ghost use Rattle.fb_check.specs.networks.NoEvent.{IsNoEventAt, no_event_all};
 
 use crate::networks::mapping::{Mapping, resource_of};
 use crate::networks::serving::{Leads, component_of, serve_all};
@@ -16,7 +16,7 @@ use std::alloc::{AllocError, Global};
 use std::collections::BTreeSet;
 
 /// The list of all data connections that no event serves, from what is served.
-fn unserved_connections<'a>(
+fn no_event_connections<'a>(
     alloc: Global,
     library: &'a Library,
     plan: &Plan,
@@ -28,7 +28,7 @@ fn unserved_connections<'a>(
     requires mapping { IsHolding plan.now mapping.now }
     requires numbers { IsNetwork library.now (None, library.now.application.network) numbers.now }
     requires served { AreServed library.now plan.now served.now }
-    ensures { IfOk result (λ found. found.items ≡ unserved_all library.now plan.now) }
+    ensures { IfOk result (λ found. found.items ≡ no_event_all library.now plan.now) }
 {
     let mut found = Vec::new(alloc);
     let connections = library.application.network.data_connections.as_slice();
@@ -49,7 +49,7 @@ fn unserved_connections<'a>(
 /// # Errors
 ///
 /// When memory runs out.
-pub fn unserved_locations(
+pub fn no_event_locations(
     alloc: Global,
     library: &Library,
     plan: &Plan,
@@ -59,8 +59,8 @@ pub fn unserved_locations(
     requires once { ¬ (NameTwice library.now plan.now) }
     requires mapping { IsMapping library.now plan.now mapping.now }
     requires resolved { IsResolved library.now plan.now resolved.now }
-    ensures listed { IfOk result (λ found. found.items ≡ unserved_all library.now plan.now) }
-    ensures each { IfOk result (λ found. All (IsUnservedAt library.now plan.now) found.items) }
+    ensures listed { IfOk result (λ found. found.items ≡ no_event_all library.now plan.now) }
+    ensures each { IfOk result (λ found. All (IsNoEventAt library.now plan.now) found.items) }
     ensures none { IfOk result (λ found. found.items ≡ [] → ¬ (NoEvent library.now plan.now)) }
 {
     let interfaces = all_ports(alloc)?;
@@ -76,5 +76,5 @@ pub fn unserved_locations(
         mapping,
         numbers,
     )?;
-    unserved_connections(alloc, library, plan, mapping, numbers, &served)
+    no_event_connections(alloc, library, plan, mapping, numbers, &served)
 }

@@ -6,12 +6,12 @@ ghost use Rattle.fb_types.specs.Syntax.{Assign, For, body_of, expr_of, no_stmt, 
 ghost use Rattle.fb_check.specs.types.Checks.{in_place};
 ghost use Rattle.fb_check.specs.types.Trees.{all_of, branches_of, choices_of};
 ghost use Rattle.fb_check_names.specs.Listed.{each_at, unless};
-ghost use Rattle.fb_check.specs.types.MisfitLists.{misfits_in_body, misfits_in_statement, part_at, wrong_choices, wrong_control, wrong_parts};
+ghost use Rattle.fb_check.specs.types.KindWrongLists.{kinds_wrong_in_body, kinds_wrong_in_statement, part_at, wrong_choices, wrong_control, wrong_parts};
 ghost use Rattle.fb_check.specs.types.Statements.{all_standing, each_in_body, each_in_branches, each_in_choices, each_inside, standing_of};
 
 use crate::types::adding::push_one;
 use crate::types::{Scope, Typing, are_same, is_step_whole, value_kind_of_type};
-use fb_check_names::{Misfit, StatementPart, push_unless};
+use fb_check_names::{KindWrongAt, StatementPart, push_unless};
 use fb_types::{Algorithm, Body, Branch, Choice, Expr, Items, Reference, Stmt, ValueKind};
 use std::alloc::{AllocError, Global};
 
@@ -112,14 +112,14 @@ pub struct StatementIndex {
 
 /// Adds a part of a statement, unless it is right.
 fn push_part(
-    found: &mut Vec<Misfit>,
+    found: &mut Vec<KindWrongAt>,
     at: StatementIndex,
     is_right: bool,
     part: StatementPart,
 ) -> Result<(), AllocError>
     ensures { IfOk result (λ _. found.new.items ≡ found.old.items ++ unless is_right (part_at at part)) }
 {
-    let location = Misfit::Statement {
+    let location = KindWrongAt::Statement {
         block: at.block,
         algorithm: at.algorithm,
         statement: at.statement,
@@ -130,7 +130,7 @@ fn push_part(
 
 /// Adds the conditions of IF and its ELSIFs that are not truth values.
 fn push_choice_parts(
-    found: &mut Vec<Misfit>,
+    found: &mut Vec<KindWrongAt>,
     scope: &Scope,
     at: StatementIndex,
     choices: &[Choice],
@@ -146,7 +146,7 @@ fn push_choice_parts(
 
 /// Adds what is wrong with an assignment.
 fn push_assignment_parts(
-    found: &mut Vec<Misfit>,
+    found: &mut Vec<KindWrongAt>,
     scope: &Scope,
     at: StatementIndex,
     variable: &Reference,
@@ -163,7 +163,7 @@ fn push_assignment_parts(
 
 /// Adds what is wrong with the variable that controls a FOR.
 fn push_control_parts(
-    found: &mut Vec<Misfit>,
+    found: &mut Vec<KindWrongAt>,
     scope: &Scope,
     at: StatementIndex,
     variable: &Reference,
@@ -179,7 +179,7 @@ fn push_control_parts(
 
 /// Adds what is wrong with a FOR, except for the statements inside it.
 fn push_for_parts(
-    found: &mut Vec<Misfit>,
+    found: &mut Vec<KindWrongAt>,
     scope: &Scope,
     at: StatementIndex,
     variable: &Reference,
@@ -200,7 +200,7 @@ fn push_for_parts(
 
 /// Adds the wrong parts of a statement, except for the statements inside it.
 fn push_parts(
-    found: &mut Vec<Misfit>,
+    found: &mut Vec<KindWrongAt>,
     scope: &Scope,
     at: StatementIndex,
     standing: &Standing,
@@ -232,13 +232,13 @@ fn push_parts(
 
 /// The same for statements of an algorithm.
 fn push_in_statements(
-    found: &mut Vec<Misfit>,
+    found: &mut Vec<KindWrongAt>,
     scope: &Scope,
     block: usize,
     algorithm: usize,
     statements: &[Standing],
 ) -> Result<(), AllocError>
-    ensures { IfOk result (λ _. found.new.items ≡ found.old.items ++ each_at (λ k s. misfits_in_statement scope.now block algorithm k (standing_of s)) statements.now) }
+    ensures { IfOk result (λ _. found.new.items ≡ found.old.items ++ each_at (λ k s. kinds_wrong_in_statement scope.now block algorithm k (standing_of s)) statements.now) }
 {
     for (statement, standing) in statements.iter().enumerate() {
         let at = StatementIndex {
@@ -254,13 +254,13 @@ fn push_in_statements(
 /// Adds the statements of an algorithm with a wrong part.
 pub fn push_in_body(
     alloc: Global,
-    found: &mut Vec<Misfit>,
+    found: &mut Vec<KindWrongAt>,
     scope: &Scope,
     block: usize,
     algorithm: usize,
     declared: &Algorithm,
 ) -> Result<(), AllocError>
-    ensures { IfOk result (λ _. found.new.items ≡ found.old.items ++ misfits_in_body scope.now block algorithm declared.now) }
+    ensures { IfOk result (λ _. found.new.items ≡ found.old.items ++ kinds_wrong_in_body scope.now block algorithm declared.now) }
 {
     let statements = all_statements(alloc, &declared.body)?;
     push_in_statements(found, scope, block, algorithm, statements.as_slice())

@@ -15,26 +15,26 @@ use Rattle.fb_check_names.specs.Twice.{IsTwiceAt}
 use Rattle.fb_check_names.specs.TwiceLists.{twice_all}
 use Rattle.fb_check_names.proofs.lemmas.twice.AllTwice.{each_twice, none_twice}
 use Rattle.fb_check_names.proofs.lemmas.numbers.Applying.{twice_applies}
-use Rattle.fb_check_names.specs.declared.location.Joined.{Joined}
-use Rattle.fb_check_names.specs.declared.location.Misfit.{Misfit}
-use Rattle.fb_check_names.specs.declared.location.Misjoin.{Misjoin}
+use Rattle.fb_check_names.specs.declared.location.TwoSourcesAt.{TwoSourcesAt}
+use Rattle.fb_check_names.specs.declared.location.KindWrongAt.{KindWrongAt}
+use Rattle.fb_check_names.specs.declared.location.OutOfRangeAt.{OutOfRangeAt}
 use Rattle.fb_check_names.specs.declared.location.UnknownName.{UnknownName}
-use Rattle.fb_check_names.specs.declared.location.Unlinked.{Unlinked}
-use Rattle.fb_check_names.specs.declared.location.Unmapped.{Unmapped}
+use Rattle.fb_check_names.specs.declared.location.NoLinkAt.{NoLinkAt}
+use Rattle.fb_check_names.specs.declared.location.NotMappedAt.{NotMappedAt}
 use Rattle.fb_check.specs.types.Unknowns.{unknown_all}
 use Rattle.fb_check.proofs.lemmas.types.UnknownWitnesses.{each_unknown, none_unknown}
-use Rattle.fb_check.specs.types.MisfitLists.{misfits_all}
-use Rattle.fb_check.proofs.lemmas.types.KindWitnesses.{each_misfit, none_misfit}
-use Rattle.fb_check.specs.networks.Links.{unlinked_all}
-use Rattle.fb_check.specs.networks.Misjoins.{misjoins_all}
-use Rattle.fb_check.specs.networks.Sources.{joined_all}
-use Rattle.fb_check.specs.networks.Unmapped.{unmapped_all}
-use Rattle.fb_check.specs.networks.Unserved.{unserved_all}
-use Rattle.fb_check.proofs.lemmas.networks.Joined.{each_misjoin, none_misjoin}
-use Rattle.fb_check.proofs.lemmas.networks.Mapped.{each_unmapped, none_unmapped}
-use Rattle.fb_check.proofs.lemmas.networks.Targets.{each_joined, none_joined}
-use Rattle.fb_check.proofs.lemmas.networks.Unlinked.{each_unlinked, none_unlinked}
-use Rattle.fb_check.proofs.lemmas.networks.Unserved.{each_unserved, none_unserved}
+use Rattle.fb_check.specs.types.KindWrongLists.{kinds_wrong_all}
+use Rattle.fb_check.proofs.lemmas.types.KindWitnesses.{each_kind_wrong, none_kind_wrong}
+use Rattle.fb_check.specs.networks.Links.{no_link_all}
+use Rattle.fb_check.specs.networks.OutOfRange.{out_of_range_all}
+use Rattle.fb_check.specs.networks.Sources.{two_sources_all}
+use Rattle.fb_check.specs.networks.NotMapped.{not_mapped_all}
+use Rattle.fb_check.specs.networks.NoEvent.{no_event_all}
+use Rattle.fb_check.proofs.lemmas.networks.Ranges.{each_out_of_range, none_out_of_range}
+use Rattle.fb_check.proofs.lemmas.networks.Mapped.{each_not_mapped, none_not_mapped}
+use Rattle.fb_check.proofs.lemmas.networks.Targets.{each_two_sources, none_two_sources}
+use Rattle.fb_check.proofs.lemmas.networks.NoLink.{each_no_link, none_no_link}
+use Rattle.fb_check.proofs.lemmas.networks.NoEvent.{each_no_event, none_no_event}
 use Rattle.fb_check.specs.Faults.{number_of}
 use Rattle.fb_check.specs.Refusals as refusal
 use Rattle.fb_check.specs.Refusals.{IsRefusal}
@@ -106,25 +106,25 @@ own check.NameUnknown lib plan stimuli ss all =
     list_locations check.NameUnknown lib plan stimuli (λ (p : UnknownName). at.NameUnknown p) (unknown_all lib plan) ss all (each_unknown lib plan)
     (λ h least. passes_21 lib plan stimuli least.least (none_unknown lib plan h) 21 (omega arith) least.applies) (λ _. refl)
 own check.KindWrong lib plan stimuli ss all =
-    list_locations check.KindWrong lib plan stimuli (λ (p : Misfit). at.KindWrong p) (misfits_all lib) ss all (each_misfit lib)
-    (λ h least. passes_22 lib plan stimuli least.least (none_misfit lib h) 22 (omega arith) least.applies) (λ _. refl)
+    list_locations check.KindWrong lib plan stimuli (λ (p : KindWrongAt). at.KindWrong p) (kinds_wrong_all lib) ss all (each_kind_wrong lib)
+    (λ h least. passes_22 lib plan stimuli least.least (none_kind_wrong lib h) 22 (omega arith) least.applies) (λ _. refl)
 own check.OutOfRange lib plan stimuli ss all =
-    list_locations check.OutOfRange lib plan stimuli (λ (p : Misjoin). at.OutOfRange p) (misjoins_all lib) ss all (each_misjoin lib)
-    (λ h least. passes_23 lib plan stimuli least.least (none_misjoin lib h) 23 (omega arith) least.applies) (λ _. refl)
+    list_locations check.OutOfRange lib plan stimuli (λ (p : OutOfRangeAt). at.OutOfRange p) (out_of_range_all lib) ss all (each_out_of_range lib)
+    (λ h least. passes_23 lib plan stimuli least.least (none_out_of_range lib h) 23 (omega arith) least.applies) (λ _. refl)
 own check.TwoSources lib plan stimuli ss all =
-    list_locations check.TwoSources lib plan stimuli (λ (p : Joined). at.TwoSources p) (joined_all lib) ss all (each_joined lib)
-    (λ h least. passes_24 lib plan stimuli least.least (none_joined lib h) 24 (omega arith) least.applies) (λ _. refl)
+    list_locations check.TwoSources lib plan stimuli (λ (p : TwoSourcesAt). at.TwoSources p) (two_sources_all lib) ss all (each_two_sources lib)
+    (λ h least. passes_24 lib plan stimuli least.least (none_two_sources lib h) 24 (omega arith) least.applies) (λ _. refl)
 own check.TooHigh lib plan stimuli ss all =
     one check.TooHigh lib plan stimuli (at.TooHigh all.0) ss all.1 all.2 (let size : length ss ≡ 1 = ap (λ (ss : List Location). length ss) all.1 in omega (arith, size))
 own check.NotMapped lib plan stimuli ss all =
-    list_locations check.NotMapped lib plan stimuli (λ (p : Unmapped). at.NotMapped p) (unmapped_all lib plan) ss all (each_unmapped lib plan)
-    (λ h least. passes_26 lib plan stimuli least.least (none_unmapped lib plan h) 26 (omega arith) least.applies) (λ _. refl)
+    list_locations check.NotMapped lib plan stimuli (λ (p : NotMappedAt). at.NotMapped p) (not_mapped_all lib plan) ss all (each_not_mapped lib plan)
+    (λ h least. passes_26 lib plan stimuli least.least (none_not_mapped lib plan h) 26 (omega arith) least.applies) (λ _. refl)
 own check.NoLink lib plan stimuli ss all =
-    list_locations check.NoLink lib plan stimuli (λ (p : Unlinked). at.NoLink p) (unlinked_all lib plan) ss all (each_unlinked lib plan)
-    (λ h least. passes_27 lib plan stimuli least.least (none_unlinked lib plan h) 27 (omega arith) least.applies) (λ _. refl)
+    list_locations check.NoLink lib plan stimuli (λ (p : NoLinkAt). at.NoLink p) (no_link_all lib plan) ss all (each_no_link lib plan)
+    (λ h least. passes_27 lib plan stimuli least.least (none_no_link lib plan h) 27 (omega arith) least.applies) (λ _. refl)
 own check.NoEvent lib plan stimuli ss all =
-    list_locations check.NoEvent lib plan stimuli (λ (p : ℕ). at.NoEvent p) (unserved_all lib plan) ss all (each_unserved lib plan)
-    (λ h least. passes_28 lib plan stimuli least.least (none_unserved lib plan h) 28 (omega arith) least.applies) (λ _. refl)
+    list_locations check.NoEvent lib plan stimuli (λ (p : ℕ). at.NoEvent p) (no_event_all lib plan) ss all (each_no_event lib plan)
+    (λ h least. passes_28 lib plan stimuli least.least (none_no_event lib plan h) 28 (omega arith) least.applies) (λ _. refl)
 own check.BadStimulus lib plan stimuli ss all =
     list_locations check.BadStimulus lib plan stimuli (λ (p : StimulusLocation). at.BadStimulus p) all.0 ss all.1 all.3
     (λ h. absurd (all.2 h)) (λ _. (all.0, refl, all.2, all.3, all.4))

@@ -15,7 +15,7 @@ use Rattle.fb_check.specs.networks.Mapping.{IsHolding, resource_in}
 use Rattle.fb_check.specs.networks.Links.{pair_of}
 use Rattle.fb_check.specs.networks.Serving.{Lead, lead_cmp, lead_port, path_of, withs_of, IsExtended, Serves, AreServed}
 use Rattle.fb_check.specs.declared.networks.mapping.Mapping.{Mapping}
-use Rattle.fb_check.proofs.lemmas.networks.Unlinked.{resource-is}
+use Rattle.fb_check.proofs.lemmas.networks.NoLink.{resource-is}
 use Rattle.fb_check.proofs.lemmas.networks.SetsOfSeen.{Has, has_none, has_more, lead_view, lead_cmp-exact}
 
 -- ---- One list of names

@@ -17,10 +17,10 @@ use Rattle.fb_check_names.specs.declared.numbers.NetworkNumbers.{NetworkNumbers}
 use Rattle.fb_check_names.specs.declared.numbers.Resolved.{Resolved}
 use Rattle.fb_check_names.specs.Numbers.{IsNetwork, IsResolved, kind_of_number, type_number}
 use Rattle.fb_check_names.proofs.lemmas.Each.{each_from}
-use Rattle.fb_check_names.specs.declared.location.Descent.{Descent}
-use Rattle.fb_check_names.specs.declared.location.Descent.TheVariants.{Circle, Height}
-use Rattle.fb_check.specs.networks.Applies.{HeightApplies}
-use Rattle.fb_check.specs.networks.Heights.{HoldsNone, IsDescent, IsHeld, IsPart, IsTooHighAt, LeadsBack, LeadsTo, Steps, below, declared_index, is_marked, first_marked_component, marks_after, type_inside}
+use Rattle.fb_check_names.specs.declared.location.TooHighAt.{TooHighAt}
+use Rattle.fb_check_names.specs.declared.location.TooHighAt.TheVariants.{Circle, Height}
+use Rattle.fb_check.specs.networks.Applies.{TooHighApplies}
+use Rattle.fb_check.specs.networks.Heights.{HoldsNone, IsTooHighIn, IsHeld, IsPart, IsTooHighAt, LeadsBack, LeadsTo, Steps, below, declared_index, is_marked, first_marked_component, marks_after, type_inside}
 use Rattle.fb_check.proofs.lemmas.networks.Lists.{past_both}
 use Rattle.fb_check.proofs.lemmas.networks.SearchLoops.{position_at}
 use Rattle.fb_check.proofs.lemmas.networks.Marked.{AreMarks, leads_from_marked, marks_right, none_high}
@@ -152,20 +152,20 @@ circle_at lib plan r marks k i (Some x) is are at found back =
     (c.0, w.0, held_there lib k i c.0 x f.0 w.0 c.1 c.2 f.1 w.1, (back.leads.0, descends lib plan r is back.leads.0 back.through k w.0 c.0 back.leads.1 there c.1))
 
 high_answer_of :
-    (lib : Library) (plan : Plan) (r : Resolved) (marks : List Bool) (o : Option Descent) → IsResolved lib plan r → AreMarks lib 15 marks
-    → MatchOption o (All (HoldsNone marks) r.blocks) (IsDescent r.blocks marks) → MatchOption o (¬ (TooHigh lib)) (IsTooHighAt lib)
+    (lib : Library) (plan : Plan) (r : Resolved) (marks : List Bool) (o : Option TooHighAt) → IsResolved lib plan r → AreMarks lib 15 marks
+    → MatchOption o (All (HoldsNone marks) r.blocks) (IsTooHighIn r.blocks marks) → MatchOption o (¬ (TooHigh lib)) (IsTooHighAt lib)
 high_answer_of lib plan r marks None is are h = none_high lib plan r marks is are h
 high_answer_of lib plan r marks (Some (Circle k i)) is are h = circle_at lib plan r marks k i h.0 is are h.1 h.2 h.3
 high_answer_of lib plan r marks (Some (Height k i)) is are h = height_at lib plan r marks k i h.0 is are h.1 h.2
 
 pub high_answer :
-    (lib : Library) (plan : Plan) (r : Resolved) (xs : List (Option NetworkNumbers)) (marks seen : List Bool) (o : Option Descent) → xs ≡ r.blocks → marks ≡ marks_after 15 xs → seen ≡ marks
-    → MatchOption o (All (HoldsNone seen) xs) (IsDescent xs seen) → IsResolved lib plan r → MatchOption o (¬ (TooHigh lib)) (IsTooHighAt lib)
+    (lib : Library) (plan : Plan) (r : Resolved) (xs : List (Option NetworkNumbers)) (marks seen : List Bool) (o : Option TooHighAt) → xs ≡ r.blocks → marks ≡ marks_after 15 xs → seen ≡ marks
+    → MatchOption o (All (HoldsNone seen) xs) (IsTooHighIn xs seen) → IsResolved lib plan r → MatchOption o (¬ (TooHigh lib)) (IsTooHighAt lib)
 high_answer lib plan r xs marks seen o blocks after same found is =
     let are : AreMarks lib 15 seen = subst (λ (ms : List Bool). AreMarks lib 15 ms) (sym (same ∙ after ∙ ap (marks_after 15) blocks)) (marks_right lib plan r 15 is) in
-    high_answer_of lib plan r seen o is are (subst (λ (ys : List (Option NetworkNumbers)). MatchOption o (All (HoldsNone seen) ys) (IsDescent ys seen)) blocks found)
+    high_answer_of lib plan r seen o is are (subst (λ (ys : List (Option NetworkNumbers)). MatchOption o (All (HoldsNone seen) ys) (IsTooHighIn ys seen)) blocks found)
 
-pub height_applies : HeightApplies
+pub height_applies : TooHighApplies
 height_applies lib (Circle k i) h =
     (h.0, h.0, element_of_index lib.blocks k (block.Composite h.0) h.2.holder, inl (h.3.0, (h.1, held lib k i h.0 h.1 h.2, h.3.1)))
 height_applies lib (Height k i) h =

@@ -20,25 +20,25 @@ use Rattle.fb_types.proofs.lemmas.names.NameLaws.{contains_from_any, any_from_co
 use Rattle.fb_types.proofs.lemmas.lists.Elements.{Contains-here, Contains-map}
 use Rattle.fb_check_names.specs.Listed.{each_at}
 use Rattle.fb_check_names.specs.Repeats.{IsPair, repeats}
-use Rattle.fb_check_names.specs.declared.location.Unmapped.{Unmapped}
-use Rattle.fb_check_names.specs.declared.location.Unmapped.TheVariants.{Again, Unlisted}
+use Rattle.fb_check_names.specs.declared.location.NotMappedAt.{NotMappedAt}
+use Rattle.fb_check_names.specs.declared.location.NotMappedAt.TheVariants.{Again, Unlisted}
 use Rattle.fb_check_names.proofs.lemmas.Listing.{all_each, all_unless, none_each, none_left, none_right, none_said, none_unless}
 use Rattle.fb_check_names.proofs.lemmas.twice.Repeating.{each_pair, none_mapped, once_of, pair_twice}
-use Rattle.fb_check.specs.networks.Applies.{UnmappedApplies}
+use Rattle.fb_check.specs.networks.Applies.{NotMappedApplies}
 use Rattle.fb_check_names.specs.Indexes.{AreLastIndexes}
 use Rattle.fb_check.specs.networks.Mapping.{IsMapping, owned, owners_in}
-use Rattle.fb_check.specs.networks.Unmapped.{IsUnmappedAmong, IsUnmappedAt, unlisted_at, unmapped_all, unmapped_among}
+use Rattle.fb_check.specs.networks.NotMapped.{IsNotMappedAmong, IsNotMappedAt, unlisted_at, not_mapped_all, not_mapped_among}
 use Rattle.fb_check.specs.declared.networks.mapping.Listed.{Listed}
 use Rattle.fb_check.specs.declared.networks.mapping.Mapping.TheVariants as mapping
 use Rattle.fb_check.proofs.lemmas.networks.Owners.{first_owner}
 
 -- ---- What is listed
 
-pub each_unmapped : (lib : Library) (plan : Plan) → All (IsUnmappedAt lib plan) (unmapped_all lib plan)
-each_unmapped lib plan =
+pub each_not_mapped : (lib : Library) (plan : Plan) → All (IsNotMappedAt lib plan) (not_mapped_all lib plan)
+each_not_mapped lib plan =
     let ns : List Name = mapped lib plan in
     let is : List Instance = lib.application.network.instances in
-    let P : Unmapped → Type 0 = IsUnmappedAmong ns is in
+    let P : NotMappedAt → Type 0 = IsNotMappedAmong ns is in
     All-append P (each_at (unlisted_at ns) is) (map (λ r. Again r) (repeats same_name ns))
     (all_each P (unlisted_at ns) is
     (λ k i at. all_unless P (among ns i.name) (Unlisted k)
@@ -46,12 +46,12 @@ each_unmapped lib plan =
     (All-map P (λ r. Again r) (repeats same_name ns)
     (All-weaker (IsPair ns) (λ r. P (Again r)) (λ r p. p) (repeats same_name ns) (each_pair same_name same_name-Decides ns)))
 
-pub none_unmapped : (lib : Library) (plan : Plan) → unmapped_all lib plan ≡ [] → ¬ (NotMapped lib plan)
-none_unmapped lib plan h =
+pub none_not_mapped : (lib : Library) (plan : Plan) → not_mapped_all lib plan ≡ [] → ¬ (NotMapped lib plan)
+none_not_mapped lib plan h =
     let ns : List Name = mapped lib plan in
     let is : List Instance = lib.application.network.instances in
     let unlisted = each_at (unlisted_at ns) is in
-    let again : List Unmapped = map (λ r. Again r) (repeats same_name ns) in
+    let again : List NotMappedAt = map (λ r. Again r) (repeats same_name ns) in
     let all : list_all (λ i. among ns i.name) is ≡ true =
     none_each (unlisted_at ns) (λ (i : Instance). among ns i.name) is (λ k i e. none_unless (among ns i.name) (Unlisted k) e) (none_left unlisted again h) in
     let listed : (i : Instance) → Contains is i → Contains ns i.name =
@@ -59,9 +59,9 @@ none_unmapped lib plan h =
     let once : ¬ (Twice ns) = once_of same_name same_name-Decides ns (none_mapped (λ r. Again r) (repeats same_name ns) (none_right unlisted again h)) in
     λ n. elim n [ inl w ↦ w.2 (listed w.0 w.1) | inr t ↦ once t ]
 
-pub unmapped_applies : UnmappedApplies
-unmapped_applies lib plan (Unlisted k) h = inl (h.instance, element_of_index lib.application.network.instances k h.instance h.at_index, h.unlisted)
-unmapped_applies lib plan (Again r) h = inr (pair_twice (mapped lib plan) r h)
+pub not_mapped_applies : NotMappedApplies
+not_mapped_applies lib plan (Unlisted k) h = inl (h.instance, element_of_index lib.application.network.instances k h.instance h.at_index, h.unlisted)
+not_mapped_applies lib plan (Again r) h = inr (pair_twice (mapped lib plan) r h)
 
 -- ---- One resource holds all
 
@@ -97,10 +97,10 @@ all_mapped lib plan h once =
 
 -- then nothing is listed
 pub none_of_all :
-    (lib : Library) (plan : Plan) (found : List Unmapped) → plan.holds_all ≡ true → ¬ (NameTwice lib plan) → found ≡ found ++ unmapped_all lib plan
+    (lib : Library) (plan : Plan) (found : List NotMappedAt) → plan.holds_all ≡ true → ¬ (NameTwice lib plan) → found ≡ found ++ not_mapped_all lib plan
 none_of_all lib plan found h once =
-    let none : unmapped_all lib plan ≡ [] = none_said (IsUnmappedAt lib plan) (unmapped_all lib plan) (λ p at. (all_mapped lib plan h once).each (unmapped_applies lib plan p at)) (each_unmapped lib plan) in
-    sym (append-nil found) ∙ ap (λ (ps : List Unmapped). found ++ ps) (sym none)
+    let none : not_mapped_all lib plan ≡ [] = none_said (IsNotMappedAt lib plan) (not_mapped_all lib plan) (λ p at. (all_mapped lib plan h once).each (not_mapped_applies lib plan p at)) (each_not_mapped lib plan) in
+    sym (append-nil found) ∙ ap (λ (ps : List NotMappedAt). found ++ ps) (sym none)
 
 -- ---- Resources list what they hold
 
@@ -109,9 +109,9 @@ listed_all lib plan h = ap (λ b. cond b (instance_names lib.application.network
 
 pub all_listed :
     (lib : Library) (plan : Plan) (l : Listed) (rs : List ResourceEntry) → rs ≡ plan.resources → plan.holds_all ≡ false → AreLastIndexes (flat_map (λ r. r.instances) rs) l.indexes
-    → l.owners.items ≡ each_at owners_in rs → unmapped_all lib plan ≡ [] → IsMapping lib plan (mapping.Listed l)
+    → l.owners.items ≡ each_at owners_in rs → not_mapped_all lib plan ≡ [] → IsMapping lib plan (mapping.Listed l)
 all_listed lib plan l rs same h indexes owners none =
-    let each : ¬ (NotMapped lib plan) = none_unmapped lib plan none in
+    let each : ¬ (NotMapped lib plan) = none_not_mapped lib plan none in
     let names : flat_map (λ (r : ResourceEntry). r.instances) rs ≡ mapped lib plan = ap (flat_map (λ (r : ResourceEntry). r.instances)) same ∙ sym (listed_all lib plan h) in
     let once : ¬ (Twice (flat_map (λ (r : ResourceEntry). r.instances) rs)) = λ t. each (inr (subst (λ (ns : List Name). Twice ns) names t)) in
     record {
@@ -127,7 +127,7 @@ all_listed lib plan l rs same h indexes owners none =
 
 pub found_among :
     (lib : Library) (plan : Plan) (ns : List Name) (is : List Instance) → plan.holds_all ≡ false → ns ≡ flat_map (λ r. r.instances) plan.resources → is ≡ lib.application.network.instances
-    → unmapped_among ns is ≡ unmapped_all lib plan
+    → not_mapped_among ns is ≡ not_mapped_all lib plan
 found_among lib plan ns is h names same =
     let all : ns ≡ mapped lib plan = names ∙ sym (listed_all lib plan h) in
-    λ i. unmapped_among (all i) (same i)
+    λ i. not_mapped_among (all i) (same i)

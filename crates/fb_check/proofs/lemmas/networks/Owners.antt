@@ -16,12 +16,12 @@ use Rattle.fb_types.proofs.lemmas.lists.TwiceLaws.{Twice-append_right, Twice-bot
 use Rattle.fb_check_names.specs.Indexes.{index_in}
 use Rattle.fb_check_names.specs.Listed.{each_at, each_from, unless}
 use Rattle.fb_check_names.specs.Repeats.{further, last_index, later}
-use Rattle.fb_check_names.specs.declared.location.Unmapped.TheVariants.{Unlisted}
+use Rattle.fb_check_names.specs.declared.location.NotMappedAt.TheVariants.{Unlisted}
 use Rattle.fb_check_names.proofs.lemmas.Listing.{alike}
 use Rattle.fb_check_names.proofs.lemmas.twice.Repeating.{at_last_index}
 use Rattle.fb_check_names.specs.Indexes.{AreLastIndexes}
 use Rattle.fb_check.specs.networks.Mapping.{owned, owners_in, unlisted_by}
-use Rattle.fb_check.specs.networks.Unmapped.{unlisted_at}
+use Rattle.fb_check.specs.networks.NotMapped.{unlisted_at}
 
 -- ---- The last index
 

@@ -14,10 +14,10 @@ use Rattle.fb_check_names.specs.Ends.{End, end_port}
 use Rattle.fb_check_names.proofs.lemmas.comparisons.DecidedSame.{IsExact, pair_cmp-exact}
 use Rattle.fb_check_names.proofs.lemmas.comparisons.DecidedSame as seen
 use Rattle.fb_check_names.specs.Repeats.{IsPair, repeats}
-use Rattle.fb_check_names.specs.declared.location.Joined.{Joined}
+use Rattle.fb_check_names.specs.declared.location.TwoSourcesAt.{TwoSourcesAt}
 use Rattle.fb_check_names.proofs.lemmas.unknown.InNetworks.{all_in_networks, none_in_networks, site_network}
 use Rattle.fb_check_names.proofs.lemmas.twice.Repeating.{IsSame, agrees, each_pair, none_mapped, once_of, pair_twice, port_Decides}
-use Rattle.fb_check.specs.networks.Sources.{IsJoinedAt, joined_all, joined_at, joined_in, target, targets}
+use Rattle.fb_check.specs.networks.Sources.{IsTwoSourcesAt, two_sources_all, two_sources_at, two_sources_in, target, targets}
 
 -- ---- A table of the ports so far
 
@@ -46,22 +46,22 @@ targets_are : (cs : List Connection) → map (λ c. c.1) (pairs_in [] cs) ≡ ta
 targets_are [] = refl
 targets_are (c ∷ cs) = ap (λ (ps : List Port). target c ∷ ps) (targets_are cs)
 
-pub each_joined : (lib : Library) → All (IsJoinedAt lib) (joined_all lib)
-each_joined lib =
-    all_in_networks (IsJoinedAt lib) joined_in lib
+pub each_two_sources : (lib : Library) → All (IsTwoSourcesAt lib) (two_sources_all lib)
+each_two_sources lib =
+    all_in_networks (IsTwoSourcesAt lib) two_sources_in lib
     (λ s n at.
     let ports : List Port = targets n.1.data_connections in
-    All-map (IsJoinedAt lib) (joined_at s) (repeats same_port ports)
-    (All-weaker (IsPair ports) (λ r. IsJoinedAt lib (joined_at s r)) (λ r p. (n, at, p)) (repeats same_port ports) (each_pair same_port port_Decides ports)))
+    All-map (IsTwoSourcesAt lib) (two_sources_at s) (repeats same_port ports)
+    (All-weaker (IsPair ports) (λ r. IsTwoSourcesAt lib (two_sources_at s r)) (λ r p. (n, at, p)) (repeats same_port ports) (each_pair same_port port_Decides ports)))
 
-pub none_joined : (lib : Library) → joined_all lib ≡ [] → ¬ (TwoSources lib)
-none_joined lib h w =
-    none_in_networks joined_in (λ (n : OwnedNetwork). ¬ (Twice (targets n.1.data_connections))) lib
-    (λ s n e. once_of same_port port_Decides (targets n.1.data_connections) (none_mapped (joined_at s) (repeats same_port (targets n.1.data_connections)) e)) h w.0 w.1
+pub none_two_sources : (lib : Library) → two_sources_all lib ≡ [] → ¬ (TwoSources lib)
+none_two_sources lib h w =
+    none_in_networks two_sources_in (λ (n : OwnedNetwork). ¬ (Twice (targets n.1.data_connections))) lib
+    (λ s n e. once_of same_port port_Decides (targets n.1.data_connections) (none_mapped (two_sources_at s) (repeats same_port (targets n.1.data_connections)) e)) h w.0 w.1
     (subst (λ (ps : List Port). Twice ps) (targets_are w.0.1.data_connections) w.2)
 
-pub joined_applies : (lib : Library) (p : Joined) → IsJoinedAt lib p → TwoSources lib
-joined_applies lib p j = (
+pub two_sources_applies : (lib : Library) (p : TwoSourcesAt) → IsTwoSourcesAt lib p → TwoSources lib
+two_sources_applies lib p j = (
   j.0,
   site_network lib p.site j.0 j.1,
   subst (λ (ps : List Port). Twice ps) (sym (targets_are j.0.1.data_connections)) (pair_twice (targets j.0.1.data_connections) p.connections j.2),

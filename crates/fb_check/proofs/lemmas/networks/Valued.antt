@@ -17,10 +17,10 @@ use Rattle.fb_check_names.specs.declared.numbers.NetworkNumbers.{NetworkNumbers}
 use Rattle.fb_check_names.specs.Numbers.{IsNetwork, each_or_none, index_of, type_number, kind_of_number, parameter_numbers}
 use Rattle.fb_check_names.proofs.lemmas.Each as each
 use Rattle.fb_check_names.specs.Listed.{each_at, each_from, unless}
-use Rattle.fb_check_names.specs.declared.location.Misfit.{Misfit}
-use Rattle.fb_check_names.specs.declared.location.Misfit.TheVariants as misfit
+use Rattle.fb_check_names.specs.declared.location.KindWrongAt.{KindWrongAt}
+use Rattle.fb_check_names.specs.declared.location.KindWrongAt.TheVariants as kind_wrong
 use Rattle.fb_check_names.specs.declared.location.Site.{Site}
-use Rattle.fb_check.specs.networks.Parameters.{is_wrong, misfit_parameters}
+use Rattle.fb_check.specs.networks.Parameters.{is_wrong, kind_wrong_parameters}
 use Rattle.fb_check.proofs.lemmas.networks.Naming.{type_by_number}
 
 -- one parameter
@@ -58,23 +58,23 @@ kinded lib i ps h =
     ] refl h
 
 -- one of them, by the type of the instance, if it has one
-abbrev misfit_of : Site → ℕ → ℕ → Parameter → Option Kind → List Misfit
-misfit_of s i p v None = []
-misfit_of s i p v (Some k) = unless (parameter_right (ports_of k) v) (misfit.Parameter s i p)
+abbrev kind_wrong_of : Site → ℕ → ℕ → Parameter → Option Kind → List KindWrongAt
+kind_wrong_of s i p v None = []
+kind_wrong_of s i p v (Some k) = unless (parameter_right (ports_of k) v) (kind_wrong.Parameter s i p)
 
-abbrev pub misfit_parameter : Library → Site → ℕ → Instance → ℕ → Parameter → List Misfit
-misfit_parameter lib s i x p v = misfit_of s i p v (kind_of_instance lib x)
+abbrev pub kind_wrong_parameter : Library → Site → ℕ → Instance → ℕ → Parameter → List KindWrongAt
+kind_wrong_parameter lib s i x p v = kind_wrong_of s i p v (kind_of_instance lib x)
 
 each_nothing : {A : Type 0} (B : Type 0) (k : ℕ) (xs : List A) → each_from {A = A} {B = B} (λ p v. []) k xs ≡ []
 each_nothing B k [] = refl
 each_nothing B k (x ∷ xs) = each_nothing B (k + 1) xs
 
-pub parameters_are : (lib : Library) (s : Site) (i : ℕ) (x : Instance) → each_at (misfit_parameter lib s i x) x.parameters ≡ misfit_parameters lib s i x
+pub parameters_are : (lib : Library) (s : Site) (i : ℕ) (x : Instance) → each_at (kind_wrong_parameter lib s i x) x.parameters ≡ kind_wrong_parameters lib s i x
 parameters_are lib s i x =
     elim (kind_of_instance lib x) as
-    (λ (o : Option Kind). each_at (λ p v. misfit_of s i p v o) x.parameters
-    ≡ elim o as (λ _. List Misfit) [ None ↦ [] | Some k ↦ each_at (λ p v. unless (parameter_right (ports_of k) v) (misfit.Parameter s i p)) x.parameters ]) [
-      | None ↦ each_nothing Misfit 0 x.parameters
+    (λ (o : Option Kind). each_at (λ p v. kind_wrong_of s i p v o) x.parameters
+    ≡ elim o as (λ _. List KindWrongAt) [ None ↦ [] | Some k ↦ each_at (λ p v. unless (parameter_right (ports_of k) v) (kind_wrong.Parameter s i p)) x.parameters ]) [
+      | None ↦ each_nothing KindWrongAt 0 x.parameters
       | Some k ↦ refl
     ]
 
@@ -85,14 +85,14 @@ not_not false = refl
 pub parameter_is :
     (lib : Library) (s : Site) (i p : ℕ) (x : Instance) (t : TypeNumber) (ps : List ℕ) (v : Parameter) (k : ℕ) (right : Bool) → type_number lib x.block_type ≡ Some t
     → parameter_numbers lib x ≡ Some ps → slice_get x.parameters p ≡ Some v → slice_get ps p ≡ Some k → right ≡ not (is_wrong lib t v k)
-    → unless right (misfit.Parameter s i p) ≡ misfit_parameter lib s i x p v
+    → unless right (kind_wrong.Parameter s i p) ≡ kind_wrong_parameter lib s i x p v
 parameter_is lib s i p x t ps v k right ty numbers at input is =
     let its = kinded lib x ps numbers in
     let there = each.each_at (λ (y : Parameter). index_of (data_ins (ports_of its.kind)) y.name) x.parameters ps p v its.inputs at in
     let same : Some there.0 ≡ Some k = sym there.1 ∙ input in
     let wrong = parameter_by_number lib t its.kind v k (sym (type_by_number lib x.block_type t ty) ∙ its.kind_is) (there.2 ∙ same) in
     let right_is : right ≡ parameter_right (ports_of its.kind) v = is ∙ ap not wrong ∙ not_not (parameter_right (ports_of its.kind) v) in
-    ap (λ (b : Bool). unless b (misfit.Parameter s i p)) right_is ∙ ap (misfit_of s i p v) (sym its.kind_is)
+    ap (λ (b : Bool). unless b (kind_wrong.Parameter s i p)) right_is ∙ ap (kind_wrong_of s i p v) (sym its.kind_is)
 
 -- each parameter has an input
 pub has_input :

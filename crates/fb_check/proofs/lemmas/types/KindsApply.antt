@@ -18,13 +18,13 @@ use Rattle.fb_types.proofs.lemmas.lists.Elements.{Contains-nil}
 use Rattle.fb_check.specs.types.Checks.{algorithm_right, chart_right, in_place, is_guard_right, is_right_block}
 use Rattle.fb_check.proofs.lemmas.types.UnknownApplies.{basic_among}
 use Rattle.fb_check.proofs.lemmas.types.Checks.{chart_right_met, wrong_answer}
-use Rattle.fb_check_names.specs.declared.location.Misfit.{Misfit}
-use Rattle.fb_check_names.specs.declared.location.Misfit.TheVariants as misfit
+use Rattle.fb_check_names.specs.declared.location.KindWrongAt.{KindWrongAt}
+use Rattle.fb_check_names.specs.declared.location.KindWrongAt.TheVariants as kind_wrong
 use Rattle.fb_check_names.specs.declared.location.StatementPart.{StatementPart}
 use Rattle.fb_check_names.specs.declared.location.Site.{Site}
 use Rattle.fb_check_names.specs.declared.location.Variables.{Variables}
 use Rattle.fb_check_names.specs.declared.location.Variables.TheVariants.{Inputs, Outputs, Internals}
-use Rattle.fb_check.specs.types.Misfits.{IsGuardMisfit, IsInitialMisfit, IsMisfitAt, IsParameterMisfit, IsStatementMisfit}
+use Rattle.fb_check.specs.types.KindsWrong.{IsGuardKindWrong, IsInitialKindWrong, IsKindWrongAt, IsParameterKindWrong, IsStatementKindWrong}
 use Rattle.fb_check_names.specs.Sites.{basic_at, variables_at}
 use Rattle.fb_check_names.proofs.lemmas.unknown.InNetworks.{site_network}
 use Rattle.fb_check.specs.types.Statements.{each_in_body, stands_right}
@@ -55,7 +55,7 @@ variable_among Inputs (block.Composite t) v c = Contains-append_left t.ports.inp
 variable_among Outputs (block.Composite t) v c = Contains-append_right t.ports.inputs t.ports.outputs v c
 variable_among Internals (block.Composite t) v c = absurd (Contains-nil v c)
 
-initial_applies : (lib : Library) (b : ℕ) (l : Variables) (k : ℕ) → IsInitialMisfit lib b l k → KindWrong lib
+initial_applies : (lib : Library) (b : ℕ) (l : Variables) (k : ℕ) → IsInitialKindWrong lib b l k → KindWrong lib
 initial_applies lib b l k m =
     inr (inl (
       m.in_type,
@@ -65,14 +65,14 @@ initial_applies lib b l k m =
       m.wrong,
     ))
 
-guard_applies : (lib : Library) (b k : ℕ) → IsGuardMisfit lib b k → KindWrong lib
+guard_applies : (lib : Library) (b k : ℕ) → IsGuardKindWrong lib b k → KindWrong lib
 guard_applies lib b k m =
     let t = m.in_type in
     let guards = fails_from (is_guard_right t) t.transitions m.at_index (element_of_index t.transitions k m.at_index m.found) m.wrong in
     chart_wrong lib b t m.at
     (chart_right_met t ∙ and_left (list_all (is_guard_right t) t.transitions) (list_all (algorithm_right t) t.algorithms) guards)
 
-statement_applies : (lib : Library) (b a k : ℕ) (o : StatementPart) → IsStatementMisfit lib b a k o → KindWrong lib
+statement_applies : (lib : Library) (b a k : ℕ) (o : StatementPart) → IsStatementKindWrong lib b a k o → KindWrong lib
 statement_applies lib b a k o m =
     let t = m.in_type in
     let ss = each_in_body false (body_of m.algorithm.body) in
@@ -85,7 +85,7 @@ statement_applies lib b a k o m =
 
 -- ---- Parameters
 
-parameter_applies : (lib : Library) (s : Site) (i p : ℕ) → IsParameterMisfit lib s i p → KindWrong lib
+parameter_applies : (lib : Library) (s : Site) (i p : ℕ) → IsParameterKindWrong lib s i p → KindWrong lib
 parameter_applies lib s i p m =
     let x = m.of_instance in
     let wrong = fails_from (parameter_right (ports_of m.kind)) x.parameters m.at_index (element_of_index x.parameters p m.at_index m.found) m.wrong in
@@ -99,8 +99,8 @@ parameter_applies lib s i p m =
 
 -- ---- All
 
-pub misfit_applies : (lib : Library) (p : Misfit) → IsMisfitAt lib p → KindWrong lib
-misfit_applies lib (misfit.Initial b l k) m = initial_applies lib b l k m
-misfit_applies lib (misfit.Parameter s i k) m = parameter_applies lib s i k m
-misfit_applies lib (misfit.Guard b k) m = guard_applies lib b k m
-misfit_applies lib (misfit.Statement b a k o) m = statement_applies lib b a k o m
+pub kind_wrong_applies : (lib : Library) (p : KindWrongAt) → IsKindWrongAt lib p → KindWrong lib
+kind_wrong_applies lib (kind_wrong.Initial b l k) m = initial_applies lib b l k m
+kind_wrong_applies lib (kind_wrong.Parameter s i k) m = parameter_applies lib s i k m
+kind_wrong_applies lib (kind_wrong.Guard b k) m = guard_applies lib b k m
+kind_wrong_applies lib (kind_wrong.Statement b a k o) m = statement_applies lib b a k o m

@@ -8,7 +8,7 @@ use Rattle.fb_check_names.specs.Parts.{PartWrong}
 use Rattle.fb_types.proofs.lemmas.lists.ListTests.{list_all-both, passes_at}
 use Rattle.fb_check.specs.types.Checks.{is_right_block}
 use Rattle.fb_check.proofs.lemmas.types.Checks.{wrong_answer}
-use Rattle.fb_check.specs.types.Misfits.{are_set_right, are_set_right_inside, is_all_right}
+use Rattle.fb_check.specs.types.KindsWrong.{are_set_right, are_set_right_inside, is_all_right}
 use Rattle.fb_check.proofs.lemmas.types.NetworkTests.{network_passes}
 
 pub none_wrong :

@@ -1,15 +1,15 @@
 use Rattle.std.proofs.Common.{rules, ℕ, map, ap, arith}
 use Rattle.fb_check_names.proofs.lemmas.Listing.{some_says}
-use Rattle.fb_check.specs.networks.Unserved.{IsUnservedAt}
-use Rattle.fb_check.proofs.lemmas.networks.Unserved.{unserved_applies}
+use Rattle.fb_check.specs.networks.NoEvent.{IsNoEventAt}
+use Rattle.fb_check.proofs.lemmas.networks.NoEvent.{no_event_applies}
 use Rattle.fb_check.specs.Refusals.{inputs_in}
 use Rattle.fb_check.specs.declared.fault.Fault.TheVariants as of
 use Rattle.fb_check.specs.declared.location.Location.TheVariants as at
 use Rattle.fb_check.proofs.lemmas.Verdict.{least_28, made_so, once, passes_28, refused_so}
 use Rattle.fb_check.proofs.mapping_checks.judge_events.Goals as goal
 
-pub unserved_locations-requires : goal.unserved_locations-requires
-unserved_locations-requires c = record {
+pub no_event_locations-requires : goal.no_event_locations-requires
+no_event_locations-requires c = record {
   once = once 28 c.args.case.now.library.now c.args.case.now.plan.now c.args.case.now.stimuli.now (omega arith) c.requires.passed;
   mapping = c.requires.mapping;
   resolved = c.requires.resolved;
@@ -21,7 +21,7 @@ returns-clause-refused c =
     let plan = c.args.case.now.plan.now in
     let ss = c.args.case.now.stimuli.now in
     refused_so c.passed.result (inputs_in c.args.case.now) of.NoEvent (λ (p : ℕ). at.NoEvent p) c.in_ok-found.found.items c.in_ok-locations.locations (search rules)
-    (λ some. least_28 lib plan ss c.requires.passed (some_says (IsUnservedAt lib plan) c.in_ok-found.found.items (unserved_applies lib plan) c.in_ok-found.ensures.each some))
+    (λ some. least_28 lib plan ss c.requires.passed (some_says (IsNoEventAt lib plan) c.in_ok-found.found.items (no_event_applies lib plan) c.in_ok-found.ensures.each some))
     (λ some. ap (map (λ (p : ℕ). at.NoEvent p)) c.in_ok-found.ensures.listed)
     c.passed.ensures.refused
 

@@ -1,8 +1,8 @@
 use Rattle.std.proofs.Common.{rules, map, ap}
 use Rattle.fb_check_names.proofs.lemmas.Listing.{some_says}
-use Rattle.fb_check_names.specs.declared.location.Unlinked.{Unlinked}
-use Rattle.fb_check.specs.networks.Links.{IsUnlinkedAt}
-use Rattle.fb_check.proofs.lemmas.networks.Unlinked.{unlinked_applies}
+use Rattle.fb_check_names.specs.declared.location.NoLinkAt.{NoLinkAt}
+use Rattle.fb_check.specs.networks.Links.{IsNoLinkAt}
+use Rattle.fb_check.proofs.lemmas.networks.NoLink.{no_link_applies}
 use Rattle.fb_check.specs.Refusals.{inputs_in}
 use Rattle.fb_check.specs.declared.fault.Fault.TheVariants as of
 use Rattle.fb_check.specs.declared.location.Location.TheVariants as at
@@ -14,9 +14,9 @@ returns-clause-refused c =
     let lib = c.args.case.now.library.now in
     let plan = c.args.case.now.plan.now in
     let ss = c.args.case.now.stimuli.now in
-    refused_so c.passed.result (inputs_in c.args.case.now) of.NoLink (λ (p : Unlinked). at.NoLink p) c.in_ok-found.found.items c.in_ok-locations.locations (search rules)
-    (λ some. least_27 lib plan ss c.requires.passed (some_says (IsUnlinkedAt lib plan) c.in_ok-found.found.items (unlinked_applies lib plan) c.in_ok-found.ensures.each some))
-    (λ some. ap (map (λ (p : Unlinked). at.NoLink p)) c.in_ok-found.ensures.listed)
+    refused_so c.passed.result (inputs_in c.args.case.now) of.NoLink (λ (p : NoLinkAt). at.NoLink p) c.in_ok-found.found.items c.in_ok-locations.locations (search rules)
+    (λ some. least_27 lib plan ss c.requires.passed (some_says (IsNoLinkAt lib plan) c.in_ok-found.found.items (no_link_applies lib plan) c.in_ok-found.ensures.each some))
+    (λ some. ap (map (λ (p : NoLinkAt). at.NoLink p)) c.in_ok-found.ensures.listed)
     c.passed.ensures.refused
 
 pub returns-clause-ok : goal.returns-clause-ok
@@ -24,4 +24,4 @@ returns-clause-ok c =
     let lib = c.args.case.now.library.now in
     let plan = c.args.case.now.plan.now in
     let ss = c.args.case.now.stimuli.now in
-    made_so _ c.passed.result tt (λ (p : Unlinked). at.NoLink p) c.in_ok-found.found.items c.in_ok-locations.locations.items (search rules) (λ none. passes_27 lib plan ss c.requires.passed (c.in_ok-found.ensures.none none)) c.passed.ensures.ok
+    made_so _ c.passed.result tt (λ (p : NoLinkAt). at.NoLink p) c.in_ok-found.found.items c.in_ok-locations.locations.items (search rules) (λ none. passes_27 lib plan ss c.requires.passed (c.in_ok-found.ensures.none none)) c.passed.ensures.ok

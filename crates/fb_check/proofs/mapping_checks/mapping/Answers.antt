@@ -1,8 +1,8 @@
 use Rattle.std.proofs.Common.{rules, ◌≡◌, List, ◌++◌, map, sym, ap, ◌∙◌, arith}
 use Rattle.fb_check_names.proofs.lemmas.Listing.{some_says}
-use Rattle.fb_check_names.specs.declared.location.Unmapped.{Unmapped}
-use Rattle.fb_check.specs.networks.Unmapped.{IsUnmappedAt, unmapped_all}
-use Rattle.fb_check.proofs.lemmas.networks.Mapped.{each_unmapped, none_unmapped, unmapped_applies}
+use Rattle.fb_check_names.specs.declared.location.NotMappedAt.{NotMappedAt}
+use Rattle.fb_check.specs.networks.NotMapped.{IsNotMappedAt, not_mapped_all}
+use Rattle.fb_check.proofs.lemmas.networks.Mapped.{each_not_mapped, none_not_mapped, not_mapped_applies}
 use Rattle.fb_check.specs.Refusals.{inputs_in}
 use Rattle.fb_check.specs.declared.fault.Fault.TheVariants as of
 use Rattle.fb_check.specs.declared.location.Location.TheVariants as at
@@ -18,10 +18,10 @@ returns-clause-refused c =
     let plan = c.args.case.now.plan.now in
     let ss = c.args.case.now.stimuli.now in
     let found = c.mapping_of.new.found.items in
-    let listed : found ≡ unmapped_all lib plan = c.in_ok-mapping.ensures.found ∙ ap (λ (ps : List Unmapped). ps ++ unmapped_all lib plan) c.new-found.ensures.items in
-    refused_so c.passed.result (inputs_in c.args.case.now) of.NotMapped (λ (p : Unmapped). at.NotMapped p) found c.in_ok-locations.locations (search rules)
-    (λ some. least_26 lib plan ss c.requires (some_says (IsUnmappedAt lib plan) (unmapped_all lib plan) (unmapped_applies lib plan) (each_unmapped lib plan) (λ none. some (listed ∙ none))))
-    (λ some. ap (map (λ (p : Unmapped). at.NotMapped p)) listed)
+    let listed : found ≡ not_mapped_all lib plan = c.in_ok-mapping.ensures.found ∙ ap (λ (ps : List NotMappedAt). ps ++ not_mapped_all lib plan) c.new-found.ensures.items in
+    refused_so c.passed.result (inputs_in c.args.case.now) of.NotMapped (λ (p : NotMappedAt). at.NotMapped p) found c.in_ok-locations.locations (search rules)
+    (λ some. least_26 lib plan ss c.requires (some_says (IsNotMappedAt lib plan) (not_mapped_all lib plan) (not_mapped_applies lib plan) (each_not_mapped lib plan) (λ none. some (listed ∙ none))))
+    (λ some. ap (map (λ (p : NotMappedAt). at.NotMapped p)) listed)
     c.passed.ensures.refused
 
 pub returns-clause-mapping : goal.returns-clause-mapping
@@ -30,8 +30,8 @@ returns-clause-mapping c =
     let plan = c.args.case.now.plan.now in
     let ss = c.args.case.now.stimuli.now in
     let found = c.mapping_of.new.found.items in
-    let listed : found ≡ unmapped_all lib plan = c.in_ok-mapping.ensures.found ∙ ap (λ (ps : List Unmapped). ps ++ unmapped_all lib plan) c.new-found.ensures.items in
-    made_so _ c.passed.result c.in_ok-mapping.mapping (λ (p : Unmapped). at.NotMapped p) found c.in_ok-locations.locations.items (search rules) (λ none. c.in_ok-mapping.ensures.mapping (sym listed ∙ none)) c.passed.ensures.ok
+    let listed : found ≡ not_mapped_all lib plan = c.in_ok-mapping.ensures.found ∙ ap (λ (ps : List NotMappedAt). ps ++ not_mapped_all lib plan) c.new-found.ensures.items in
+    made_so _ c.passed.result c.in_ok-mapping.mapping (λ (p : NotMappedAt). at.NotMapped p) found c.in_ok-locations.locations.items (search rules) (λ none. c.in_ok-mapping.ensures.mapping (sym listed ∙ none)) c.passed.ensures.ok
 
 pub returns-clause-ok : goal.returns-clause-ok
 returns-clause-ok c =
@@ -39,5 +39,5 @@ returns-clause-ok c =
     let plan = c.args.case.now.plan.now in
     let ss = c.args.case.now.stimuli.now in
     let found = c.mapping_of.new.found.items in
-    let listed : found ≡ unmapped_all lib plan = c.in_ok-mapping.ensures.found ∙ ap (λ (ps : List Unmapped). ps ++ unmapped_all lib plan) c.new-found.ensures.items in
-    made_so _ c.passed.result c.in_ok-mapping.mapping (λ (p : Unmapped). at.NotMapped p) found c.in_ok-locations.locations.items (search rules) (λ none. passes_26 lib plan ss c.requires (none_unmapped lib plan (sym listed ∙ none))) c.passed.ensures.ok
+    let listed : found ≡ not_mapped_all lib plan = c.in_ok-mapping.ensures.found ∙ ap (λ (ps : List NotMappedAt). ps ++ not_mapped_all lib plan) c.new-found.ensures.items in
+    made_so _ c.passed.result c.in_ok-mapping.mapping (λ (p : NotMappedAt). at.NotMapped p) found c.in_ok-locations.locations.items (search rules) (λ none. passes_26 lib plan ss c.requires (none_not_mapped lib plan (sym listed ∙ none))) c.passed.ensures.ok

@@ -31,14 +31,14 @@ returns-in_ok-at-in-Some-clause-refused c =
     let lib = c.args.case.now.library.now in
     let plan = c.args.case.now.plan.now in
     let ss = c.args.case.now.stimuli.now in
-    let descent = c.in-Some.descent in
-    let high = MatchOption-at_some (¬ (TooHigh lib)) (IsTooHighAt lib) descent c.in-Some.is (c.in_ok-descent.ensures lib plan c.requires.resolved) in
-    alone_so (inputs_in c.args.case.now) of.TooHigh (at.TooHigh descent) c.in_ok-at-in-Some.field-0 c.in_ok-at-in-Some.ensures (least_25 lib plan ss c.in_ok-judge_sources.ensures.ok (height_applies lib descent high))
-    (descent, refl, high)
+    let too_high = c.in-Some.too_high in
+    let high = MatchOption-at_some (¬ (TooHigh lib)) (IsTooHighAt lib) too_high c.in-Some.is (c.in_ok-too_high.ensures lib plan c.requires.resolved) in
+    alone_so (inputs_in c.args.case.now) of.TooHigh (at.TooHigh too_high) c.in_ok-at-in-Some.field-0 c.in_ok-at-in-Some.ensures (least_25 lib plan ss c.in_ok-judge_sources.ensures.ok (height_applies lib too_high high))
+    (too_high, refl, high)
 
 pub returns-in-None-clause-ok : goal.returns-in-None-clause-ok
 returns-in-None-clause-ok c =
     let lib = c.args.case.now.library.now in
     let plan = c.args.case.now.plan.now in
     passes_25 lib plan c.args.case.now.stimuli.now c.in_ok-judge_sources.ensures.ok
-    (MatchOption-at_none (¬ (TooHigh lib)) (IsTooHighAt lib) c.in-None.is (c.in_ok-descent.ensures lib plan c.requires.resolved))
+    (MatchOption-at_none (¬ (TooHigh lib)) (IsTooHighAt lib) c.in-None.is (c.in_ok-too_high.ensures lib plan c.requires.resolved))

@@ -1,8 +1,8 @@
 use Rattle.std.proofs.Common.{rules, map, ap}
 use Rattle.fb_check_names.proofs.lemmas.Listing.{some_says}
-use Rattle.fb_check_names.specs.declared.location.Joined.{Joined}
-use Rattle.fb_check.specs.networks.Sources.{IsJoinedAt}
-use Rattle.fb_check.proofs.lemmas.networks.Targets.{joined_applies}
+use Rattle.fb_check_names.specs.declared.location.TwoSourcesAt.{TwoSourcesAt}
+use Rattle.fb_check.specs.networks.Sources.{IsTwoSourcesAt}
+use Rattle.fb_check.proofs.lemmas.networks.Targets.{two_sources_applies}
 use Rattle.fb_check.specs.Refusals.{inputs_in}
 use Rattle.fb_check.specs.declared.fault.Fault.TheVariants as of
 use Rattle.fb_check.specs.declared.location.Location.TheVariants as at
@@ -14,9 +14,9 @@ returns-clause-refused c =
     let lib = c.args.case.now.library.now in
     let plan = c.args.case.now.plan.now in
     let ss = c.args.case.now.stimuli.now in
-    refused_so c.passed.result (inputs_in c.args.case.now) of.TwoSources (λ (p : Joined). at.TwoSources p) c.in_ok-found.found.items c.in_ok-locations.locations (search rules)
-    (λ some. least_24 lib plan ss c.requires (some_says (IsJoinedAt lib) c.in_ok-found.found.items (joined_applies lib) c.in_ok-found.ensures.each some))
-    (λ some. ap (map (λ (p : Joined). at.TwoSources p)) c.in_ok-found.ensures.listed)
+    refused_so c.passed.result (inputs_in c.args.case.now) of.TwoSources (λ (p : TwoSourcesAt). at.TwoSources p) c.in_ok-found.found.items c.in_ok-locations.locations (search rules)
+    (λ some. least_24 lib plan ss c.requires (some_says (IsTwoSourcesAt lib) c.in_ok-found.found.items (two_sources_applies lib) c.in_ok-found.ensures.each some))
+    (λ some. ap (map (λ (p : TwoSourcesAt). at.TwoSources p)) c.in_ok-found.ensures.listed)
     c.passed.ensures.refused
 
 pub returns-clause-ok : goal.returns-clause-ok
@@ -24,4 +24,4 @@ returns-clause-ok c =
     let lib = c.args.case.now.library.now in
     let plan = c.args.case.now.plan.now in
     let ss = c.args.case.now.stimuli.now in
-    made_so _ c.passed.result tt (λ (p : Joined). at.TwoSources p) c.in_ok-found.found.items c.in_ok-locations.locations.items (search rules) (λ none. passes_24 lib plan ss c.requires (c.in_ok-found.ensures.none none)) c.passed.ensures.ok
+    made_so _ c.passed.result tt (λ (p : TwoSourcesAt). at.TwoSources p) c.in_ok-found.found.items c.in_ok-locations.locations.items (search rules) (λ none. passes_24 lib plan ss c.requires (c.in_ok-found.ensures.none none)) c.passed.ensures.ok

@@ -4,4 +4,4 @@ use Rattle.fb_check.proofs.networks.heights.too_high_location.Goals as goal
 pub returns : goal.returns
 returns c =
     λ library plan is.
-    high_answer library plan c.args.numbers.now c.as_slice-blocks.result.now _ _ _ c.as_slice-blocks.ensures c.in_ok-marks.ensures c.deref.ensures.value c.descent_by.ensures is
+    high_answer library plan c.args.numbers.now c.as_slice-blocks.result.now _ _ _ c.as_slice-blocks.ensures c.in_ok-marks.ensures c.deref.ensures.value c.too_high_by.ensures is

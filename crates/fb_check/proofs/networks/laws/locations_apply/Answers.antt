@@ -1,17 +1,17 @@
 use Rattle.fb_check.proofs.lemmas.networks.Circles.{height_applies}
-use Rattle.fb_check.proofs.lemmas.networks.Joined.{misjoin_applies}
-use Rattle.fb_check.proofs.lemmas.networks.Mapped.{unmapped_applies}
-use Rattle.fb_check.proofs.lemmas.networks.Targets.{joined_applies}
-use Rattle.fb_check.proofs.lemmas.networks.Unlinked.{unlinked_applies}
-use Rattle.fb_check.proofs.lemmas.networks.Unserved.{unserved_applies}
+use Rattle.fb_check.proofs.lemmas.networks.Ranges.{out_of_range_applies}
+use Rattle.fb_check.proofs.lemmas.networks.Mapped.{not_mapped_applies}
+use Rattle.fb_check.proofs.lemmas.networks.Targets.{two_sources_applies}
+use Rattle.fb_check.proofs.lemmas.networks.NoLink.{no_link_applies}
+use Rattle.fb_check.proofs.lemmas.networks.NoEvent.{no_event_applies}
 use Rattle.fb_check.proofs.networks.laws.locations_apply.Goals as goal
 
 pub returns : goal.returns
 returns c = record {
-  misjoin = misjoin_applies;
-  joined = joined_applies;
+  out_of_range = out_of_range_applies;
+  joined = two_sources_applies;
   too_high = height_applies;
-  unmapped = unmapped_applies;
-  unlinked = unlinked_applies;
-  unserved = unserved_applies;
+  not_mapped = not_mapped_applies;
+  no_link = no_link_applies;
+  no_event = no_event_applies;
 }

@@ -3,7 +3,7 @@ use Rattle.std.proofs.lemmas.List.{take_all}
 use Rattle.fb_types.specs.declared.deploy.Link.{Link}
 use Rattle.fb_check.specs.networks.Links.{names_of_link}
 use Rattle.fb_check.proofs.lemmas.networks.SetsOfSeen.{Has, elements_more, pair_cmp, pair_cmp-exact, pair_view}
-use Rattle.fb_check.proofs.lemmas.networks.Unlinked.{ways_from}
+use Rattle.fb_check.proofs.lemmas.networks.NoLink.{ways_from}
 use Rattle.fb_check.proofs.networks.links.add_ways.Goals as goal
 
 pub loop-link-init : goal.loop-link-init

@@ -4,11 +4,11 @@ use Rattle.fb_types.specs.Names.{Name, same_name}
 use Rattle.fb_check_names.specs.Indexes.{names_in}
 use Rattle.fb_check_names.specs.Listed.{each_at}
 use Rattle.fb_check_names.specs.Repeats.{repeats}
-use Rattle.fb_check_names.specs.declared.location.Unmapped.{Unmapped}
-use Rattle.fb_check_names.specs.declared.location.Unmapped.TheVariants.{Again}
+use Rattle.fb_check_names.specs.declared.location.NotMappedAt.{NotMappedAt}
+use Rattle.fb_check_names.specs.declared.location.NotMappedAt.TheVariants.{Again}
 use Rattle.fb_check_names.specs.Indexes.{AreLastIndexes}
 use Rattle.fb_check.proofs.lemmas.types.GrowingLists.{and_both, ok_joined}
-use Rattle.fb_check.specs.networks.Unmapped.{unlisted_at}
+use Rattle.fb_check.specs.networks.NotMapped.{unlisted_at}
 use Rattle.fb_check.proofs.lemmas.networks.Owners.{unlisted_are}
 use Rattle.fb_check.proofs.networks.mapping.list_all.Goals as goal
 
@@ -20,11 +20,11 @@ returns-clause-found c =
     let indexes : AreLastIndexes ns c.in_ok-indexes.indexes = subst (λ (ns : List Name). AreLastIndexes ns c.in_ok-indexes.indexes) names c.in_ok-indexes.ensures.indexes in
     let pairs : c.as_slice-2.result.now ≡ repeats same_name ns =
     c.as_slice-2.ensures.value ∙ c.in_ok-indexes.ensures.again ∙ ap (λ (rs : List (ℕ × ℕ)). rs ++ repeats same_name (names_in c.as_slice.result.now)) c.new-again.ensures.items ∙ ap (repeats same_name) names in
-    let unlisted : List Unmapped = each_at (unlisted_at ns) is in
+    let unlisted : List NotMappedAt = each_at (unlisted_at ns) is in
     ok_joined _ c.and-2.result c.and.result _ c.and-2.ensures
     (and_both c.and.result c.push_unlisted.result c.push_again.result c.and.ensures
     (λ one two. two
-    ∙ (λ i. (one ∙ ap (λ (us : List Unmapped). c.args.found.now.items ++ us) (unlisted_are c.in_ok-indexes.indexes ns is indexes)) i ++ map (λ r. Again r) (pairs i))
+    ∙ (λ i. (one ∙ ap (λ (us : List NotMappedAt). c.args.found.now.items ++ us) (unlisted_are c.in_ok-indexes.indexes ns is indexes)) i ++ map (λ r. Again r) (pairs i))
     ∙ append_assoc c.args.found.now.items unlisted (map (λ r. Again r) (repeats same_name ns))) c.push_unlisted.ensures c.push_again.ensures)
     (λ are. are)
 

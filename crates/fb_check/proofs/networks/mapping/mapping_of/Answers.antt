@@ -1,7 +1,7 @@
 use Rattle.std.proofs.Common.{List, ◌++◌, ◌∙◌, ap}
 use Rattle.std.specs.Prelude.{flat_map}
 use Rattle.fb_types.specs.declared.deploy.ResourceEntry.{ResourceEntry}
-use Rattle.fb_check_names.specs.declared.location.Unmapped.{Unmapped}
+use Rattle.fb_check_names.specs.declared.location.NotMappedAt.{NotMappedAt}
 use Rattle.fb_check.proofs.lemmas.networks.Mapped.{all_listed, all_mapped, found_among, none_of_all}
 use Rattle.fb_check.proofs.networks.mapping.mapping_of.Goals as goal
 
@@ -14,7 +14,7 @@ returns-then-plan-clause-mapping c = λ _. all_mapped c.args.library.now c.args.
 pub returns-clause-found : goal.returns-clause-found
 returns-clause-found c =
     c.in_ok-listed.ensures.found
-    ∙ ap (λ (us : List Unmapped). c.args.found.now.items ++ us)
+    ∙ ap (λ (us : List NotMappedAt). c.args.found.now.items ++ us)
     (found_among c.args.library.now c.args.plan.now (flat_map (λ r. r.instances) c.as_slice.result.now) c.as_slice-instances.result.now c.if-plan.false
     (ap (flat_map (λ (r : ResourceEntry). r.instances)) c.as_slice.ensures) c.as_slice-instances.ensures)
 

@@ -1,5 +1,5 @@
 use Rattle.std.proofs.Common.{◌≡◌, ◌++◌, ℕ, drop, map}
-use Rattle.fb_check_names.specs.declared.location.Unmapped.TheVariants.{Again}
+use Rattle.fb_check_names.specs.declared.location.NotMappedAt.TheVariants.{Again}
 use Rattle.fb_check.proofs.networks.mapping.push_again.Given as goal
 
 abbrev pub invariant-loop-pair : goal.invariant-loop-pair

@@ -3,7 +3,7 @@ use Rattle.std.specs.Prelude.{slice_get}
 use Rattle.fb_types.specs.declared.library.Instance.{Instance}
 use Rattle.fb_types.specs.declared.library.Network.{Network}
 use Rattle.fb_check_names.proofs.lemmas.Listing.{each_done_of, each_more}
-use Rattle.fb_check.specs.networks.Parameters.{misfit_parameters}
+use Rattle.fb_check.specs.networks.Parameters.{kind_wrong_parameters}
 use Rattle.fb_check.proofs.lemmas.networks.SearchLoops.{at_element}
 use Rattle.fb_check.proofs.lemmas.networks.Valued.{inputs_at_index, type_at_index}
 use Rattle.fb_check.proofs.networks.parameters.push_wrong_parameters.Goals as goal
@@ -41,10 +41,10 @@ push_parameters-requires c =
 
 pub loop-instance-preserved : goal.loop-instance-preserved
 loop-instance-preserved c =
-    each_more (misfit_parameters c.args.library.now c.args.site) c.as_slice-instances.result.now c.loop-instance.instance c.index-instances-instance.result c.loop-instance.found.items
+    each_more (kind_wrong_parameters c.args.library.now c.args.site) c.as_slice-instances.result.now c.loop-instance.instance c.index-instances-instance.result c.loop-instance.found.items
     c.push_parameters.new.found.items _ c.loop-instance-test.true c.index-instances-instance.is c.in_ok-push_parameters.ensures c.loop-instance.invariant
 
 pub returns : goal.returns
 returns c =
-    each_done_of (misfit_parameters c.args.library.now c.args.site) c.as_slice-instances.result.now c.args.network.now.instances c.loop-instance.instance _ c.loop-instance.found.items
+    each_done_of (kind_wrong_parameters c.args.library.now c.args.site) c.as_slice-instances.result.now c.args.network.now.instances c.loop-instance.instance _ c.loop-instance.found.items
     c.as_slice-instances.ensures c.loop-instance-test.false c.loop-instance.invariant

@@ -1,8 +1,8 @@
 use Rattle.std.proofs.Common.{◌≡◌, ◌++◌, drop}
 use Rattle.fb_check_names.specs.Listed.{each_at, each_from}
-use Rattle.fb_check.specs.networks.Parameters.{misfit_parameters}
+use Rattle.fb_check.specs.networks.Parameters.{kind_wrong_parameters}
 use Rattle.fb_check.proofs.networks.parameters.push_wrong_parameters.Given as goal
 
 abbrev pub invariant-loop-instance : goal.invariant-loop-instance
 invariant-loop-instance l =
-    l.found.items ++ each_from (misfit_parameters l.library l.site) l.instance (drop l.instance l.instances) ≡ l.fn.found.items ++ each_at (misfit_parameters l.library l.site) l.instances
+    l.found.items ++ each_from (kind_wrong_parameters l.library l.site) l.instance (drop l.instance l.instances) ≡ l.fn.found.items ++ each_at (kind_wrong_parameters l.library l.site) l.instances

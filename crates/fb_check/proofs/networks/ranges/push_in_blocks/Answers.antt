@@ -1,5 +1,5 @@
 use Rattle.fb_check_names.proofs.lemmas.Listing.{each_done_of, each_more}
-use Rattle.fb_check.specs.networks.Misjoins.{out_at_index}
+use Rattle.fb_check.specs.networks.OutOfRange.{out_at_index}
 use Rattle.fb_check.proofs.networks.ranges.push_in_blocks.Goals as goal
 
 pub loop-block-preserved : goal.loop-block-preserved

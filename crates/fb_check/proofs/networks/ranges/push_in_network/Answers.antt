@@ -1,10 +1,10 @@
 use Rattle.std.proofs.Common.{◌≡◌, ℕ, ◌+◌, ◌<◌, Bool, List, ◌++◌, drop, get_or, length, not, ◌∙◌, ap}
 use Rattle.std.specs.Option.{option_copied}
 use Rattle.fb_check_names.specs.Listed.{each_at, each_from, unless}
-use Rattle.fb_check_names.specs.declared.location.Misjoin.{Misjoin}
+use Rattle.fb_check_names.specs.declared.location.OutOfRangeAt.{OutOfRangeAt}
 use Rattle.fb_check_names.proofs.lemmas.Listing.{each_done, each_more}
 use Rattle.fb_check_names.proofs.lemmas.twice.Repeating.{same_within}
-use Rattle.fb_check.specs.networks.Misjoins.{out_at}
+use Rattle.fb_check.specs.networks.OutOfRange.{out_at}
 use Rattle.fb_check.proofs.networks.ranges.push_in_network.Goals as goal
 
 -- one element more that the loop reads itself
@@ -17,7 +17,7 @@ each_read f xs i z old new all within added before =
 pub loop-connection-preserved : goal.loop-connection-preserved
 loop-connection-preserved c =
     let i = c.loop-connection.connection in
-    let at : Misjoin = record { site = c.args.site; connection = i } in
+    let at : OutOfRangeAt = record { site = c.args.site; connection = i } in
     each_read (out_at c.args.library.now c.args.site (option_copied c.args.boundary) c.as_slice-types.result.now) c.as_slice-wires.result.now i _ c.loop-connection.found.items
     c.push_unless.new.found.items _ c.loop-connection-test.true
     (c.in_ok-push_unless.ensures ∙ ap (λ (b : Bool). c.loop-connection.found.items ++ unless (not b) at) c.leads_out-leads_out.ensures) c.loop-connection.invariant

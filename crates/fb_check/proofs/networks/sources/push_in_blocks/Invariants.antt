@@ -1,8 +1,8 @@
 use Rattle.std.proofs.Common.{◌≡◌, ◌++◌, drop}
 use Rattle.fb_check_names.specs.Listed.{each_at, each_from}
 use Rattle.fb_check_names.specs.Sites.{inside_of}
-use Rattle.fb_check.specs.networks.Sources.{joined_in}
+use Rattle.fb_check.specs.networks.Sources.{two_sources_in}
 use Rattle.fb_check.proofs.networks.sources.push_in_blocks.Given as goal
 
 abbrev pub invariant-loop-block : goal.invariant-loop-block
-invariant-loop-block l = l.found.items ++ each_from (inside_of joined_in) l.block (drop l.block l.blocks) ≡ l.fn.found.items ++ each_at (inside_of joined_in) l.blocks
+invariant-loop-block l = l.found.items ++ each_from (inside_of two_sources_in) l.block (drop l.block l.blocks) ≡ l.fn.found.items ++ each_at (inside_of two_sources_in) l.blocks

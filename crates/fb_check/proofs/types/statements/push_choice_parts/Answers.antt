@@ -5,7 +5,7 @@ use Rattle.fb_check.specs.types.Trees.{choice_of, choices_of}
 use Rattle.fb_check.proofs.lemmas.types.Meanings.{choice_says}
 use Rattle.fb_check_names.specs.declared.location.StatementPart.TheVariants as part
 use Rattle.fb_check_names.specs.Listed.{unless}
-use Rattle.fb_check.specs.types.MisfitLists.{part_at, wrong_choices}
+use Rattle.fb_check.specs.types.KindWrongLists.{part_at, wrong_choices}
 use Rattle.fb_check_names.proofs.lemmas.Listing.{added_unless, walk_done, walk_more}
 use Rattle.fb_check.proofs.types.statements.push_choice_parts.Goals as goal
 

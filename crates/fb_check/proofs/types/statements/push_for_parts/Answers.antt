@@ -1,9 +1,9 @@
 use Rattle.std.proofs.Common.{◌++◌, List, append_assoc, refl, sym, ◌∙◌}
 use Rattle.fb_types.specs.Kinds.{context_in}
 use Rattle.fb_check_names.specs.Listed.{unless}
-use Rattle.fb_check_names.specs.declared.location.Misfit.{Misfit}
+use Rattle.fb_check_names.specs.declared.location.KindWrongAt.{KindWrongAt}
 use Rattle.fb_check_names.specs.declared.location.StatementPart.TheVariants as part
-use Rattle.fb_check.specs.types.MisfitLists.{part_at, wrong_control}
+use Rattle.fb_check.specs.types.KindWrongLists.{part_at, wrong_control}
 use Rattle.fb_check.proofs.lemmas.types.GrowingLists.{and_added}
 use Rattle.fb_check.proofs.types.statements.push_for_parts.Goals as goal
 
@@ -14,10 +14,10 @@ returns c =
     let f1 = c.push_control_parts.new.found.items in
     let f2 = c.push_part.new.found.items in
     let f3 = c.push_part-2.new.found.items in
-    let p : List Misfit = wrong_control at (context_in c.args.scope.now) c.args.variable.now in
-    let s : List Misfit = unless c.has_kind-is_start_whole.result (at part.Start) in
-    let e : List Misfit = unless c.has_kind-is_end_whole.result (at part.End) in
-    let f : List Misfit = unless c.is_step_whole-is_step_whole.result (at part.Step) in
+    let p : List KindWrongAt = wrong_control at (context_in c.args.scope.now) c.args.variable.now in
+    let s : List KindWrongAt = unless c.has_kind-is_start_whole.result (at part.Start) in
+    let e : List KindWrongAt = unless c.has_kind-is_end_whole.result (at part.End) in
+    let f : List KindWrongAt = unless c.is_step_whole-is_step_whole.result (at part.Step) in
     let start = sym c.has_kind-is_start_whole.ensures in
     let end = sym c.has_kind-is_end_whole.ensures in
     let step = sym c.is_step_whole-is_step_whole.ensures in

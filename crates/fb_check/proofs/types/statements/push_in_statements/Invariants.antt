@@ -1,10 +1,10 @@
 use Rattle.std.proofs.Common.{◌≡◌, ◌++◌, drop}
 use Rattle.fb_check.specs.declared.types.statements.Standing as code
-use Rattle.fb_check.specs.types.MisfitLists.{misfits_in_statement}
+use Rattle.fb_check.specs.types.KindWrongLists.{kinds_wrong_in_statement}
 use Rattle.fb_check.specs.types.Statements.{standing_of}
 use Rattle.fb_check_names.specs.Listed.{each_at, each_from}
 use Rattle.fb_check.proofs.types.statements.push_in_statements.Given as goal
 
 abbrev pub invariant-loop-statement : goal.invariant-loop-statement
 invariant-loop-statement l =
-    l.found.items ++ each_from (λ k (s : code.Standing). misfits_in_statement l.scope l.block l.algorithm k (standing_of s)) l.statement (drop l.statement l.statements) ≡ l.fn.found.items ++ each_at (λ k (s : code.Standing). misfits_in_statement l.scope l.block l.algorithm k (standing_of s)) l.statements
+    l.found.items ++ each_from (λ k (s : code.Standing). kinds_wrong_in_statement l.scope l.block l.algorithm k (standing_of s)) l.statement (drop l.statement l.statements) ≡ l.fn.found.items ++ each_at (λ k (s : code.Standing). kinds_wrong_in_statement l.scope l.block l.algorithm k (standing_of s)) l.statements

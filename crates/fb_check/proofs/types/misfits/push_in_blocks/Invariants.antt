@@ -1,8 +1,0 @@
-use Rattle.std.proofs.Common.{◌≡◌, ◌++◌, drop}
-use Rattle.fb_check_names.specs.Listed.{each_at, each_from}
-use Rattle.fb_check.specs.types.MisfitLists.{misfits_in_block}
-use Rattle.fb_check.proofs.types.misfits.push_in_blocks.Given as goal
-
-abbrev pub invariant-loop-block : goal.invariant-loop-block
-invariant-loop-block l =
-    l.found.items ++ each_from (misfits_in_block l.library) l.block (drop l.block l.blocks) ≡ l.fn.found.items ++ each_at (misfits_in_block l.library) l.blocks
