@@ -4,5 +4,5 @@ pub mod Inside
 pub mod Laters
 pub mod Lists
 pub mod Moments
-pub mod Slots
+pub mod LeastEvents
 pub mod Timing

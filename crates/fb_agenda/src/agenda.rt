@@ -9,7 +9,7 @@ ghost use Rattle.fb_types.specs.declared.run.Event.TheVariants.{Arrival, Given, 
 ghost use Rattle.fb_agenda.specs.Agendas.{waiting, AreRising, IsClear, IsLeast, IsNext, IsPut, IsTimed, IsInResource, local_events, timer_set};
 ghost use Rattle.fb_agenda.specs.Arrivals.{AreNew, arrival_at, arrivals_at};
 ghost use Rattle.fb_agenda.specs.Lists.{Leads};
-ghost use Rattle.fb_agenda.specs.Slots.{IsRaised};
+ghost use Rattle.fb_agenda.specs.LeastEvents.{IsRaised};
 
 use crate::arrivals;
 use crate::later::Later;
@@ -190,7 +190,7 @@ impl Agenda {
         Ok(())
     }
 
-    /// Puts the local event in the slot back on the agenda, under its key. It replaces an event that waits there.
+    /// Puts the local event in `Least` back on the agenda, under its key. It replaces an event that waits there.
     ///
     /// # Errors
     ///
@@ -250,21 +250,21 @@ impl Agenda {
     }
 
     /// Takes the event with the least key, if its tick is below the horizon (in milliseconds), and moves it into the
-    /// slot. Returns whether it did.
+    /// `Least`. Returns whether it did.
     #[inline(always)]
-    pub fn take_least_into(&mut self, horizon: u64, slot: &mut Least) -> bool
-        ensures found { OnTrue result (waiting self.old slot.new.key ≡ Some slot.new.event) }
-        ensures below { OnTrue result (slot.new.key.tick < horizon) }
-        ensures least { OnTrue result ((j : Key) → Precedes j slot.new.key → waiting self.old j ≡ None) }
-        ensures left { OnTrue result ((j : Key) → waiting self.new j ≡ (if same_key slot.new.key j then None else waiting self.old j)) }
+    pub fn take_least_into(&mut self, horizon: u64, least_event: &mut Least) -> bool
+        ensures found { OnTrue result (waiting self.old least_event.new.key ≡ Some least_event.new.event) }
+        ensures below { OnTrue result (least_event.new.key.tick < horizon) }
+        ensures least { OnTrue result ((j : Key) → Precedes j least_event.new.key → waiting self.old j ≡ None) }
+        ensures left { OnTrue result ((j : Key) → waiting self.new j ≡ (if same_key least_event.new.key j then None else waiting self.old j)) }
         ensures due { self.new.due ≡ self.old.due }
         ensures none { OnFalse result ((j : Key) → j.tick < horizon → waiting self.old j ≡ None) }
         ensures kept { OnFalse result (self.new ≡ self.old) }
     {
         if is_now_first(&self.now, &mut self.later) {
-            self.now.pop_into(horizon, slot)
+            self.now.pop_into(horizon, least_event)
         } else {
-            self.later.pop_into(horizon, slot)
+            self.later.pop_into(horizon, least_event)
         }
     }
 

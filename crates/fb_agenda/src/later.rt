@@ -10,7 +10,7 @@ ghost use Rattle.fb_types.specs.declared.run.Event.TheVariants.{Timer};
 ghost use Rattle.fb_agenda.specs.Agendas.{AreRising, IsFirst};
 ghost use Rattle.fb_agenda.specs.Lists.{BeginsAt, IsPopped, Leads, Sets};
 ghost use Rattle.fb_agenda.specs.Moments.{IsPast};
-ghost use Rattle.fb_agenda.specs.Slots.{taken};
+ghost use Rattle.fb_agenda.specs.LeastEvents.{taken};
 
 use crate::least::Least;
 use crate::moment::Moment;
@@ -222,19 +222,19 @@ impl Later {
         *key < first
     }
 
-    /// Takes the event with the first key, if its tick is below the horizon, and moves it into the slot. Returns whether
+    /// Takes the event with the first key, if its tick is below the horizon, and moves it into `Least`. Returns whether
     /// it did.
     #[inline(never)]
-    pub(crate) fn pop_into(&mut self, horizon: u64, slot: &mut Least) -> bool
-        ensures popped { IsPopped self.old.events self.new.events (taken result slot.new) }
-        ensures below { IfSome (taken result slot.new) (λ r. r.0.tick < horizon) }
-        ensures none { IfNone (taken result slot.new) (BeginsAt horizon self.old.events) }
+    pub(crate) fn pop_into(&mut self, horizon: u64, least_event: &mut Least) -> bool
+        ensures popped { IsPopped self.old.events self.new.events (taken result least_event.new) }
+        ensures below { IfSome (taken result least_event.new) (λ r. r.0.tick < horizon) }
+        ensures none { IfNone (taken result least_event.new) (BeginsAt horizon self.old.events) }
         ensures due { self.new.due ≡ self.old.due }
     {
         if is_timer_first(&self.timers, &self.others) {
-            self.timers.pop_into(horizon, slot)
+            self.timers.pop_into(horizon, least_event)
         } else {
-            self.others.pop_into(horizon, slot)
+            self.others.pop_into(horizon, least_event)
         }
     }
 }

@@ -1,9 +1,9 @@
-//! The slot for the event that is taken.
+//! What keeps the event that is taken.
 
 ghost use Rattle.std.specs.Prelude.{◌≡◌, IfSome};
 ghost use Rattle.fb_types.specs.Keys.{local_key};
 ghost use Rattle.fb_types.specs.declared.run.Event.TheVariants.{Local};
-ghost use Rattle.fb_agenda.specs.Slots.{taken};
+ghost use Rattle.fb_agenda.specs.LeastEvents.{taken};
 
 use fb_types::{Event, Key, Target};
 
@@ -13,7 +13,7 @@ const LOCAL: u8 = 3;
 /// An event that was taken from an agenda, with its key.
 ///
 /// An event is large, and returning it would copy it from function to function. So a loop that takes events has one
-/// slot, and each event moves into it.
+/// `Least`, and each event moves into it.
 #[derive(Drop)]
 pub struct Least {
     /// The key under which the event waited.
@@ -23,7 +23,7 @@ pub struct Least {
 }
 
 impl Least {
-    /// An empty slot.
+    /// An empty `Least`.
     pub fn new() -> Least {
         Least {
             key: Key::stimulus(0, 0, 0),
@@ -31,7 +31,7 @@ impl Least {
         }
     }
 
-    /// Moves what was found into the slot, and returns whether anything was found.
+    /// Moves what was found into `Least`, and returns whether anything was found.
     #[inline(always)]
     pub(crate) fn hold(&mut self, found: Option<(Key, Event)>) -> bool
         ensures { taken result self.new ≡ found }
@@ -44,7 +44,7 @@ impl Least {
         true
     }
 
-    /// Moves the local event of this number into the slot, at the tick and in the resource of the event that was there.
+    /// Moves the local event of this number into `Least`, at the tick and in the resource of the event that was there.
     #[inline(always)]
     pub fn follow(&mut self, number: u128, target: &Target)
         ensures key { self.new.key ≡ local_key self.old.key.tick self.old.key.resource number }
@@ -56,7 +56,7 @@ impl Least {
         self.hold_target(target);
     }
 
-    /// The target of the event in the slot, if the event and its key are those of a local event.
+    /// The target of the event in `Least`, if the event and its key are those of a local event.
     #[inline(always)]
     pub(crate) fn local_target(&self) -> Option<Target>
         ensures key { IfSome result (λ t. self.now.key ≡ local_key self.now.key.tick self.now.key.resource self.now.key.a) }
@@ -71,7 +71,7 @@ impl Least {
         }
     }
 
-    /// Moves a local event into the slot.
+    /// Moves a local event into `Least`.
     #[inline(always)]
     pub(crate) fn hold_local(&mut self, key: Key, target: &Target)
         ensures key { self.new.key ≡ key }
@@ -81,7 +81,7 @@ impl Least {
         self.hold_target(target);
     }
 
-    /// Makes the event in the slot a local one, and keeps the key.
+    /// Makes the event in `Least` a local one, and keeps the key.
     #[inline(always)]
     fn hold_target(&mut self, target: &Target)
         ensures key { self.new.key ≡ self.old.key }

@@ -14,7 +14,7 @@ ghost use Rattle.fb_types.specs.declared.run.Target.{Target as Waiting};
 ghost use Rattle.fb_agenda.specs.Agendas.{AreRising, IsAt, IsFirst, IsQueue, MayFollow, local_events};
 ghost use Rattle.fb_agenda.specs.Lists.{BeginsAt, IsIndexOf, IsPopped, Sets};
 ghost use Rattle.fb_agenda.specs.Moments.{IsMomentOf};
-ghost use Rattle.fb_agenda.specs.Slots.{taken};
+ghost use Rattle.fb_agenda.specs.LeastEvents.{taken};
 
 use crate::least::Least;
 use crate::moment::Moment;
@@ -164,14 +164,14 @@ impl Queue {
         }
     }
 
-    /// Takes the first event, if its tick is below the horizon, and moves it into the slot. Returns whether it did.
+    /// Takes the first event, if its tick is below the horizon, and moves it into `Least`. Returns whether it did.
     #[inline(always)]
-    pub(crate) fn pop_into(&mut self, horizon: u64, slot: &mut Least) -> bool
+    pub(crate) fn pop_into(&mut self, horizon: u64, least_event: &mut Least) -> bool
         requires { AreRising (local_events self.old) }
-        ensures popped { IsPopped (local_events self.old) (local_events self.new) (taken result slot.new) }
+        ensures popped { IsPopped (local_events self.old) (local_events self.new) (taken result least_event.new) }
         ensures rising { AreRising (local_events self.new) }
-        ensures below { IfSome (taken result slot.new) (λ r. r.0.tick < horizon) }
-        ensures none { IfNone (taken result slot.new) (BeginsAt horizon (local_events self.old)) }
+        ensures below { IfSome (taken result least_event.new) (λ r. r.0.tick < horizon) }
+        ensures none { IfNone (taken result least_event.new) (BeginsAt horizon (local_events self.old)) }
     {
         let Some(first) = self.first() else {
             return false;
@@ -182,7 +182,7 @@ impl Queue {
         let Some(waiting) = self.waiting.pop_front() else {
             return false;
         };
-        slot.hold_local(Key::local(self.tick, self.resource, waiting.0), &waiting.1);
+        least_event.hold_local(Key::local(self.tick, self.resource, waiting.0), &waiting.1);
         true
     }
 }

@@ -14,7 +14,7 @@ ghost use Rattle.std.specs.BTreeMap.{insert_entry};
 ghost use Rattle.fb_types.specs.Keys.{Precedes, key_cmp, same_key};
 ghost use Rattle.fb_agenda.specs.Agendas.{AreRising, IsFirst};
 ghost use Rattle.fb_agenda.specs.Lists.{BeginsAt, IsIndexOf, IsPopped, Leads, Sets};
-ghost use Rattle.fb_agenda.specs.Slots.{taken};
+ghost use Rattle.fb_agenda.specs.LeastEvents.{taken};
 
 use crate::least::Least;
 use fb_types::{Event, Key};
@@ -256,13 +256,13 @@ impl Store {
         }
     }
 
-    /// Takes the event with the first key, if its tick is below the horizon, and moves it into the slot. Returns whether
+    /// Takes the event with the first key, if its tick is below the horizon, and moves it into `Least`. Returns whether
     /// it did.
     #[inline(always)]
-    pub(crate) fn pop_into(&mut self, horizon: u64, slot: &mut Least) -> bool
-        ensures popped { IsPopped self.old self.new (taken result slot.new) }
-        ensures below { IfSome (taken result slot.new) (λ r. r.0.tick < horizon) }
-        ensures none { IfNone (taken result slot.new) (BeginsAt horizon self.old) }
+    pub(crate) fn pop_into(&mut self, horizon: u64, least_event: &mut Least) -> bool
+        ensures popped { IsPopped self.old self.new (taken result least_event.new) }
+        ensures below { IfSome (taken result least_event.new) (λ r. r.0.tick < horizon) }
+        ensures none { IfNone (taken result least_event.new) (BeginsAt horizon self.old) }
     {
         let Some(first) = self.first() else {
             return false;
@@ -270,6 +270,6 @@ impl Store {
         if first.tick >= horizon {
             return false;
         }
-        slot.hold(self.pop_first())
+        least_event.hold(self.pop_first())
     }
 }

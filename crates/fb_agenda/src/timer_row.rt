@@ -12,7 +12,7 @@ ghost use Rattle.fb_types.specs.Keys.{Precedes, key_cmp, same_key, timer_key};
 ghost use Rattle.fb_types.specs.declared.run.Event.TheVariants.{Timer};
 ghost use Rattle.fb_agenda.specs.Agendas.{AreRising, IsFirst};
 ghost use Rattle.fb_agenda.specs.Lists.{BeginsAt, IsPopped, Sets};
-ghost use Rattle.fb_agenda.specs.Slots.{taken};
+ghost use Rattle.fb_agenda.specs.LeastEvents.{taken};
 ghost use Rattle.fb_agenda.specs.Timing.{timer_event};
 
 use crate::least::Least;
@@ -210,20 +210,20 @@ impl Timers {
         self.row.pop_front()
     }
 
-    /// Takes the first timer, if its tick is below the horizon, and moves it into the slot. Returns whether it did.
+    /// Takes the first timer, if its tick is below the horizon, and moves it into `Least`. Returns whether it did.
     #[inline(always)]
-    pub(crate) fn pop_into(&mut self, horizon: u64, slot: &mut Least) -> bool
+    pub(crate) fn pop_into(&mut self, horizon: u64, least_event: &mut Least) -> bool
         requires { AreRising self.old }
-        ensures popped { IsPopped self.old self.new (taken result slot.new) }
+        ensures popped { IsPopped self.old self.new (taken result least_event.new) }
         ensures rising { AreRising self.new }
-        ensures below { IfSome (taken result slot.new) (λ r. r.0.tick < horizon) }
-        ensures none { IfNone (taken result slot.new) (BeginsAt horizon self.old) }
+        ensures below { IfSome (taken result least_event.new) (λ r. r.0.tick < horizon) }
+        ensures none { IfNone (taken result least_event.new) (BeginsAt horizon self.old) }
     {
         let Some(first) = self.pop_below(horizon) else {
             return false;
         };
-        slot.key = first.key();
-        slot.event = Event::Timer(first.instance);
+        least_event.key = first.key();
+        least_event.event = Event::Timer(first.instance);
         true
     }
 }

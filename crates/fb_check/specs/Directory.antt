@@ -24,7 +24,7 @@ use Rattle.fb_types.specs.declared.library.Ports.{Ports}
 use Rattle.fb_types.specs.declared.deploy.Stimulus.{Stimulus}
 use Rattle.fb_types.specs.declared.deploy.Setting.{Setting}
 use Rattle.fb_system.specs.Rows.{AreRows, IsRow}
-use Rattle.fb_types.specs.declared.run.SlotValue.{SlotValue}
+use Rattle.fb_types.specs.declared.run.InputValue.{InputValue}
 use Rattle.fb_system.specs.declared.rows.StimulusRow.{StimulusRow}
 use Rattle.fb_check.specs.declared.directory_making.Input.{Input}
 use Rattle.fb_check.specs.declared.directory_making.TypeInputs.{TypeInputs}
@@ -147,12 +147,12 @@ is_settable d x s v =
 -- ---- Stimuli by number
 
 -- the slot of an input, if its type contains the value
-abbrev pub held_slot : Option Input → Value → Option SlotValue
+abbrev pub held_slot : Option Input → Value → Option InputValue
 held_slot None v = None
 held_slot (Some i) v = if fits i.ty v then Some (record { index = i.index; value = v }) else None
 
 -- the slot of a setting, if it is settable
-abbrev pub slot_of : Directory → TypeInputs → Stimulus → Setting → Option SlotValue
+abbrev pub slot_of : Directory → TypeInputs → Stimulus → Setting → Option InputValue
 slot_of d x s v =
     if has_pair x.withs s.event v.variable && not (has_pair d.targets s.instance v.variable) then held_slot (input_in x.variables v.variable) v.value else None
 

@@ -9,7 +9,7 @@ use Rattle.fb_types.specs.declared.deploy.Setting.{Setting}
 use Rattle.fb_types.specs.declared.deploy.Stimulus.{Stimulus}
 use Rattle.fb_types.specs.declared.library.Library.{Library}
 use Rattle.fb_check_names.specs.Numbers.{each_or_none}
-use Rattle.fb_types.specs.declared.run.SlotValue.{SlotValue}
+use Rattle.fb_types.specs.declared.run.InputValue.{InputValue}
 use Rattle.fb_system.specs.declared.rows.StimulusRow.{StimulusRow}
 use Rattle.fb_check.specs.Directory.{IsTaken}
 use Rattle.fb_check.specs.declared.location.Limit.{Limit}
@@ -71,7 +71,7 @@ IsRowOr lib s (Ok row) = IsTaken lib s row
 IsRowOr lib s (Err f) = IsBad lib s f
 
 -- the slots of all settings, or the index of one that has none
-abbrev pub AreSlotsOr : (Setting → Option SlotValue) → List Setting → Result (List SlotValue) ℕ → Type 0
+abbrev pub AreSlotsOr : (Setting → Option InputValue) → List Setting → Result (List InputValue) ℕ → Type 0
 AreSlotsOr slot xs (Ok slots) = each_or_none slot xs ≡ Some slots
 AreSlotsOr slot xs (Err k) = (x : Setting) × (slice_get xs k ≡ Some x) × (slot x ≡ None)
 

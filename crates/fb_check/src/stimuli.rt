@@ -16,7 +16,7 @@ use crate::name_pair::NamePair;
 use crate::types::adding::push_one;
 use fb_check_names::{Catalog, index_of_name, indexes};
 use fb_system::StimulusRow;
-use fb_types::{Items, Library, Name, Setting, SlotValue, Stimulus, Value, all_ports};
+use fb_types::{Items, Library, Name, Setting, InputValue, Stimulus, Value, all_ports};
 use std::alloc::{AllocError, Global};
 
 /// Whether a stimulus sets a variable twice.
@@ -27,14 +27,14 @@ fn has_setting_twice(alloc: Global, stimulus: &Stimulus) -> Result<bool, AllocEr
 }
 
 /// The slot of a data input with its value, if the type contains the value.
-fn held_slot(inputs: &TypeInputs, variable: &Name, value: Value) -> Option<SlotValue>
+fn held_slot(inputs: &TypeInputs, variable: &Name, value: Value) -> Option<InputValue>
     ensures { result ≡ held_slot (input_in inputs.now.variables variable.now) value }
 {
     let index = match inputs.variables.get(variable) {
         Some(input) if input.ty.holds(value) => input.index,
         _ => return None,
     };
-    Some(SlotValue { index, value })
+    Some(InputValue { index, value })
 }
 
 /// The slot of a variable that goes WITH the event of the stimulus, is not connected, and can contain the value.
@@ -43,7 +43,7 @@ fn slot_of(
     inputs: &TypeInputs,
     stimulus: &Stimulus,
     setting: &Setting,
-) -> Option<SlotValue>
+) -> Option<InputValue>
     ensures { result ≡ slot_of directory.now inputs.now stimulus.now setting.now }
 {
     let variable = &setting.variable;
@@ -68,7 +68,7 @@ fn slots_of(
     directory: &Directory,
     inputs: &TypeInputs,
     stimulus: &Stimulus,
-) -> Result<Result<Items<SlotValue>, usize>, AllocError>
+) -> Result<Result<Items<InputValue>, usize>, AllocError>
     ensures { IfOk result (AreSlotsOr (slot_of directory.now inputs.now stimulus.now) stimulus.now.settings) }
 {
     let settings = stimulus.settings.as_slice();

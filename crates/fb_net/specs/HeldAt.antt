@@ -5,18 +5,18 @@ use Rattle.fb_types.specs.declared.value.Value.{Value}
 use Rattle.fb_net.specs.declared.held_copies.HeldCopies.{HeldCopies}
 use Rattle.fb_net.specs.declared.held_copies.HeldRow.{HeldRow}
 
--- the place of the variables on the side of its instance on which a variable is
-abbrev pub place_of : InstanceVariable → ℕ
-place_of x = 2 * x.instance + (if x.is_output then 1 else 0)
+-- the side of the variables on the side of its instance on which a variable is
+abbrev pub side_index_of : InstanceVariable → ℕ
+side_index_of x = 2 * x.instance + (if x.is_output then 1 else 0)
 
--- the copy of a variable in a row, if it is that of its place
+-- the copy of a variable in a row, if it is that of its side
 abbrev pub copy_in : Option HeldRow → InstanceVariable → Option Value
 copy_in None x = None
-copy_in (Some r) x = if r.place == place_of x then slice_get r.values x.variable else None
+copy_in (Some r) x = if r.side_index == side_index_of x then slice_get r.values x.variable else None
 
 -- the copy of a variable, if there is one
 unfoldable pub held_at : HeldCopies → InstanceVariable → Option Value
-held_at h x = copy_in (slice_get h.rows (unwrap_or (slice_get h.indexes (place_of x)) 0)) x
+held_at h x = copy_in (slice_get h.rows (unwrap_or (slice_get h.indexes (side_index_of x)) 0)) x
 
 -- The copy of a variable has another value, if there is one, and all others stay.
 pub record IsSet (old : HeldCopies) (x : InstanceVariable) (v : Value) (new : HeldCopies) : Type 0 where
@@ -25,5 +25,5 @@ pub record IsSet (old : HeldCopies) (x : InstanceVariable) (v : Value) (new : He
 
 -- The variables on a side of an instance have these copies, and those of others stay.
 pub record IsAdded (old : HeldCopies) (x : InstanceVariable) (values : List Value) (new : HeldCopies) : Type 0 where
-  pub here : (y : InstanceVariable) → place_of y ≡ place_of x → held_at new y ≡ slice_get values y.variable
-  pub elsewhere : (y : InstanceVariable) → place_of y ≢ place_of x → (u : Value) → held_at old y ≡ Some u → held_at new y ≡ Some u
+  pub here : (y : InstanceVariable) → side_index_of y ≡ side_index_of x → held_at new y ≡ slice_get values y.variable
+  pub elsewhere : (y : InstanceVariable) → side_index_of y ≢ side_index_of x → (u : Value) → held_at old y ≡ Some u → held_at new y ≡ Some u

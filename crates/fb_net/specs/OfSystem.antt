@@ -9,13 +9,13 @@ use Rattle.fb_types.specs.declared.run.InstanceVariable.{InstanceVariable}
 use Rattle.fb_types.specs.declared.run.Target.{Target}
 use Rattle.fb_types.specs.declared.value.Value.{Value}
 use Rattle.fb_laws.specs.Typed as typed
-use Rattle.fb_types.specs.declared.run.SlotValue.{SlotValue}
+use Rattle.fb_types.specs.declared.run.InputValue.{InputValue}
 use Rattle.fb_net.specs.Emitting as emitting
 use Rattle.fb_net.specs.Outs as outs
 use Rattle.fb_net.specs.Samples as samples
 use Rattle.fb_net.specs.Worlds as worlds
-use Rattle.fb_net.specs.declared.outbox.Out.{Out}
-use Rattle.fb_net.specs.declared.outbox.Outbox.{Outbox}
+use Rattle.fb_net.specs.declared.effects.Out.{Out}
+use Rattle.fb_net.specs.declared.effects.Effects.{Effects}
 use Rattle.fb_net.specs.declared.block.Block.{Block}
 use Rattle.fb_net.specs.declared.shell.Shell.{Shell}
 
@@ -36,7 +36,7 @@ abbrev pub IsTypedSystem : Inputs → Type 0
 IsTypedSystem i = typed.IsTypedSystem (system_of i)
 
 -- what a block is after a stimulus has set slots
-abbrev pub slots_set : Inputs → (instance : ℕ) → List SlotValue → model.Block → model.Block
+abbrev pub slots_set : Inputs → (instance : ℕ) → List InputValue → model.Block → model.Block
 slots_set i = samples.slots_set (system_of i)
 
 -- the names of the variables WITH the event at an event input, and at an event output
@@ -53,7 +53,7 @@ out_of i = outs.out_of (system_of i)
 abbrev pub IsOut : Inputs → (resource : ℕ) → Out → Type 0
 IsOut i = outs.IsOut (system_of i)
 
-abbrev pub AreOuts : Inputs → (resource : ℕ) → Outbox → Type 0
+abbrev pub AreOuts : Inputs → (resource : ℕ) → Effects → Type 0
 AreOuts i = outs.AreOuts (system_of i)
 
 -- values, each with the data output at its index

@@ -21,7 +21,7 @@ use Rattle.fb_system.specs.Layouts.{AreNumbers}
 use Rattle.fb_system.specs.Ports.{IsVariable, variable_of}
 use Rattle.fb_net.specs.Blocks.{components_of, own_of}
 use Rattle.fb_net.specs.HeldAt.{held_at}
-use Rattle.fb_net.specs.Worlds.{AreApart, SeatedAt, Represents, seat_in}
+use Rattle.fb_net.specs.Worlds.{AreApart, ShellAt, Represents, index_in}
 use Rattle.fb_net.specs.declared.block.Block.{Block}
 use Rattle.fb_net.specs.declared.held_copies.HeldCopies.{HeldCopies}
 use Rattle.fb_net.specs.declared.resource.Forest.{Forest}
@@ -79,7 +79,7 @@ pub record AreGrown (i : Inputs) (depth : ℕ) (numbers : List ℕ) (blocks : Li
 -- Those of some instances of the application that are in a resource, in their order, and for each the index that it has among them.
 pub record AreRoots (i : Inputs) (r : ℕ) (top roots numbers : List ℕ) : Type 0 where
   pub each : length roots ≡ length top
-  pub there : (index k : ℕ) → slice_get top index ≡ Some k → (system_of i).resource (path_at (system_of i) k) ≡ r → slice_get numbers (seat_in roots index) ≡ Some k
+  pub there : (index k : ℕ) → slice_get top index ≡ Some k → (system_of i).resource (path_at (system_of i) k) ≡ r → slice_get numbers (index_in roots index) ≡ Some k
   pub among : (index k : ℕ) → slice_get numbers index ≡ Some k → (m : ℕ) × (slice_get top m ≡ Some k)
 
 -- Each instance of the application that is in the resource is the root of a tree.
@@ -90,15 +90,15 @@ pub record AreRooted (i : Inputs) (r : ℕ) (roots numbers : List ℕ) : Type 0 
 
 -- ---- Seats
 
--- The shells of the instances of a resource below a number have their seats, and represent what they are before the first event.
-pub record AreSeated (i : Inputs) (n : ℕ) (t : Forest) : Type 0 where
-  pub each : length t.seats ≡ n
+-- The shells of the instances of a resource below a number have their indexes, and represent what they are before the first event.
+pub record HaveShells (i : Inputs) (n : ℕ) (t : Forest) : Type 0 where
+  pub each : length t.shell_indexes ≡ n
   pub few : length t.shells ≤ n
-  pub stand : (k : ℕ) → k < n → (system_of i).resource (path_at (system_of i) k) ≡ t.resource → SeatedAt i t.seats t.shells k (opening_block (system_of i) (path_at (system_of i) k))
-  pub apart : AreApart i t.resource n t.seats
+  pub stand : (k : ℕ) → k < n → (system_of i).resource (path_at (system_of i) k) ≡ t.resource → ShellAt i t.shell_indexes t.shells k (opening_block (system_of i) (path_at (system_of i) k))
+  pub apart : AreApart i t.resource n t.shell_indexes
 
--- Nothing but seats and shells has changed.
-pub record IsSeatedAlone (old new : Forest) : Type 0 where
+-- Nothing but indexes and shells has changed.
+pub record IsShellAlone (old new : Forest) : Type 0 where
   pub resource : new.resource ≡ old.resource
   pub roots : new.roots ≡ old.roots
   pub blocks : new.blocks ≡ old.blocks

@@ -11,7 +11,7 @@ use Rattle.fb_types.specs.declared.run.Carried.{Carried}
 use Rattle.fb_types.specs.declared.run.Target.{Target}
 use Rattle.fb_types.specs.declared.value.Value.{Value}
 use Rattle.fb_system.specs.Stimuli.{set_of}
-use Rattle.fb_types.specs.declared.run.SlotValue.{SlotValue}
+use Rattle.fb_types.specs.declared.run.InputValue.{InputValue}
 use Rattle.fb_net.specs.Worlds.{InForest, IsForest}
 use Rattle.fb_net.specs.declared.resource.Forest.{Forest}
 
@@ -41,7 +41,7 @@ abbrev pub all_sampled : List Name → List Value → model.Block → model.Bloc
 all_sampled ns values b = record b { variables = with_values (pair_up ns values) b.variables }
 
 -- a stimulus has set slots
-abbrev pub slots_set : System → (instance : ℕ) → List SlotValue → model.Block → model.Block
+abbrev pub slots_set : System → (instance : ℕ) → List InputValue → model.Block → model.Block
 slots_set sys k sets b = record b { slots = with_values (map (set_of sys k) sets) b.slots }
 
 -- A message has brought values to the held copies.

@@ -83,31 +83,31 @@ Represents sys p x b = NodeRepresents (sys.kind p) (out-Block x) b.memory b.vari
 -- ---- The shells of one resource
 
 -- the index of an instance's shell among those of its resource
-abbrev pub seat_in : List ℕ → (instance : ℕ) → ℕ
-seat_in seats k = unwrap_or (slice_get seats k) 0
+abbrev pub index_in : List ℕ → (instance : ℕ) → ℕ
+index_in shell_indexes k = unwrap_or (slice_get shell_indexes k) 0
 
--- the shells with another one at the seat of an instance
-abbrev pub with_seated : Forest → (instance : ℕ) → Shell → Forest
-with_seated t k s = record t { shells = slice_set t.shells (seat_in t.seats k) s }
+-- the shells with another one at the index of an instance
+abbrev pub with_shell_at : Forest → (instance : ℕ) → Shell → Forest
+with_shell_at t k s = record t { shells = slice_set t.shells (index_in t.shell_indexes k) s }
 
--- The shell at the seat of an instance represents it.
-pub record SeatedAt (i : Inputs) (seats : List ℕ) (shells : List Shell) (k : ℕ) (b : model.Block) : Type 0 where
+-- The shell at the index of an instance represents it.
+pub record ShellAt (i : Inputs) (shell_indexes : List ℕ) (shells : List Shell) (k : ℕ) (b : model.Block) : Type 0 where
   pub shell : Shell
-  pub stood : slice_get shells (seat_in seats k) ≡ Some shell
+  pub stood : slice_get shells (index_in shell_indexes k) ≡ Some shell
   pub represents : ShellRepresents (system_of i) (path_at (system_of i) k) shell b
 
--- No two of the first instances of a resource, of which there are this many, have one seat.
+-- No two of the first instances of a resource, of which there are this many, have one index.
 unfoldable pub AreApart : Inputs → (resource count : ℕ) → List ℕ → Type 0
-AreApart i r n seats =
+AreApart i r n shell_indexes =
     (j k : ℕ) → j < n → k < n → (system_of i).resource (path_at (system_of i) j) ≡ r → (system_of i).resource (path_at (system_of i) k) ≡ r →
-    seat_in seats j ≡ seat_in seats k → j ≡ k
+    index_in shell_indexes j ≡ index_in shell_indexes k → j ≡ k
 
 -- ---- The trees of one resource
 
 -- a way that begins with another index
 abbrev pub rooted : List ℕ → List ℕ → List ℕ
 rooted roots [] = []
-rooted roots (index ∷ rest) = seat_in roots index ∷ rest
+rooted roots (index ∷ rest) = index_in roots index ∷ rest
 
 -- The way to the block of an instance: the root at the index of its outermost name, and the indexes below.
 abbrev pub way_in : Inputs → (roots : List ℕ) → (instance : ℕ) → List ℕ
@@ -136,15 +136,15 @@ pub record IsRead (sys : System) (resource : ℕ) (x : InstanceVariable) : Type 
 
 -- ---- The world of one resource
 
--- Each instance of the resource has its block on a way of its own and its shell at a seat of its own, and each variable of another resource that one is connected to has its held copy.
+-- Each instance of the resource has its block on a way of its own and its shell at an index of its own, and each variable of another resource that one is connected to has its held copy.
 pub record IsForest (i : Inputs) (t : Forest) (w : World) : Type 0 where
   pub blocks : (k : ℕ) → k < length (system_of i).paths → (system_of i).resource (path_at (system_of i) k) ≡ t.resource →
       RepresentsAt i t.roots t.blocks k (w.blocks (path_at (system_of i) k))
   pub ways : WaysDiffer i t.resource t.roots
   pub shells : (k : ℕ) → k < length (system_of i).paths → (system_of i).resource (path_at (system_of i) k) ≡ t.resource →
-      SeatedAt i t.seats t.shells k (w.blocks (path_at (system_of i) k))
-  pub seated : length (system_of i).paths ≤ length t.seats
-  pub apart : AreApart i t.resource (length (system_of i).paths) t.seats
+      ShellAt i t.shell_indexes t.shells k (w.blocks (path_at (system_of i) k))
+  pub has_shells : length (system_of i).paths ≤ length t.shell_indexes
+  pub apart : AreApart i t.resource (length (system_of i).paths) t.shell_indexes
   pub held : (x : InstanceVariable) → IsVariable (system_of i) x → IsRead (system_of i) t.resource x → (system_of i).resource (path_at (system_of i) x.instance) ≢ t.resource →
       held_at t.held x ≡ Some (w.held (variable_of (system_of i) x))
 
@@ -153,7 +153,7 @@ pub record IsForest (i : Inputs) (t : Forest) (w : World) : Type 0 where
 abbrev pub InForest : Inputs → Forest → (instance : ℕ) → Type 0
 InForest i t k = (system_of i).resource (path_at (system_of i) k) ≡ t.resource
 
--- The instance is in the resource, and the blocks represent a world. So it has its block, its seat and its shell.
+-- The instance is in the resource, and the blocks represent a world. So it has its block, its index and its shell.
 pub record Stands (i : Inputs) (t : Forest) (instance : ℕ) : Type 0 where
   pub here : InForest i t instance
   pub whole : (w : World) × IsForest i t w

@@ -8,7 +8,7 @@ ghost use Rattle.fb_types.specs.OfSystem.{IsInstance, path_at};
 ghost use Rattle.fb_system.specs.OfSystem.{IsSourceOf, IsVariable, variable_of};
 ghost use Rattle.fb_net.specs.Changes.{Changes, Holds, ShowsInside, input_sampled, output_shown};
 ghost use Rattle.fb_net.specs.HeldAt.{held_at};
-ghost use Rattle.fb_net.specs.Worlds.{InForest, IsForest, Reads, Represents, Samples, Shows, Stands, seat_in, value_in, way_in, with_seated};
+ghost use Rattle.fb_net.specs.Worlds.{InForest, IsForest, Reads, Represents, Samples, Shows, Stands, index_in, value_in, way_in, with_shell_at};
 ghost use Rattle.fb_net.specs.OfSystem.{IsComposite, TakesSamples};
 
 use crate::block::{Block, block_on};
@@ -30,7 +30,7 @@ pub struct Forest {
     pub blocks: Items<Block>,
     /// For each instance of the system, the index of its shell among `shells`. That of an instance of another resource
     /// means nothing.
-    pub seats: Items<u32>,
+    pub shell_indexes: Items<u32>,
     /// The shells of the instances that are in the resource, in the order of their numbers. They are side by side, and
     /// so each is found at once, however deep its block is.
     pub shells: Items<Shell>,
@@ -44,7 +44,7 @@ impl Drop for Forest {
             resource: _,
             roots: _,
             blocks: _,
-            seats: _,
+            shell_indexes: _,
             shells: _,
             held: _,
         } = self;
@@ -79,22 +79,22 @@ impl Forest {
 
     /// The index of an instance's shell among those of the resource, in which the instance is.
     #[inline(always)]
-    pub fn seat(&self, instance: u32) -> usize
-        ensures { result ≡ seat_in self.now.seats instance }
+    pub fn shell_index(&self, instance: u32) -> usize
+        ensures { result ≡ index_in self.now.shell_indexes instance }
     {
-        match self.seats.get(instance as usize) {
-            Some(seat) => *seat as usize,
+        match self.shell_indexes.get(instance as usize) {
+            Some(shell_index) => *shell_index as usize,
             None => 0,
         }
     }
 
-    /// The same as `seat`, for an instance that is known to have its seat: nothing is compared.
+    /// The same as `shell_index`, for an instance that is known to have its index: nothing is compared.
     #[inline(always)]
-    pub(crate) fn seat_of(&self, instance: u32) -> usize
-        requires { instance < length self.now.seats }
-        ensures { result ≡ seat_in self.now.seats instance }
+    pub(crate) fn shell_index_of(&self, instance: u32) -> usize
+        requires { instance < length self.now.shell_indexes }
+        ensures { result ≡ index_in self.now.shell_indexes instance }
     {
-        self.seats.as_slice()[instance as usize] as usize
+        self.shell_indexes.as_slice()[instance as usize] as usize
     }
 
     /// The block of an instance that is in the resource.
@@ -115,23 +115,23 @@ impl Forest {
     pub(crate) fn shell(&self, system: &System, instance: u32) -> &Shell
         requires instance { IsInstance system.now instance }
         requires stands { Stands system.now self.now instance }
-        ensures { slice_get self.now.shells (seat_in self.now.seats instance) ≡ Some result.now }
+        ensures { slice_get self.now.shells (index_in self.now.shell_indexes instance) ≡ Some result.now }
     {
         // for the prover: the inputs are accepted
         system.facts();
-        let seat = self.seat_of(instance);
-        &self.shells.as_slice()[seat]
+        let shell_index = self.shell_index_of(instance);
+        &self.shells.as_slice()[shell_index]
     }
 
     /// The shell of an instance that is in the resource, to be changed.
     #[inline(always)]
     pub(crate) fn shell_mut(&mut self, instance: u32) -> Option<&mut Shell>
-        requires { instance < length self.old.seats }
-        ensures* writes_back { sem 𝓛 (LendsIf the_row shell_row self.entry result (with_seated self.old instance) self.old) }
-        ensures value { option_map (λ s. s.now) result ≡ slice_get self.old.shells (seat_in self.old.seats instance) }
+        requires { instance < length self.old.shell_indexes }
+        ensures* writes_back { sem 𝓛 (LendsIf the_row shell_row self.entry result (with_shell_at self.old instance) self.old) }
+        ensures value { option_map (λ s. s.now) result ≡ slice_get self.old.shells (index_in self.old.shell_indexes instance) }
     {
-        let seat = self.seat_of(instance);
-        self.shells.get_mut(seat)
+        let shell_index = self.shell_index_of(instance);
+        self.shells.get_mut(shell_index)
     }
 
     /// What connections see at a data output of an instance that is in the resource.

@@ -1,7 +1,7 @@
 -- Blanks and comments, which are between tokens.
 use Rattle.std.specs.Prelude.{ℕ, Bool, true, false, ◌&&◌, ◌||◌, if◌then◌else◌, ◌==◌, List, [], ◌∷◌, Option, Some, None, slice_index}
-use Rattle.fb_read.specs.declared.blank.Position.{Position}
-use Rattle.fb_read.specs.declared.blank.Position.TheVariants.{Between, Opening, Inside, Closing, Line}
+use Rattle.fb_read.specs.declared.blank.BlankState.{BlankState}
+use Rattle.fb_read.specs.declared.blank.BlankState.TheVariants.{Between, Opening, Inside, Closing, Line}
 
 abbrev pub Text : Type 0
 Text = List ℕ
@@ -10,14 +10,14 @@ Text = List ℕ
 abbrev pub at : Text → ℕ → ℕ
 at = slice_index
 
-abbrev pub start : Position
+abbrev pub start : BlankState
 start = Between
 
 abbrev pub is_blank : ℕ → Bool
 is_blank b = b == 32 || (b == 9 || (b == 13 || b == 10))
 
 -- the position after a byte, by the byte after it; None if a token begins
-abbrev pub step : Position → ℕ → ℕ → Option Position
+abbrev pub step : BlankState → ℕ → ℕ → Option BlankState
 step Between b next =
     if is_blank b then Some Between else (if b == 40 && next == 42 then Some Opening else (if b == 47 && next == 47 then Some Line else None))
 step Opening b next = Some Inside
@@ -26,18 +26,18 @@ step Closing b next = Some Between
 step Line b next = if b == 10 then Some Between else Some Line
 
 -- a text may end here
-abbrev pub may_end : Position → Bool
+abbrev pub may_end : BlankState → Bool
 may_end Between = true
 may_end Opening = false
 may_end Inside = false
 may_end Closing = false
 may_end Line = true
 
-abbrev pub stepped : (Position → Option Text) → Text → Option Position → Option Text
+abbrev pub stepped : (BlankState → Option Text) → Text → Option BlankState → Option Text
 stepped go here None = Some here
-stepped go here (Some position) = go position
+stepped go here (Some state) = go state
 
 -- the text from its next token on; None if a comment isn't closed
-unfoldable pub skip : Position → Text → Option Text
-skip position [] = if may_end position then Some [] else None
-skip position (b ∷ bs) = stepped (λ next. skip next bs) (b ∷ bs) (step position b (at bs 0))
+unfoldable pub skip : BlankState → Text → Option Text
+skip state [] = if may_end state then Some [] else None
+skip state (b ∷ bs) = stepped (λ next. skip next bs) (b ∷ bs) (step state b (at bs 0))

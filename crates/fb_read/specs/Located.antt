@@ -2,8 +2,8 @@
 use Rattle.std.specs.Prelude.{◌≡◌, ◌≤◌, ℕ, List, [], ◌∷◌, ◌++◌, drop, length, Some, None, Ok, Err}
 use Rattle.fb_read.specs.declared.token.Token.{Token}
 use Rattle.fb_read.specs.declared.token.Located.{Located}
-use Rattle.fb_read.specs.declared.blank.Position.{Position}
-use Rattle.fb_read.specs.declared.blank.Position.TheVariants.{Between, Opening, Inside, Closing, Line}
+use Rattle.fb_read.specs.declared.blank.BlankState.{BlankState}
+use Rattle.fb_read.specs.declared.blank.BlankState.TheVariants.{Between, Opening, Inside, Closing, Line}
 use Rattle.fb_read.specs.Blank.{Text, at, skip, start}
 use Rattle.fb_read.specs.Front.{TokenFault, bad_token, front}
 
@@ -33,7 +33,7 @@ pub record IsLocatedEnd (text : Text) (ps : List Located) : Type 0 where
   pub located : AreLocated text ps rest
 
 -- the last index between comments: this one, or the one before
-abbrev pub begun : Position → ℕ → ℕ → ℕ
+abbrev pub begun : BlankState → ℕ → ℕ → ℕ
 begun Between i before = i
 begun Opening i before = before
 begun Inside i before = before

@@ -6,7 +6,7 @@ ghost use Rattle.fb_read.specs.Located as located;
 
 /// What the next byte may be part of.
 #[derive(Clone, Copy)]
-pub enum Position {
+pub enum BlankState {
     Between,
     /// The star of `(*`.
     Opening,
@@ -32,45 +32,45 @@ fn is_blank(b: u8) -> bool
 }
 
 /// The position after this byte, or `None` if a token begins.
-fn step(position: Position, b: u8, next: u8) -> Option<Position>
-    ensures { result ≡ spec.step position b next }
+fn step(state: BlankState, b: u8, next: u8) -> Option<BlankState>
+    ensures { result ≡ spec.step state b next }
 {
-    match position {
-        Position::Between => {
+    match state {
+        BlankState::Between => {
             if is_blank(b) {
-                Some(Position::Between)
+                Some(BlankState::Between)
             } else if b == b'(' && next == b'*' {
-                Some(Position::Opening)
+                Some(BlankState::Opening)
             } else if b == b'/' && next == b'/' {
-                Some(Position::Line)
+                Some(BlankState::Line)
             } else {
                 None
             }
         }
-        Position::Opening => Some(Position::Inside),
-        Position::Inside => {
+        BlankState::Opening => Some(BlankState::Inside),
+        BlankState::Inside => {
             if b == b'*' && next == b')' {
-                Some(Position::Closing)
+                Some(BlankState::Closing)
             } else {
-                Some(Position::Inside)
+                Some(BlankState::Inside)
             }
         }
-        Position::Closing => Some(Position::Between),
-        Position::Line => {
+        BlankState::Closing => Some(BlankState::Between),
+        BlankState::Line => {
             if b == b'\n' {
-                Some(Position::Between)
+                Some(BlankState::Between)
             } else {
-                Some(Position::Line)
+                Some(BlankState::Line)
             }
         }
     }
 }
 
-fn may_end(position: Position) -> bool
-    ensures { result ≡ spec.may_end position }
+fn may_end(state: BlankState) -> bool
+    ensures { result ≡ spec.may_end state }
 {
-    match position {
-        Position::Between | Position::Line => true,
+    match state {
+        BlankState::Between | BlankState::Line => true,
         _ => false,
     }
 }
@@ -80,22 +80,22 @@ pub fn skip(bytes: &[u8]) -> Option<&[u8]>
     ensures value { option_map (λ s. s.now) result ≡ spec.skip spec.start bytes.now }
     ensures shorter { IfSome result (λ s. length s.now ≤ length bytes.now) }
 {
-    let mut position = Position::Between;
+    let mut state = BlankState::Between;
     for i in 0..bytes.len() {
-        match step(position, bytes[i], at(bytes, i + 1)) {
-            Some(next) => position = next,
+        match step(state, bytes[i], at(bytes, i + 1)) {
+            Some(next) => state = next,
             None => return Some(&bytes[i..]),
         }
     }
-    if may_end(position) { Some(&[]) } else { None }
+    if may_end(state) { Some(&[]) } else { None }
 }
 
 /// The index at which the comment begins that goes on after a byte, if one does: the last index between comments.
-fn begun(position: Position, i: usize, before: usize) -> usize
-    ensures { result ≡ located.begun position i before }
+fn begun(state: BlankState, i: usize, before: usize) -> usize
+    ensures { result ≡ located.begun state i before }
 {
-    match position {
-        Position::Between => i,
+    match state {
+        BlankState::Between => i,
         _ => before,
     }
 }
@@ -107,12 +107,12 @@ pub fn open_comment(bytes: &[u8]) -> usize
     ensures there { spec.at bytes.now result ≡ 40 }
     ensures none { spec.skip spec.start (drop result bytes.now) ≡ None }
 {
-    let mut position = Position::Between;
+    let mut state = BlankState::Between;
     let mut before = 0;
     for i in 0..bytes.len() {
-        before = begun(position, i, before);
-        match step(position, bytes[i], at(bytes, i + 1)) {
-            Some(next) => position = next,
+        before = begun(state, i, before);
+        match step(state, bytes[i], at(bytes, i + 1)) {
+            Some(next) => state = next,
             None => unreachable!(),
         }
     }

@@ -12,20 +12,20 @@ use Rattle.fb_types.specs.declared.run.TimerAsk.{TimerAsk}
 use Rattle.fb_agenda.specs.Agendas.{Contents}
 use Rattle.fb_net.specs.Events.{event_of}
 use Rattle.fb_net.specs.Outs.{out_of}
-use Rattle.fb_net.specs.declared.outbox.Out.{Out}
-use Rattle.fb_net.specs.declared.outbox.Outbox.{Outbox}
+use Rattle.fb_net.specs.declared.effects.Out.{Out}
+use Rattle.fb_net.specs.declared.effects.Effects.{Effects}
 use Rattle.fb_resource.specs.Posts.{ArePosted, CountsAre, IsMessage, IsPostable}
 use Rattle.fb_resource.specs.Takings.{IsSettled}
 use Rattle.fb_resource.specs.Waiting.{IsInOrder, meaning}
 use Rattle.fb_resource.specs.declared.posting.Posting.{Posting}
-use Rattle.fb_resource.specs.declared.queues.Queues.{Queues}
+use Rattle.fb_resource.specs.declared.traffic.Traffic.{Traffic}
 
 abbrev pub system_in : Posting → System
 system_in p = system_of p.system.now
 
--- where events come from and go, with this outbox
-abbrev pub queues_in : Posting → Outbox → Queues
-queues_in p x = record { agenda = p.agenda.now; sent = p.sent.now; mail = p.mail.now; outbox = x }
+-- where events come from and go, with these effects
+abbrev pub traffic_in : Posting → Effects → Traffic
+traffic_in p x = record { agenda = p.agenda.now; sent = p.sent.now; mail = p.mail.now; effects = x }
 
 -- ---- Before
 
@@ -63,13 +63,13 @@ pub record HasSet (old : Posting) (ask : TimerAsk) (e : Event) (new : Posting) :
   pub sent : new.sent.now ≡ old.sent.now
   pub locals : new.locals.now ≡ old.locals.now
 
--- The timer was set as an outbox asks, and then what it puts out was posted, whatever was sent before.
-abbrev pub HasSettled : Posting → Outbox → Event → Posting → Outbox → Type 0
+-- The timer was set as the effects ask, and then what it puts out was posted, whatever was sent before.
+abbrev pub HasSettled : Posting → Effects → Event → Posting → Effects → Type 0
 HasSettled old from e new to =
     (counts : ℕ → ℕ) → CountsAre old.sent.now.items counts
     → IsSettled old.system.now old.key.now (path_of (event_of old.system.now e)) from.timer
     (post_all (system_in old) old.key.now (map (out_of (system_in old)) from.outs.items) (record { locals = old.locals.now; sent = counts; raised = []; messages = [] }))
-    (queues_in old from) (queues_in new to) new.locals.now
+    (traffic_in old from) (traffic_in new to) new.locals.now
 
 -- However a step ends, also where memory runs out: the posting is of the same system and key, and lends what it lent.
 pub record IsSame (old new : Posting) : Type 0 where

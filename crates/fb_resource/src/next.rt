@@ -10,7 +10,7 @@ use fb_agenda::{Agenda, Least};
 use fb_types::Key;
 use std::alloc::AllocError;
 
-/// Puts the event in the slot back on the agenda, if it was raised.
+/// Puts the event in `Least` back on the agenda, if it was raised.
 ///
 /// # Errors
 /// When memory runs out.
@@ -27,9 +27,9 @@ pub fn put_next(agenda: &mut Agenda, raised: bool, least: &Least) -> Result<(), 
     }
 }
 
-/// Takes the event with the least key, if its tick is below the horizon (in milliseconds), and moves it into the slot.
-/// Returns whether it did. The event in the slot is one of those that wait, if it was raised. Mostly it is the least:
-/// then it stays in the slot, and never goes onto the agenda.
+/// Takes the event with the least key, if its tick is below the horizon (in milliseconds), and moves it into `Least`.
+/// Returns whether it did. The event in `Least` is one of those that wait, if it was raised. Mostly it is the least:
+/// then it stays in `Least`, and never goes onto the agenda.
 ///
 /// # Errors
 /// When memory runs out.

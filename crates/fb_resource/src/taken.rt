@@ -7,7 +7,7 @@ use fb_types::Reason;
 pub struct Taken {
     /// Why its resource stops, if it does.
     pub stop: Option<Reason>,
-    /// Whether the slot has the local event that was put out, which is on no agenda. That is so if nothing else was put
+    /// Whether `Least` has the local event that was put out, which is on no agenda. That is so if nothing else was put
     /// out, nothing is asked of the timer, and the resource goes on. All else is posted.
     pub raised: bool,
 }

@@ -71,7 +71,7 @@ pub(crate) fn run_on<W: Write>(
 ) -> Result<(Until, u128), SessionFault>
     requires ready { (tick : ℕ) × IsReady system.now reach.steps tick machine.old }
     requires represents { (c : Config) × IsAt system.now c.state c.agenda machine.old }
-    requires none { machine.old.queues.outbox.lines.items ≡ [] }
+    requires none { machine.old.traffic.effects.lines.items ≡ [] }
     requires early { reach.to ≤ 10 ^ 12 }
     requires few { reach.steps ≤ 10 ^ 7 }
     ensures runs { (c : Config) → IsAt system.now c.state c.agenda machine.old → RunsOn system.now reach c machine.old machine.new (W.contents out.old) (W.contents out.new) result }

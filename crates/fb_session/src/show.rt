@@ -157,10 +157,10 @@ impl Session<'_, '_> {
     {
         self.system.facts(); // for the prover: there are at most 64 resources
         let resource = self.system.resource(instance);
-        let Some(tree) = self.machine.trees.get(resource) else {
+        let Some(resource_blocks) = self.machine.trees.get(resource) else {
             return Ok(());
         };
-        let (block, shell) = tree.instance(self.system, instance);
+        let (block, shell) = resource_blocks.instance(self.system, instance);
         let (alloc, ports) = (self.alloc, self.system.ports(instance));
         match block {
             Block::Basic(state) => match basic_type(self.system, instance) {
@@ -168,7 +168,7 @@ impl Session<'_, '_> {
                 None => Ok(()),
             },
             Block::Event(state) => {
-                let due = self.machine.queues.agenda.timer(resource as u32, instance);
+                let due = self.machine.traffic.agenda.timer(resource as u32, instance);
                 put_memory(alloc, text, state, due)?;
                 put_values(
                     alloc,

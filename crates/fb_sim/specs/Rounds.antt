@@ -312,6 +312,6 @@ pub record IsOnItsWay (i : Inputs) (limit horizon : ℕ) (core : CoreState) (ls 
   pub left : HasKept i limit horizon (core_of i limit steps) (lists_of core.pending.items) ls
 
 -- So a core is after some turns of single resources from c, which hand nothing out and lower no floor.
-pub record HasWalked (i : Inputs) (limit horizon : ℕ) (c : model_cores.Core (machine (system_of i) limit)) (ls : List Line) (core : CoreState) : Type 0 where
+pub record HasTakenTurns (i : Inputs) (limit horizon : ℕ) (c : model_cores.Core (machine (system_of i) limit)) (ls : List Line) (core : CoreState) : Type 0 where
   pub way : IsOnItsWay i limit horizon core ls
   pub floors : (m : ℕ) → IsFloor (machine (system_of i) limit) c m → IsFloor (machine (system_of i) limit) (core_of i limit way.steps) m

@@ -351,7 +351,7 @@ pub(crate) fn round_with_counts<R: Threads + Wait + Sync, W: Write, P: Gate>(
     let RoundState { core, unwritten } = round_state;
     let options = plan.options;
     // What becomes final in the turns of single resources is handed out after the next window.
-    let core = core.walk(alloc, system, options.horizon, plan.turns)?;
+    let core = core.turn_series(alloc, system, options.horizon, plan.turns)?;
     if unwritten.is_shared(options.workers) {
         let lines = unwritten.count();
         let (texts, result) = window(rt, alloc, system, core, Some(unwritten), plan, pool)?;

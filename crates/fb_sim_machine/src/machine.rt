@@ -21,8 +21,8 @@ ghost use Rattle.fb_sim_machine.specs.Runs.{IsSpent};
 use crate::deliver::deliver;
 use crate::pause::{Pause, Step};
 use fb_agenda::Least;
-use fb_net::Tree;
-use fb_resource::{Queues, Taken, TickCounts, find_next, put_next, take};
+use fb_net::ResourceBlocks;
+use fb_resource::{Traffic, Taken, TickCounts, find_next, put_next, take};
 use fb_system::System;
 use fb_types::{GivenRow, Line, Reason, StopMark};
 use std::alloc::AllocError;
@@ -31,9 +31,9 @@ use std::alloc::AllocError;
 /// counts of each.
 pub struct Machine {
     /// The one agenda, the counts of the messages of each link, and room for what takings give.
-    pub queues: Queues,
+    pub traffic: Traffic,
     /// The blocks of each resource, by its number.
-    pub trees: Vec<Tree>,
+    pub trees: Vec<ResourceBlocks>,
     /// What each resource has counted in its tick, by its number.
     pub meters: Vec<TickCounts>,
 }
@@ -42,7 +42,7 @@ pub struct Machine {
 impl Drop for Machine {
     fn drop(self) {
         let Machine {
-            queues: _,
+            traffic: _,
             trees: _,
             meters: _,
         } = self;
@@ -50,8 +50,8 @@ impl Drop for Machine {
 }
 
 impl Machine {
-    /// Takes the event in the slot, which has left the agenda, and delivers the messages that it gave. A local event
-    /// that was put out alone moves into the slot.
+    /// Takes the event in `Least`, which has left the agenda, and delivers the messages that it gave. A local event
+    /// that was put out alone moves into `Least`.
     #[inline(always)]
     fn take(&mut self, system: &System, limit: u64, least: &mut Least) -> Result<Taken, AllocError>
         requires ready { IsReady system.now limit least.old.key.tick self.old }
@@ -73,7 +73,7 @@ impl Machine {
         let taken = take(
             &mut self.trees[resource],
             &mut self.meters[resource],
-            &mut self.queues,
+            &mut self.traffic,
             system,
             limit,
             least,
@@ -82,12 +82,12 @@ impl Machine {
         if taken.raised {
             return Ok(taken);
         }
-        deliver(&mut self.queues.agenda, &mut self.queues.mail, system)?;
+        deliver(&mut self.traffic.agenda, &mut self.traffic.mail, system)?;
         Ok(taken)
     }
 
-    /// Takes the event in the slot, which has left the agenda, and delivers the messages that it gave. This is for callers
-    /// that look at each event before and after it is taken. Afterwards the slot may have another event. `Some` is the
+    /// Takes the event in `Least`, which has left the agenda, and delivers the messages that it gave. This is for callers
+    /// that look at each event before and after it is taken. Afterwards `Least` may have another event. `Some` is the
     /// reason for which the resource stops.
     ///
     /// # Errors
@@ -112,7 +112,7 @@ impl Machine {
         ensures spent { IfOk result (λ stop. stop ≡ None → IsSpent limit least.old.key self.old.meters.items self.new.meters.items) }
     {
         let taken = self.take(system, limit, least)?;
-        put_next(&mut self.queues.agenda, taken.raised, least)?;
+        put_next(&mut self.traffic.agenda, taken.raised, least)?;
         Ok(taken.stop)
     }
 
@@ -140,22 +140,22 @@ impl Machine {
         // for the prover: what holds of each system
         system.facts();
         let mut least = Least::new();
-        let mut found = self.queues.agenda.take_least_into(horizon, &mut least);
+        let mut found = self.traffic.agenda.take_least_into(horizon, &mut least);
         'events: while found {
             let taken = self.take(system, limit, &mut least)?;
             if let Some(reason) = taken.stop {
-                put_next(&mut self.queues.agenda, taken.raised, &least)?;
+                put_next(&mut self.traffic.agenda, taken.raised, &least)?;
                 return Ok(Pause::Stop(StopMark {
                     tick: least.key.tick,
                     resource: least.key.resource,
                     reason,
                 }));
             }
-            if self.queues.outbox.lines.len() >= many {
-                put_next(&mut self.queues.agenda, taken.raised, &least)?;
+            if self.traffic.effects.lines.len() >= many {
+                put_next(&mut self.traffic.agenda, taken.raised, &least)?;
                 return Ok(Pause::Lines);
             }
-            found = find_next(&mut self.queues.agenda, horizon, taken.raised, &mut least)?;
+            found = find_next(&mut self.traffic.agenda, horizon, taken.raised, &mut least)?;
         }
         Ok(Pause::Horizon)
     }
@@ -177,7 +177,7 @@ impl Machine {
         ensures { IfOk result (λ s. (c : Config) → IsAt system.now c.state c.agenda self.old → Steps system.now horizon limit c self.old self.new s) }
     {
         let mut least = Least::new();
-        if !self.queues.agenda.take_least_into(horizon, &mut least) {
+        if !self.traffic.agenda.take_least_into(horizon, &mut least) {
             return Ok(Step::Nothing);
         }
         let (tick, resource) = (least.key.tick, least.key.resource);
@@ -193,10 +193,10 @@ impl Machine {
 
     /// The tick and the resource of the least event, if one waits below the horizon. It stays where it is.
     pub fn first(&self, horizon: u64) -> Option<(u64, u32)>
-        ensures some { IfSome result (λ f. (k : keys.Key) × (k.tick ≡ f.0) × (k.resource ≡ f.1) × IsLeast self.now.queues.agenda k × (f.0 < horizon)) }
-        ensures none { IfNone result ((j : keys.Key) → j.tick < horizon → waiting self.now.queues.agenda j ≡ None) }
+        ensures some { IfSome result (λ f. (k : keys.Key) × (k.tick ≡ f.0) × (k.resource ≡ f.1) × IsLeast self.now.traffic.agenda k × (f.0 < horizon)) }
+        ensures none { IfNone result ((j : keys.Key) → j.tick < horizon → waiting self.now.traffic.agenda j ≡ None) }
     {
-        let key = self.queues.agenda.first()?;
+        let key = self.traffic.agenda.first()?;
         if key.tick < horizon {
             Some((key.tick, key.resource))
         } else {
@@ -214,29 +214,29 @@ impl Machine {
         ensures given { OnOk result ((s : State) (a : model.Agenda) → IsAt system.now s a self.old
             → IsAt system.now s (with_all ((stimulus_key tick (resource_at system.now (path_at system.now given.target.instance)) given.row, event_of system.now (events.Given given)) ∷ []) a) self.new) }
         ensures ready { OnOk result ((limit : ℕ) (from : ℕ) → from ≤ tick → IsReady system.now limit from self.old → IsReady system.now limit from self.new) }
-        ensures lines { self.new.queues.outbox.lines.items ≡ self.old.queues.outbox.lines.items }
+        ensures lines { self.new.traffic.effects.lines.items ≡ self.old.traffic.effects.lines.items }
         ensures err { OnErr result (self.new ≡ self.old) }
     {
         // for the prover: what holds of each system
         system.facts();
         let resource = system.resource(given.target.instance) as u32;
-        self.queues.agenda.put_given(tick, resource, given)
+        self.traffic.agenda.put_given(tick, resource, given)
     }
 
     /// The lines that are there.
     pub fn lines(&self) -> &[Line]
-        ensures { result.now ≡ self.now.queues.outbox.lines.items }
+        ensures { result.now ≡ self.now.traffic.effects.lines.items }
     {
-        self.queues.outbox.lines.as_slice()
+        self.traffic.effects.lines.as_slice()
     }
 
     /// Drops the lines, and nothing else. Their memory is kept for the next ones.
     pub fn clear_lines(&mut self)
-        ensures none { self.new.queues.outbox.lines.items ≡ [] }
+        ensures none { self.new.traffic.effects.lines.items ≡ [] }
         ensures at { (i : Inputs) (s : State) (a : model.Agenda) → IsAt i s a self.old → IsAt i s a self.new }
         ensures ready { (i : Inputs) (limit tick : ℕ) → IsReady i limit tick self.old → IsReady i limit tick self.new }
         ensures meters { self.new.meters ≡ self.old.meters }
     {
-        self.queues.outbox.lines.clear();
+        self.traffic.effects.lines.clear();
     }
 }

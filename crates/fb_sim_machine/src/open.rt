@@ -7,21 +7,21 @@ ghost use Rattle.fb_sim_machine.specs.Machines.{IsAt, IsReady};
 ghost use Rattle.fb_sim_machine.specs.Openings.{AreOpened};
 
 use crate::machine::Machine;
-use fb_net::Tree;
-use fb_resource::{Queues, TickCounts, open_agenda, open_sent};
+use fb_net::ResourceBlocks;
+use fb_resource::{Traffic, TickCounts, open_agenda, open_sent};
 use fb_system::System;
 use std::alloc::{AllocError, Global};
 
 /// The blocks of all resources, as they begin.
-fn open_trees(alloc: Global, system: &System) -> Result<Vec<Tree>, AllocError>
+fn open_trees(alloc: Global, system: &System) -> Result<Vec<ResourceBlocks>, AllocError>
     ensures { IfOk result (λ v. AreOpened system.now (resource_count system.now) v.items) }
 {
     // for the prover: what holds of each system
     system.facts();
     let mut trees = Vec::new(alloc);
     for resource in 0..system.resources() {
-        let tree = Tree::build(alloc, system, resource as u32)?;
-        trees.push(tree)?;
+        let resource_blocks = ResourceBlocks::build(alloc, system, resource as u32)?;
+        trees.push(resource_blocks)?;
     }
     Ok(trees)
 }
@@ -34,7 +34,7 @@ impl Machine {
     pub fn open(alloc: Global, system: &System) -> Result<Machine, AllocError>
         ensures ready { IfOk result (λ m. (limit : ℕ) → IsReady system.now limit 0 m) }
         ensures at { IfOk result (IsAt system.now (opening_state system.now) (opening_agenda system.now (stimuli_of system.now))) }
-        ensures lines { IfOk result (λ m. m.queues.outbox.lines.items ≡ []) }
+        ensures lines { IfOk result (λ m. m.traffic.effects.lines.items ≡ []) }
     {
         // for the prover: what holds of each system
         system.facts();
@@ -42,9 +42,9 @@ impl Machine {
         let sent = open_sent(alloc, system)?;
         let trees = open_trees(alloc, system)?;
         let meters = vec![in alloc; TickCounts::new(); system.resources()]?;
-        let queues = Queues::new(alloc, agenda, sent);
+        let traffic = Traffic::new(alloc, agenda, sent);
         Ok(Machine {
-            queues,
+            traffic,
             trees,
             meters,
         })

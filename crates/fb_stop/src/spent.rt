@@ -118,7 +118,7 @@ fn go_on(
     ensures counted { OnOk result (length spent.new.items ≡ instance_count system.now) }
 {
     let mut least = Least::new();
-    while run.queues.agenda.take_least_into(horizon, &mut least) {
+    while run.traffic.agenda.take_least_into(horizon, &mut least) {
         let stop = step(run, spent, moment, system, limit, &mut least)?;
         if let Some(_) = stop {
             return Ok(true);

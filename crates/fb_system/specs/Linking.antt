@@ -22,8 +22,8 @@ abbrev pub holder_at : Linked → ℕ → ℕ
 holder_at x instance = unwrap_or (slice_get x.holders instance) 0
 
 -- each instance has the resource that holds it
-abbrev pub AreHomes : Library → Plan → List ℕ → Type 0
-AreHomes lib plan homes = (k : ℕ) → k < length (paths_of lib) → slice_get homes k ≡ Some (resource_of plan (path_of lib k))
+abbrev pub AreInstanceResources : Library → Plan → List ℕ → Type 0
+AreInstanceResources lib plan instance_resources = (k : ℕ) → k < length (paths_of lib) → slice_get instance_resources k ≡ Some (resource_of plan (path_of lib k))
 
 abbrev pub sender_at : Linked → ℕ → ℕ
 sender_at x link = elim (slice_get x.ends link) [ None ↦ 0 | Some e ↦ e.from ]

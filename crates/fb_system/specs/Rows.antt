@@ -8,7 +8,7 @@ use Rattle.fb_types.specs.declared.deploy.Stimulus.{Stimulus}
 use Rattle.fb_types.specs.declared.library.Instance.{Instance}
 use Rattle.fb_types.specs.declared.library.Library.{Library}
 use Rattle.fb_types.specs.declared.library.Variable.{Variable}
-use Rattle.fb_types.specs.declared.run.SlotValue.{SlotValue}
+use Rattle.fb_types.specs.declared.run.InputValue.{InputValue}
 use Rattle.fb_system.specs.declared.rows.StimulusRow.{StimulusRow}
 
 -- ---- Settings
@@ -18,15 +18,15 @@ abbrev pub bound_of : Setting → Bound
 bound_of s = record { variable = s.variable; value = s.value }
 
 -- what the slot of the input at an index is set to
-abbrev pub set_at : List Variable → SlotValue → Bound
+abbrev pub set_at : List Variable → InputValue → Bound
 set_at vs x = record { variable = unwrap_or (slice_get (variable_names vs) x.index) []; value = x.value }
 
-pub record IsSet (vs : List Variable) (s : Setting) (x : SlotValue) : Type 0 where
+pub record IsSet (vs : List Variable) (s : Setting) (x : InputValue) : Type 0 where
   pub named : set_at vs x ≡ bound_of s
   pub within : x.index < length vs
 
 -- the settings by number, in their order
-pub record AreSets (vs : List Variable) (ss : List Setting) (xs : List SlotValue) : Type 0 where
+pub record AreSets (vs : List Variable) (ss : List Setting) (xs : List InputValue) : Type 0 where
   pub named : map (set_at vs) xs ≡ map bound_of ss
   pub within : All (λ x. x.index < length vs) xs
 

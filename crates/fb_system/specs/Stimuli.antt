@@ -8,12 +8,12 @@ use Rattle.fb_types.specs.Simulation.{Stimulus}
 use Rattle.fb_types.specs.Systems.{System}
 use Rattle.fb_types.specs.declared.value.Value.{Value}
 use Rattle.fb_system.specs.Ports.{IsPort, data_input}
-use Rattle.fb_types.specs.declared.run.SlotValue.{SlotValue}
+use Rattle.fb_types.specs.declared.run.InputValue.{InputValue}
 use Rattle.fb_system.specs.declared.stimulus.StimulusAt.{StimulusAt}
 use Rattle.fb_types.specs.declared.run.GivenRow.{GivenRow}
 
 -- a slot of an instance, with the value that it gets
-abbrev pub set_of : System → (instance : ℕ) → SlotValue → Bound
+abbrev pub set_of : System → (instance : ℕ) → InputValue → Bound
 set_of sys k x = record { variable = (data_input sys k x.index).name; value = x.value }
 
 -- The numbers represent the stimulus at a row.

@@ -4,7 +4,7 @@ use Rattle.fb_types.specs.EventPorts.{ArePortsOfKinds}
 use Rattle.fb_types.specs.Headline.{Inputs, AreAccepted, system_of}
 use Rattle.fb_check_names.specs.Numbers.{IsResolved}
 use Rattle.fb_system.specs.Tables.{AreInterfaces}
-use Rattle.fb_system.specs.Linking.{AreHomes, IsLinked, holders_of}
+use Rattle.fb_system.specs.Linking.{AreInstanceResources, IsLinked, holders_of}
 use Rattle.fb_system.specs.Rows.{AreRows}
 use Rattle.fb_system.specs.Ends.{AreSources}
 use Rattle.fb_system.specs.PortRows.{ArePortRows}
@@ -31,7 +31,7 @@ pub record AreTables (w : Whole) : Type 0 where
   pub event_blocks : ArePortsOfKinds w.event_blocks
   pub interfaces : AreInterfaces w.netlist w.interfaces
   pub rows : AreRows w.netlist w.stimuli w.rows
-  pub homes : AreHomes w.netlist w.deploy w.homes
+  pub instance_resources : AreInstanceResources w.netlist w.deploy w.instance_resources
 
 -- The rows that are kept are among them: heads of lines, event ports, and sources of variables.
 pub record HaveRows (w : Whole) : Type 0 where

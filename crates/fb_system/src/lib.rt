@@ -9,7 +9,7 @@
 //! - Instances and connections: `layout`, the tree of composites as a list; `wiring`, where the connections of a network
 //!   lead, with `connection_table`; `netlist`, the lookups in both, and `netlist_target`, where a connection leads;
 //!   `tables` and `declared`, how a lookup works; `making`.
-//! - Resources: `links`, resources and links; `homes`, the resources of all instances.
+//! - Resources: `links`, resources and links; `instance_resources`, the resources of all instances.
 //! - Types: `interfaces` with `with_indexes` and `event_block_with_indexes`, the variables WITH each event.
 //! - Rows for lookups in one step, in `kept`, found by `row_ranges`: `heads` with `heads_of`, the heads of lines, and
 //!   `ends` with `ends_of`, event ports (`port_row`, `next_target`; `port_tables` makes them) and where variables come
@@ -28,7 +28,7 @@ mod event_block_with_indexes;
 pub mod given;
 pub mod heads;
 mod heads_of;
-mod homes;
+mod instance_resources;
 mod initial_values;
 pub mod interfaces;
 mod kept;

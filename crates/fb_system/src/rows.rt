@@ -1,6 +1,6 @@
 //! Stimuli by number.
 
-use fb_types::{Items, SlotValue};
+use fb_types::{Items, InputValue};
 
 /// A stimulus by number.
 #[derive(Drop)]
@@ -12,5 +12,5 @@ pub struct StimulusRow {
     /// The index among the event inputs of the instance's type.
     pub event: u32,
     /// The slots that it sets, in the order of the stimulus. The indexes are among the data inputs of the type.
-    pub sets: Items<SlotValue>,
+    pub sets: Items<InputValue>,
 }

@@ -1,6 +1,6 @@
 //! The view of a stimulus.
 
-use fb_types::{SlotValue, Target};
+use fb_types::{InputValue, Target};
 
 /// A stimulus of a system: its tick in milliseconds, the event input that it triggers, and the slots that it sets.
 #[derive(Clone, Copy)]
@@ -10,5 +10,5 @@ pub struct StimulusAt<'a> {
     /// The event input.
     pub target: Target,
     /// The slots that it sets before the event is taken.
-    pub sets: &'a [SlotValue],
+    pub sets: &'a [InputValue],
 }

@@ -17,14 +17,14 @@ ghost use Rattle.fb_types.specs.Text.{path_text};
 ghost use Rattle.fb_types.specs.OfSystem.{IsInstance, IsResource, instance_count, kind_at, link_count, path_at, port_of, ports_at, resource_at, resource_count, resource_name, targets_at};
 ghost use Rattle.fb_system.specs.Layouts.{AreComponents, AreNumbers, IsParent, route_to};
 ghost use Rattle.fb_check_names.specs.Numbers.{kind_of_number};
-ghost use Rattle.fb_system.specs.Linking.{AreHomes, IsLinked};
+ghost use Rattle.fb_system.specs.Linking.{AreInstanceResources, IsLinked};
 ghost use Rattle.fb_system.specs.PortRows.{IsPortRow};
 ghost use Rattle.fb_system.specs.Systems.{inputs_of, IsBare, IsGiven, IsKept, AreTables};
 ghost use Rattle.fb_system.specs.OfSystem.{AreTogether, IsHead, IsPort, IsSource, IsSourceOf, IsTarget, IsVariable, LeadsTo, arrival_over, initial_inputs, initial_outputs, link_between, link_of, number_at, receiver_of, sender_of, source_at, variable_of};
 
 use crate::given::Given;
 use crate::heads::{Head, HeadOf};
-use crate::homes::add_homes;
+use crate::instance_resources::add_instance_resources;
 use crate::initial_values::{input_values, output_values};
 use crate::kept::{Kept, kept_of};
 use crate::links::Links;
@@ -121,7 +121,7 @@ impl System {
             event_blocks,
             interfaces,
             rows,
-            homes: Items::new(alloc),
+            instance_resources: Items::new(alloc),
             kept: Kept::new(alloc),
         };
         System::of_tables(alloc, tables)
@@ -129,11 +129,11 @@ impl System {
 
     /// The system of tables of accepted inputs. It fills in the resources of all instances.
     fn of_tables(alloc: Global, mut tables: Whole) -> Result<System, AllocError>
-        requires stands { (homes : List ℕ) → (IsLinked tables.netlist tables.deploy tables.links → AreHomes tables.netlist tables.deploy homes) → AreTables (record tables { homes = homes }) }
+        requires stands { (instance_resources : List ℕ) → (IsLinked tables.netlist tables.deploy tables.links → AreInstanceResources tables.netlist tables.deploy instance_resources) → AreTables (record tables { instance_resources = instance_resources }) }
         requires bare { IsBare tables.kept }
         ensures { IfOk result (λ s. s ≡ inputs_of tables) }
     {
-        add_homes(alloc, &mut tables)?;
+        add_instance_resources(alloc, &mut tables)?;
         let whole = Arc::new(alloc, tables)?;
         let bare = System { whole };
         let rows = kept_of(alloc, &bare)?;
@@ -337,7 +337,7 @@ impl System {
         requires { IsInstance self.now instance }
         ensures { result ≡ resource_at self.now (path_at self.now instance) }
     {
-        self.whole.homes.as_slice()[instance as usize]
+        self.whole.instance_resources.as_slice()[instance as usize]
     }
 
     /// The number of resources, at most 256.

@@ -26,7 +26,7 @@ pub(crate) struct Whole {
     /// The stimuli by number.
     pub rows: Items<StimulusRow>,
     /// For each instance, the resource that holds it.
-    pub homes: Items<usize>,
+    pub instance_resources: Items<usize>,
     /// Rows for the most frequent lookups of an event.
     pub kept: Kept,
 }
@@ -44,7 +44,7 @@ impl Whole {
             event_blocks,
             interfaces,
             rows: stimulus_rows,
-            homes,
+            instance_resources,
             kept: _,
         } = self;
         Whole {
@@ -55,7 +55,7 @@ impl Whole {
             event_blocks,
             interfaces,
             rows: stimulus_rows,
-            homes,
+            instance_resources,
             kept: rows,
         }
     }
@@ -72,7 +72,7 @@ impl Drop for Whole {
             event_blocks: _,
             interfaces: _,
             rows: _,
-            homes: _,
+            instance_resources: _,
             kept: _,
         } = self;
     }

@@ -8,7 +8,7 @@ ghost use Rattle.fb_trace.specs.End.{ending_of};
 ghost use Rattle.fb_trace.specs.Progress.{Gathers, IsPartWritten};
 ghost use Rattle.fb_trace.specs.OfSystem.{EndsIn};
 
-use crate::fault::WriteFault;
+use crate::fault::WriteError;
 use crate::page::Page;
 use crate::pieces::put_tick_and_resource;
 use fb_system::System;
@@ -24,7 +24,7 @@ pub enum Outcome {
     Stop(StopMark),
 }
 
-fn put_horizon<W: Write>(page: &mut Page, out: &mut W, horizon: u64) -> Result<(), WriteFault>
+fn put_horizon<W: Write>(page: &mut Page, out: &mut W, horizon: u64) -> Result<(), WriteError>
     ensures { Gathers (W.contents out.old) (W.contents out.new) page.old page.new
         (codes "end " ++ decimal horizon ++ 10 ∷ []) result }
 {
@@ -49,7 +49,7 @@ fn put_last<W: Write>(
     out: &mut W,
     system: &System,
     end: Outcome,
-) -> Result<(), WriteFault>
+) -> Result<(), WriteError>
     requires { EndsIn system.now end }
     ensures { Gathers (W.contents out.old) (W.contents out.new) page.old page.new
         (last_line system.now (ending_of end)) result }
@@ -71,7 +71,7 @@ fn put_last<W: Write>(
 /// # Errors
 /// If the writer returns an error or takes no byte. It then has a beginning of the line, but not all of it. The fault
 /// says how many bytes.
-pub fn write_last<W: Write>(out: &mut W, system: &System, end: Outcome) -> Result<(), WriteFault>
+pub fn write_last<W: Write>(out: &mut W, system: &System, end: Outcome) -> Result<(), WriteError>
     requires { EndsIn system.now end }
     ensures whole { OnOk result
         (Appends (W.contents out.old) (W.contents out.new) (last_line system.now (ending_of end))) }

@@ -21,7 +21,7 @@ mod page;
 mod pieces;
 mod start;
 
-pub use fault::WriteFault;
+pub use fault::WriteError;
 pub use front::write_front;
 pub use last::{Outcome, write_last};
 pub use lines::{write_lines, write_lines_with_count, write_parts};

@@ -6,7 +6,7 @@ ghost use Rattle.fb_trace.specs.Progress.{Gathers, Fails, bounded};
 
 use crate::copy::{copy_row, copy_text};
 use crate::digit_rows::{DigitRow, DigitRows, MOST, ROW};
-use crate::fault::WriteFault;
+use crate::fault::WriteError;
 use crate::front::write_front;
 use crate::number::{MOST_DIGITS, write_digits};
 use std::io::Write;
@@ -42,7 +42,7 @@ impl Model for Page {
 }
 
 /// Writes all the bytes. `written` counts earlier bytes, and the result counts both.
-fn write_all<W: Write>(out: &mut W, bytes: &[u8], written: u128) -> Result<u128, WriteFault>
+fn write_all<W: Write>(out: &mut W, bytes: &[u8], written: u128) -> Result<u128, WriteError>
     ensures got { OnOk result (Appends (W.contents out.old) (W.contents out.new) bytes.now) }
     ensures counted { IfOk result (λ n. n ≡ bounded (written + length bytes.now)) }
     ensures part { IfErr result (λ f. Fails (W.contents out.old) (W.contents out.new)
@@ -51,7 +51,7 @@ fn write_all<W: Write>(out: &mut W, bytes: &[u8], written: u128) -> Result<u128,
     let taken = write_front(out, bytes);
     let written = written.saturating_add(taken as u128);
     if taken < bytes.len() {
-        return Err(WriteFault { written });
+        return Err(WriteError { written });
     }
     Ok(written)
 }
@@ -94,7 +94,7 @@ impl Page {
     }
 
     /// Writes all that waits.
-    pub(crate) fn flush<W: Write>(&mut self, out: &mut W) -> Result<(), WriteFault>
+    pub(crate) fn flush<W: Write>(&mut self, out: &mut W) -> Result<(), WriteError>
         ensures text { Gathers (W.contents out.old) (W.contents out.new) self.old self.new [] result }
         ensures empty { OnOk result (self.new.waiting ≡ []) }
     {
@@ -104,7 +104,7 @@ impl Page {
     }
 
     /// Appends bytes. If they do not fit, all that waits is written first.
-    pub(crate) fn put<W: Write>(&mut self, out: &mut W, bytes: &[u8]) -> Result<(), WriteFault>
+    pub(crate) fn put<W: Write>(&mut self, out: &mut W, bytes: &[u8]) -> Result<(), WriteError>
         ensures { Gathers (W.contents out.old) (W.contents out.new) self.old self.new bytes.now result }
     {
         if bytes.len() > SIZE - self.used {
@@ -124,7 +124,7 @@ impl Page {
         &mut self,
         out: &mut W,
         count: usize,
-    ) -> Result<(), WriteFault>
+    ) -> Result<(), WriteError>
         requires { count ≤ SIZE }
         ensures text { Gathers (W.contents out.old) (W.contents out.new) self.old self.new [] result }
         ensures room { OnOk result (length self.new.waiting + count ≤ SIZE) }
@@ -312,7 +312,7 @@ impl Page {
         &mut self,
         out: &mut W,
         number: u128,
-    ) -> Result<(), WriteFault>
+    ) -> Result<(), WriteError>
         ensures { Gathers (W.contents out.old) (W.contents out.new) self.old self.new (decimal number) result }
     {
         let mut digits = [0; MOST_DIGITS];

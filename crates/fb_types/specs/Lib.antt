@@ -2,7 +2,7 @@ pub mod formers
 pub mod Latencies
 pub mod Limits
 pub mod Names
-pub mod Words
+pub mod ShortNumbers
 pub mod NameOrder
 pub mod Spelt
 pub mod Syntax

@@ -24,13 +24,13 @@ abbrev pub data_pairs_of : Library → List (Port × Port)
 data_pairs_of lib = pairs_in [] lib.application.network.data_connections
 
 -- a connection whose ends are in two resources
-abbrev pub IsCut : Plan → Port × Port → Type 0
-IsCut plan c = resource_of plan c.0.at ≢ resource_of plan c.1.at
+abbrev pub IsCrossing : Plan → Port × Port → Type 0
+IsCrossing plan c = resource_of plan c.0.at ≢ resource_of plan c.1.at
 
--- E27: a cut connection has no link.
+-- E27: a crossing connection has no link.
 abbrev pub NoLink : Library → Plan → Type 0
 NoLink lib plan =
-    (c : Port × Port) × Contains (event_pairs_of lib ++ data_pairs_of lib) c × IsCut plan c
+    (c : Port × Port) × Contains (event_pairs_of lib ++ data_pairs_of lib) c × IsCrossing plan c
     × (link_between plan (resource_of plan c.0.at) (resource_of plan c.1.at) ≡ None)
 
 -- An output event WITH the variable goes from the same block to the same resource.
@@ -39,6 +39,6 @@ IsServed lib plan c =
     (e : Port × Port) × (k : Kind) × Contains (event_pairs_of lib) e × (e.0.at ≡ c.0.at) × (kind_at lib c.0.at ≡ Some k)
     × Contains (outputs_with (ports_of k) e.0.name) c.0.name × (resource_of plan e.1.at ≡ resource_of plan c.1.at)
 
--- E28: no event serves a cut data connection.
+-- E28: no event serves a crossing data connection.
 abbrev pub NoEvent : Library → Plan → Type 0
-NoEvent lib plan = (c : Port × Port) × Contains (data_pairs_of lib) c × IsCut plan c × ¬ (IsServed lib plan c)
+NoEvent lib plan = (c : Port × Port) × Contains (data_pairs_of lib) c × IsCrossing plan c × ¬ (IsServed lib plan c)

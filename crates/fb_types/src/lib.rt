@@ -65,7 +65,7 @@ pub use numbered::Numbered;
 pub use reference::Reference;
 pub use run::{
     Carried, Emission, Emits, Event, Form, GivenRow, Halt, InstanceVariable, Line, Message,
-    SlotValue, StopMark, Target, TimerAsk, Values,
+    InputValue, StopMark, Target, TimerAsk, Values,
 };
 pub use text::{BinaryOperator, Body, Branch, Choice, Expr, Label, Stmt, UnaryOperator};
 pub use value::{Reason, Ty, Value};

@@ -3,7 +3,7 @@
 ghost use Rattle.std.specs.Prelude.{◌≡◌, ◌≤◌, IfOk, List, ℕ, length};
 ghost use Rattle.fb_types.specs.Names.{same_name};
 ghost use Rattle.fb_types.specs.Spelt.{spelt};
-ghost use Rattle.fb_types.specs.Words.{digit, packed as number_of, word_of as number_for, most};
+ghost use Rattle.fb_types.specs.ShortNumbers.{digit, packed as number_of, short_number_of as number_for, most};
 
 use crate::boxed::Boxed;
 use crate::items::Items;
@@ -27,19 +27,19 @@ pub struct Name {
     /// The bytes as one number, so that most names are compared in a few instructions. It is 0 if the name is too long
     /// for the number, or has a byte that is not an upper-case letter, digit or underscore: such names are compared byte
     /// by byte.
-    word: u64,
+    short_number: u64,
 }
 
 impl Model for Name {
     ghost use Rattle.std.specs.Prelude.{◌≡◌, List, ℕ};
     ghost use Rattle.fb_types.specs.Spelt.{spelt};
-    ghost use Rattle.fb_types.specs.Words.{word_of};
+    ghost use Rattle.fb_types.specs.ShortNumbers.{short_number_of};
 
     ghost Value = { List ℕ };
 
     ghost view = { λ n. spelt n.spelling };
 
-    ghost invariant = { λ n. n.word ≡ word_of (spelt n.spelling) };
+    ghost invariant = { λ n. n.short_number ≡ short_number_of (spelt n.spelling) };
 }
 
 impl Drop for Name {
@@ -47,7 +47,7 @@ impl Drop for Name {
     fn drop(self) {
         let Name {
             spelling: _,
-            word: _,
+            short_number: _,
         } = self;
     }
 }
@@ -58,8 +58,8 @@ impl Name {
         ensures { IfOk result (λ n. n ≡ bytes.now) }
     {
         let spelling = spelling_of(alloc, bytes)?;
-        let word = word_of(bytes);
-        Ok(Name { spelling, word })
+        let short_number = short_number_of(bytes);
+        Ok(Name { spelling, short_number })
     }
 
     /// The name with the bytes of a text.
@@ -81,10 +81,10 @@ impl Name {
 
     /// The number of the name, or 0 if it has none.
     #[inline(always)]
-    pub fn word(&self) -> u64
+    pub fn short_number(&self) -> u64
         ensures { result ≡ number_for self.now }
     {
-        self.word
+        self.short_number
     }
 
     /// Whether the two are the same name. Both are in upper case, so letter case makes no difference.
@@ -92,10 +92,10 @@ impl Name {
     pub fn is(&self, other: &Name) -> bool
         ensures { result ≡ same_name self.now other.now }
     {
-        if self.word != other.word {
+        if self.short_number != other.short_number {
             return false;
         }
-        self.word != 0 || self.is_spelt_as(other)
+        self.short_number != 0 || self.is_spelt_as(other)
     }
 
     /// The same as `is`, byte by byte.
@@ -114,7 +114,7 @@ impl Name {
         let spelling = copy_of(alloc, &self.spelling)?;
         Ok(Name {
             spelling,
-            word: self.word,
+            short_number: self.short_number,
         })
     }
 }
@@ -151,7 +151,7 @@ fn on_heap(alloc: Global, bytes: &[u8]) -> Result<Spelling, AllocError>
 }
 
 /// The number of a name.
-pub(crate) fn word_of(bytes: &[u8]) -> u64
+pub(crate) fn short_number_of(bytes: &[u8]) -> u64
     ensures { result ≡ number_for bytes.now }
 {
     if bytes.len() <= 12 { packed(bytes) } else { 0 }

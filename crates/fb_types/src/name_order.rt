@@ -6,7 +6,7 @@ ghost use Rattle.std.specs.Cmp as laws;
 ghost use Rattle.std.specs.Ordering.{eq_by_cmp};
 ghost use Rattle.fb_types.specs.NameOrder.{name_cmp, name_cmp_total, name_eq_equiv};
 
-use crate::name::{Name, word_of};
+use crate::name::{Name, short_number_of};
 use std::cmp::Ordering;
 use std::collections::btree_map::Comparable;
 
@@ -82,10 +82,10 @@ impl<'b> Comparable<&'b Name> for &[u8] {
 fn order_of<'x>(name: &'x Name, other: &'x Name) -> Ordering
     ensures { result ≡ name_cmp name.now other.now }
 {
-    if name.word() != other.word() {
-        return name.word().cmp(&other.word());
+    if name.short_number() != other.short_number() {
+        return name.short_number().cmp(&other.short_number());
     }
-    if name.word() != 0 {
+    if name.short_number() != 0 {
         return Ordering::Equal;
     }
     name.as_bytes().cmp(&other.as_bytes())
@@ -95,9 +95,9 @@ fn order_of<'x>(name: &'x Name, other: &'x Name) -> Ordering
 fn order_of_bytes<'x>(bytes: &'x [u8], other: &'x Name) -> Ordering
     ensures { result ≡ name_cmp bytes.now other.now }
 {
-    let word = word_of(bytes);
-    if word != other.word() {
-        return word.cmp(&other.word());
+    let short_number = short_number_of(bytes);
+    if short_number != other.short_number() {
+        return short_number.cmp(&other.short_number());
     }
     bytes.cmp(&other.as_bytes())
 }

@@ -102,7 +102,7 @@ impl Drop for Message {
 
 /// A value for the slot of the data input at an index.
 #[derive(Clone, Copy)]
-pub struct SlotValue {
+pub struct InputValue {
     /// The index among the data inputs of the type.
     pub index: u32,
     /// The value, which is one of the input's type.
@@ -118,7 +118,7 @@ pub struct GivenRow {
     /// The event input.
     pub target: Target,
     /// The slots that it sets before the event is taken, in the order of the row.
-    pub sets: Items<SlotValue>,
+    pub sets: Items<InputValue>,
 }
 
 impl Drop for GivenRow {

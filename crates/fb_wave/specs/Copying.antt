@@ -65,12 +65,12 @@ IsRefusedAt end t number left old new Read = Unit {0}
 IsRefusedAt end t number left old new (Write n) = Unit {0}
 
 -- the writer did not fail
-abbrev pub IsNoWriteFault : WaveError → Type 0
-IsNoWriteFault (Refused line) = Unit {0}
-IsNoWriteFault Names = Unit {0}
-IsNoWriteFault Memory = Unit {0}
-IsNoWriteFault Read = Unit {0}
-IsNoWriteFault (Write n) = ⊥
+abbrev pub IsNoWriteError : WaveError → Type 0
+IsNoWriteError (Refused line) = Unit {0}
+IsNoWriteError Names = Unit {0}
+IsNoWriteError Memory = Unit {0}
+IsNoWriteError Read = Unit {0}
+IsNoWriteError (Write n) = ⊥
 
 -- The text is that of a line with which a trace can go on, and the line was reported.
 pub record IsTaken (sys : System) (form : Form) (text : List ℕ) (old new : Progress) : Type 0 where

@@ -3,7 +3,7 @@
 ghost use Rattle.std.specs.Prelude.{◌≡◌, ◌<◌, ◌↔◌, ℕ, ◌+◌, ◌^◌, List, [], ◌∷◌, ◌++◌, true, false, length, if◌then◌else◌, IfErr, IfOk, IfSome, OnOk, IsTrue};
 ghost use Rattle.std.specs.Io.KnownBytes.{Consumes, IsAtEnd};
 ghost use Rattle.fb_types.specs.Systems.{System as Flat};
-ghost use Rattle.fb_wave.specs.Copying.{IsAfter, IsCutFinished, IsCutUnfinished, IsFirstLine, IsNoWriteFault, IsRefusedAt, RefusesEnd};
+ghost use Rattle.fb_wave.specs.Copying.{IsAfter, IsCutFinished, IsCutUnfinished, IsFirstLine, IsNoWriteError, IsRefusedAt, RefusesEnd};
 ghost use Rattle.fb_wave.specs.Faults.{IsReadFault};
 ghost use Rattle.fb_wave.specs.Named as named;
 ghost use Rattle.fb_wave.specs.Words.{is_word};
@@ -128,7 +128,7 @@ impl Progress {
     ) -> Result<(), WaveError>
         requires { IsDump table.now.system.now self.old.dump }
         ensures taken { OnOk result (IsTaken table.now.system.now form line.now self.old self.new) }
-        ensures fault { IfErr result IsNoWriteFault }
+        ensures fault { IfErr result IsNoWriteError }
         ensures tick { IfErr result (λ e. self.new.tick ≡ self.old.tick) }
         ensures refused { HasNames table.now.system.now
             → IfErr result (RefusesLine table.now.system.now form self.old.tick number line.now) }

@@ -9,7 +9,7 @@ pub mod Frontiers
 pub mod Leaving
 pub mod Settling
 pub mod Reached
-pub mod Walking
+pub mod ManyTurns
 pub mod Noting
 pub mod Texts
 pub mod Turning

@@ -6,7 +6,7 @@
 //! knows nothing of this code, says what the rounds lead to.
 //!
 //! Read in this order: `laws`; `cores`, `links` and `open`, what a core is; `bounds`; `leave` and `job`; `settle`, with
-//! `home`, `post`, `frontier`, `cut`, `ends` and `paired`; `walk`, with `nexts`.
+//! `home`, `post`, `frontier`, `cut`, `ends` and `paired`; `turn_series`, with `nexts`.
 #![tactic(auto)]
 
 pub mod bounds;
@@ -24,7 +24,7 @@ mod open;
 mod paired;
 mod post;
 pub mod settle;
-mod walk;
+mod turn_series;
 
 pub use cores::{Away, AwayState, Bounds, Core, CoreState, Failed, Reach, Settled};
 pub use job::Job;

@@ -13,7 +13,7 @@ use Rattle.fb_agenda.specs.Agendas.{AreApart, AreRising, Contents, IsFirst, IsLe
 use Rattle.fb_agenda.specs.Laters.{Pending}
 use Rattle.fb_agenda.specs.Lists.{AreSplit, BeginsAt, IsPopped, Sets}
 use Rattle.fb_types.specs.declared.run.Event.{Event}
-use Rattle.fb_agenda.specs.Slots.{taken}
+use Rattle.fb_agenda.specs.LeastEvents.{taken}
 use Rattle.fb_agenda.specs.declared.least.Least.{Least}
 use Rattle.fb_agenda.proofs.lemmas.Lists.{few_is_first, leads_less, leads_not_less, lookup_both, many_is_first, none_below}
 use Rattle.fb_agenda.proofs.lemmas.Orders.{either_some, less_from, not_below, not_none, precedes_tick}

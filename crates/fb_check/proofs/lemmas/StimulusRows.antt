@@ -27,7 +27,7 @@ use Rattle.fb_check_names.specs.Numbers.{each_or_none, index_of}
 use Rattle.fb_types.proofs.lemmas.lists.ByIndex.{slice_get-push}
 use Rattle.fb_types.proofs.lemmas.lists.Elements.{Contains-here}
 use Rattle.fb_check_names.specs.Indexes.{index_in}
-use Rattle.fb_types.specs.declared.run.SlotValue.{SlotValue}
+use Rattle.fb_types.specs.declared.run.InputValue.{InputValue}
 use Rattle.fb_system.specs.declared.rows.StimulusRow.{StimulusRow}
 use Rattle.fb_system.specs.Rows.{IsSet, AreSets, IsRow, AreRows, AreRowsUpTo}
 use Rattle.fb_check.specs.Directory.{IsDirectory, IsFound, IsInputs, IsTaken, has_pair, held_slot, holds, input_in, input_of, is_settable, ports_at, slot_of}
@@ -46,13 +46,13 @@ use Rattle.fb_check.proofs.lemmas.RefusedStimuli.{HasRefused, refused_more}
 held_some : (o : Option Input) (v : Value) → is_some (held_slot o v) ≡ elim o as (λ _. Bool) [ None ↦ false | Some i ↦ fits i.ty v ]
 held_some None v = refl
 held_some (Some i) v =
-    let it : SlotValue = record { index = i.index; value = v } in
+    let it : InputValue = record { index = i.index; value = v } in
     elim (fits i.ty v) as (λ b. is_some (if b then Some it else None) ≡ b) [ true ↦ refl | false ↦ refl ]
 
 -- there is a slot exactly for a setting that can be made
 slot_some : (d : Directory) (x : TypeInputs) (s : Stimulus) (v : Setting) → is_some (slot_of d x s v) ≡ is_settable d x s v
 slot_some d x s v =
-    let held : Option SlotValue = held_slot (input_in x.variables v.variable) v.value in
+    let held : Option InputValue = held_slot (input_in x.variables v.variable) v.value in
     let can : Bool = holds x v.variable v.value in
     let free : Bool = not (has_pair d.targets s.instance v.variable) in
     elim (has_pair x.withs s.event v.variable) as (λ b. is_some (if b && free then held else None) ≡ (b && (free && can))) [
@@ -80,7 +80,7 @@ set_is p s k n h e =
       within = subst (λ (j : ℕ). j < length p.inputs) (sym e) (slice_get_within p.inputs k at.0 at.1);
     }
 
-held_set : (p : Ports) (x : TypeInputs) (v : Setting) (y : SlotValue) → IsInputs p x → held_slot (input_in x.variables v.variable) v.value ≡ Some y → IsSet p.inputs v y
+held_set : (p : Ports) (x : TypeInputs) (v : Setting) (y : InputValue) → IsInputs p x → held_slot (input_in x.variables v.variable) v.value ≡ Some y → IsSet p.inputs v y
 held_set p x v y is h =
     let name : Variable → Name = λ w. w.name in
     let index : Option ℕ = position (same_name v.variable) (variable_names p.inputs) in
@@ -88,14 +88,14 @@ held_set p x v y is h =
       | None ↦ λ e g. absurd (cc)
       | Some k ↦ λ e g.
           let at = position_is name v.variable p.inputs k e in
-          let it : SlotValue = record { index = k; value = v.value } in
+          let it : InputValue = record { index = k; value = v.value } in
           (elim (fits at.0.ty v.value) as (λ b. (if b then Some it else None) ≡ Some y → IsSet p.inputs v y) [
             | false ↦ λ f. absurd (cc)
-            | true ↦ λ f. subst (λ (z : SlotValue). IsSet p.inputs v z) (same_Some it y f) (set_is p v k k e refl)
+            | true ↦ λ f. subst (λ (z : InputValue). IsSet p.inputs v z) (same_Some it y f) (set_is p v k k e refl)
           ]) (sym (ap (λ (o : Option Variable). held_slot (option_map (input_of k) o) v.value) at.1) ∙ g)
     ] refl (sym (ap (λ (o : Option Input). held_slot o v.value) (is.variables.first v.variable)) ∙ h)
 
-slot_set : (p : Ports) (d : Directory) (x : TypeInputs) (s : Stimulus) (v : Setting) (y : SlotValue) → IsInputs p x → slot_of d x s v ≡ Some y → IsSet p.inputs v y
+slot_set : (p : Ports) (d : Directory) (x : TypeInputs) (s : Stimulus) (v : Setting) (y : InputValue) → IsInputs p x → slot_of d x s v ≡ Some y → IsSet p.inputs v y
 slot_set p d x s v y is h =
     elim (has_pair x.withs s.event v.variable && not (has_pair d.targets s.instance v.variable)) as
     (λ b. (if b then held_slot (input_in x.variables v.variable) v.value else None) ≡ Some y → IsSet p.inputs v y) [
@@ -104,18 +104,18 @@ slot_set p d x s v y is h =
     ] h
 
 slots_set :
-    (p : Ports) (d : Directory) (x : TypeInputs) (s : Stimulus) (vs : List Setting) (ys : List SlotValue) → IsInputs p x → each_or_none (slot_of d x s) vs ≡ Some ys
+    (p : Ports) (d : Directory) (x : TypeInputs) (s : Stimulus) (vs : List Setting) (ys : List InputValue) → IsInputs p x → each_or_none (slot_of d x s) vs ≡ Some ys
     → AreSets p.inputs vs ys
 slots_set p d x s [] ys is h =
     let none : [] ≡ ys = cc in
-    subst (λ (zs : List SlotValue). AreSets p.inputs [] zs) none (record { named = refl; within = All-nil (λ (y : SlotValue). y.index < length p.inputs) })
+    subst (λ (zs : List InputValue). AreSets p.inputs [] zs) none (record { named = refl; within = All-nil (λ (y : InputValue). y.index < length p.inputs) })
 slots_set p d x s (v ∷ vs) ys is h =
     let r = each_parts (slot_of d x s) v vs ys h in
     let here = slot_set p d x s v r.0 is r.2 in
     let rest = slots_set p d x s vs r.1 is r.3 in
-    subst (λ (zs : List SlotValue). AreSets p.inputs (v ∷ vs) zs) (sym r.4) (record {
+    subst (λ (zs : List InputValue). AreSets p.inputs (v ∷ vs) zs) (sym r.4) (record {
       named = λ j. here.named j ∷ rest.named j;
-      within = All-cons (λ (y : SlotValue). y.index < length p.inputs) r.0 r.1 here.within rest.within;
+      within = All-cons (λ (y : InputValue). y.index < length p.inputs) r.0 r.1 here.within rest.within;
     })
 
 -- ---- Events

@@ -8,7 +8,7 @@ use Rattle.std.specs.BTreeSet.{BTreeSet, contains_by}
 use Rattle.std.specs.Borrow.{Bor}
 use Rattle.fb_types.specs.Names.{Name, Port, same_name}
 use Rattle.fb_types.specs.Flat.{link_between, name_of_resource, port_in, resource_of}
-use Rattle.fb_types.specs.Mapped.{IsCut}
+use Rattle.fb_types.specs.Mapped.{IsCrossing}
 use Rattle.fb_types.specs.declared.library.Connection.{Connection}
 use Rattle.fb_types.specs.declared.library.Library.{Library}
 use Rattle.fb_types.specs.declared.deploy.Plan.{Plan}
@@ -46,7 +46,7 @@ is_linked plan c = are_linked plan (resource_of plan (pair_of c).0.at) (resource
 pub record IsNoLinkAt (lib : Library) (plan : Plan) (u : NoLinkAt) : Type 0 where
   pub at_index : Connection
   pub found : slice_get (connections_of u.flow lib.application.network) u.connection ≡ Some at_index
-  pub cut : IsCut plan (pair_of at_index)
+  pub crossing : IsCrossing plan (pair_of at_index)
   pub none : link_between plan (resource_of plan (pair_of at_index).0.at) (resource_of plan (pair_of at_index).1.at) ≡ None
 
 -- ---- All, in the order of the declaration

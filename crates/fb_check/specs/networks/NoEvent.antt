@@ -5,7 +5,7 @@ use Rattle.std.specs.List.{list_any}
 use Rattle.fb_types.specs.Names.{Name, same_path}
 use Rattle.fb_types.specs.Blocks.{Kind, among, ports_of, outputs_with}
 use Rattle.fb_types.specs.Flat.{kind_at, port_in, resource_of}
-use Rattle.fb_types.specs.Mapped.{IsCut, IsServed}
+use Rattle.fb_types.specs.Mapped.{IsCrossing, IsServed}
 use Rattle.fb_types.specs.declared.library.Connection.{Connection}
 use Rattle.fb_types.specs.declared.library.Library.{Library}
 use Rattle.fb_types.specs.declared.deploy.Plan.{Plan}
@@ -42,7 +42,7 @@ is_served lib plan d = is_whole plan d || list_any (brings lib plan d) lib.appli
 pub record IsNoEventAt (lib : Library) (plan : Plan) (k : ℕ) : Type 0 where
   pub at_index : Connection
   pub found : slice_get lib.application.network.data_connections k ≡ Some at_index
-  pub cut : IsCut plan (pair_of at_index)
+  pub crossing : IsCrossing plan (pair_of at_index)
   pub alone : ¬ (IsServed lib plan (pair_of at_index))
 
 -- all such data connections, in the order of the declaration

@@ -3,7 +3,7 @@ pub mod Frames
 pub mod BlockOpened
 pub mod Growing
 pub mod Roots
-pub mod Seating
+pub mod ShellIndexes
 pub mod BlockWays
 pub mod OpeningCopies
 pub mod OwnParts

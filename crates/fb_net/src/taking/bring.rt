@@ -13,7 +13,7 @@ ghost use Rattle.fb_net.specs.Worlds.{Stands};
 
 use crate::resource::Forest;
 use fb_system::System;
-use fb_types::{Carried, InstanceVariable, MessageValues, SlotValue, Target, Value};
+use fb_types::{Carried, InstanceVariable, MessageValues, InputValue, Target, Value};
 
 /// Gives the variables WITH an event input, which are at `indexes`, the values that they sampled. The instance is an
 /// event block or a composite, and is in the resource.
@@ -43,7 +43,7 @@ pub(crate) fn keep_samples(
 }
 
 /// Sets the slots of a stimulus, at an instance that is in the resource.
-pub(crate) fn set_slots(forest: &mut Forest, system: &System, instance: u32, sets: &[SlotValue])
+pub(crate) fn set_slots(forest: &mut Forest, system: &System, instance: u32, sets: &[InputValue])
     requires instance { IsInstance system.now instance }
     requires stands { Stands system.now forest.old instance }
     requires within { All (λ s. s.index < length (ports_at system.now (path_at system.now instance)).inputs) sets.now }

@@ -50,8 +50,8 @@ pub fn react_event(
     // for the prover: the inputs are accepted
     system.facts();
     let (first, below) = forest.way(system, at.instance);
-    let seat = forest.seat_of(at.instance);
-    let Some(shell) = forest.shells.get(seat) else {
+    let shell_index = forest.shell_index_of(at.instance);
+    let Some(shell) = forest.shells.get(shell_index) else {
         unreachable!()
     };
     let inputs = shell.inputs.as_slice();

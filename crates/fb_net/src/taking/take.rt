@@ -72,7 +72,7 @@ impl Taking<'_> {
                     &mut ask,
                 ) {
                     Ok(()) => {
-                        self.outbox.ask_timer(ask);
+                        self.effects.ask_timer(ask);
                         self.emit_all(instance, emits)
                     }
                     Err(_) => Err(AllocError),

@@ -1,4 +1,4 @@
--- The blocks, the counts and the queues at the beginning.
+-- The blocks, the counts and its traffic at the beginning.
 use Rattle.std.proofs.Common.{◌≡◌, ℕ, All, length, refl, sym, subst, Option}
 use Rattle.std.proofs.lemmas.List.Elements.{All-nil}
 use Rattle.fb_types.specs.Headline.{Inputs, AreAccepted, system_of}
@@ -13,7 +13,7 @@ use Rattle.fb_resource.specs.Openings.{IsOpened}
 use Rattle.fb_resource.specs.Posts.{IsMessage}
 use Rattle.fb_resource.specs.Takings.{AreReady, IsEmpty, IsHere}
 use Rattle.fb_resource.specs.Waiting.{IsInOrder}
-use Rattle.fb_resource.specs.declared.queues.Queues.{Queues}
+use Rattle.fb_resource.specs.declared.traffic.Traffic.{Traffic}
 use Rattle.fb_resource.specs.Counts.{IsMetered}
 use Rattle.fb_resource.proofs.lemmas.Meters.{fresh_counts, metered_fresh}
 
@@ -29,7 +29,7 @@ pub metered_opened : (limit : ℕ) → IsMetered limit fresh_counts
 metered_opened limit = metered_fresh limit fresh_counts refl
 
 -- an agenda in order is ready before anything was given
-pub ready_empty : (i : Inputs) (tick : ℕ) (q : Queues) → IsInOrder i tick q.agenda → length q.agenda.due ≡ length (system_of i).paths
+pub ready_empty : (i : Inputs) (tick : ℕ) (q : Traffic) → IsInOrder i tick q.agenda → length q.agenda.due ≡ length (system_of i).paths
     → length q.sent.items ≡ (system_of i).links → IsEmpty q → AreReady i tick q
 ready_empty i tick q order due counted empty = record {
   order = order;
@@ -41,5 +41,5 @@ ready_empty i tick q order due counted empty = record {
   keeps = empty.keeps;
 }
 
-pub ready_opened : (i : Inputs) (of : Option ℕ) (q : Queues) → IsOpened i of q.agenda → length q.sent.items ≡ (system_of i).links → IsEmpty q → AreReady i 0 q
+pub ready_opened : (i : Inputs) (of : Option ℕ) (q : Traffic) → IsOpened i of q.agenda → length q.sent.items ≡ (system_of i).links → IsEmpty q → AreReady i 0 q
 ready_opened i of q opened counted empty = ready_empty i 0 q opened.order opened.due counted empty

@@ -10,7 +10,7 @@ use Rattle.fb_agenda.specs.Agendas.{Contents, waiting}
 use Rattle.fb_types.specs.declared.run.Event.{Event}
 use Rattle.fb_net.specs.Events.{event_of}
 use Rattle.fb_resource.specs.Takings.{AreReady}
-use Rattle.fb_resource.specs.declared.queues.Queues.{Queues}
+use Rattle.fb_resource.specs.declared.traffic.Traffic.{Traffic}
 use Rattle.fb_resource.specs.Waiting.{IsInOrder, meaning}
 
 -- an agenda from which one key was taken
@@ -53,8 +53,8 @@ meaning_left i k old new a is left j = go (same_key k j) (left j)
     go true h = sym (ap (option_map (event_of i)) h)
     go false h = is j ∙ sym (ap (option_map (event_of i)) h)
 
--- the queues from whose agenda the least key was taken, from its tick on
-pub ready_left : (i : Inputs) (t : ℕ) (k : Key) (q : Queues) (a : Contents) → AreReady i t q → Left k q.agenda a
+-- its traffic from whose agenda the least key was taken, from its tick on
+pub ready_left : (i : Inputs) (t : ℕ) (k : Key) (q : Traffic) (a : Contents) → AreReady i t q → Left k q.agenda a
     → ((j : Key) → Precedes j k → waiting q.agenda j ≡ None) → a.due ≡ q.agenda.due → AreReady i k.tick (record q { agenda = a })
 ready_left i t k q a ready left least due = record {
   order = order_left i t k q.agenda a ready.order left least due;

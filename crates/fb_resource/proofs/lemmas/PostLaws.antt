@@ -21,10 +21,10 @@ use Rattle.fb_types.proofs.lemmas.lists.TakeLaws.{found-put}
 use Rattle.fb_agenda.specs.Agendas.{Contents, waiting, IsTimed}
 use Rattle.fb_types.specs.declared.run.Event.{Event}
 use Rattle.fb_types.specs.declared.run.Event.TheVariants.{Arrival, Local}
-use Rattle.fb_net.specs.declared.outbox.OutgoingMessage.{OutgoingMessage}
+use Rattle.fb_net.specs.declared.effects.OutgoingMessage.{OutgoingMessage}
 use Rattle.fb_net.specs.Outs.{IsLocal, out_of}
-use Rattle.fb_net.specs.declared.outbox.Out.{Out}
-use Rattle.fb_net.specs.declared.outbox.Out.TheVariants as outs
+use Rattle.fb_net.specs.declared.effects.Out.{Out}
+use Rattle.fb_net.specs.declared.effects.Out.TheVariants as outs
 use Rattle.fb_net.specs.Events.{event_of}
 use Rattle.fb_resource.specs.Posts.{ArePosted, CountsAre, IsMessage, IsPut, IsSendable, arriving, message_of}
 pub use Rattle.fb_link.proofs.lemmas.Lists.{next_of}

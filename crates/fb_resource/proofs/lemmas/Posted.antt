@@ -12,11 +12,11 @@ use Rattle.fb_types.specs.declared.run.TimerAsk.{TimerAsk}
 use Rattle.fb_types.specs.declared.run.TimerAsk.TheVariants.{Keep}
 use Rattle.fb_agenda.specs.Agendas.{Contents}
 use Rattle.fb_net.specs.Outs.{out_of}
-use Rattle.fb_net.specs.declared.outbox.Out.{Out}
-use Rattle.fb_net.specs.declared.outbox.Outbox.{Outbox}
+use Rattle.fb_net.specs.declared.effects.Out.{Out}
+use Rattle.fb_net.specs.declared.effects.Effects.{Effects}
 use Rattle.fb_system.specs.Lines.{BelongsTo}
 use Rattle.fb_resource.specs.Posts.{ArePosted, CountsAre, IsMessage, IsPostable, arriving}
-use Rattle.fb_resource.specs.Postings.{HasGrown, HasPosted, HasSet, IsSame, MayPost, queues_in, system_in}
+use Rattle.fb_resource.specs.Postings.{HasGrown, HasPosted, HasSet, IsSame, MayPost, traffic_in, system_in}
 use Rattle.fb_resource.specs.Takings.{AreReady}
 use Rattle.fb_resource.specs.Waiting.{IsInOrder}
 use Rattle.fb_resource.specs.declared.posting.Posting.{Posting}
@@ -57,8 +57,8 @@ grown_then a b c m n most same within first next =
     record { may = next.may; later = λ all. arrive_later (first.later all); few = omega (arith, within, one, more) }
 
 -- when all is posted, events may be taken again
-pub ready_again : (a b : Posting) (x : Outbox) → IsSame a b → MayPost b → All (BelongsTo (system_in a)) x.lines.items → x.outs.items ≡ [] → x.timer ≡ Keep
-    → AreReady a.system.now a.key.now.tick (queues_in b x)
+pub ready_again : (a b : Posting) (x : Effects) → IsSame a b → MayPost b → All (BelongsTo (system_in a)) x.lines.items → x.outs.items ≡ [] → x.timer ≡ Keep
+    → AreReady a.system.now a.key.now.tick (traffic_in b x)
 ready_again a b x same may lines none keeps = record {
   order = already (λ (i : Inputs) (k : Key). IsInOrder i k.tick b.agenda.now) a b same may.order;
   due = already (λ (i : Inputs) (k : Key). length b.agenda.now.due ≡ length (system_of i).paths) a b same may.due;

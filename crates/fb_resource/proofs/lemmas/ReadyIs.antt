@@ -24,9 +24,9 @@ use Rattle.fb_agenda.specs.Agendas.{Contents, IsTimed, IsInResource, timer_set, 
 use Rattle.fb_types.specs.declared.run.Event.{Event}
 use Rattle.fb_types.specs.declared.run.Event.TheVariants.{Timer}
 use Rattle.fb_net.specs.Outs.{IsOut, only_lines, out_of}
-use Rattle.fb_net.specs.declared.outbox.Out.{Out}
-use Rattle.fb_net.specs.declared.outbox.Out.TheVariants.{Local, Send}
-use Rattle.fb_net.specs.declared.outbox.Outbox.{Outbox}
+use Rattle.fb_net.specs.declared.effects.Out.{Out}
+use Rattle.fb_net.specs.declared.effects.Out.TheVariants.{Local, Send}
+use Rattle.fb_net.specs.declared.effects.Effects.{Effects}
 use Rattle.fb_net.specs.Events.{CameTo, event_of}
 use Rattle.fb_net.proofs.lemmas.taking.AskedTimers.{asked_first}
 use Rattle.fb_net.specs.declared.resource.Forest.{Forest}
@@ -130,11 +130,11 @@ postable i sound k (o ∷ os) h g t =
     }
 
 -- what came of a reaction may be posted, and sets a timer of now or later
-pub came_good : (i : Inputs) (k : Key) (e : Event) (left after : ℕ) (stop : _) (tree : Forest) (x : Outbox) (before : _) (w : World) → AreAccepted i → IsWithinLimits i.plan
+pub came_good : (i : Inputs) (k : Key) (e : Event) (left after : ℕ) (stop : _) (resource_blocks : Forest) (x : Effects) (before : _) (w : World) → AreAccepted i → IsWithinLimits i.plan
     → (system_of i).resource (path_of (event_of i e)) ≡ k.resource → AreTyped (system_of i) w → IsTypedEvent (system_of i) (event_of i e)
-    → CameTo i k e (only_lines before) left stop tree after x w
+    → CameTo i k e (only_lines before) left stop resource_blocks after x w
     → All (IsOut (system_of i) k.resource) x.outs.items → All (IsPostable (system_of i) k.resource) x.outs.items × IsLater k.tick x.timer
-came_good i k e left after stop tree x before w accepted limits home typed_world typed_event came outs = (
+came_good i k e left after stop resource_blocks x before w accepted limits home typed_world typed_event came outs = (
   postable i sound k x.outs.items outs
       (subst (λ os. Each (IsGood (system_of i) sound k) os) (sym came.represents.outs) good.outs)
       (subst (λ (os : List reactions.Out). All (IsTypedOut (system_of i)) os) (sym came.represents.outs) kept.outs),

@@ -17,7 +17,7 @@ use Rattle.fb_types.specs.declared.run.Event.{Event}
 use Rattle.fb_net.specs.Events.{event_of}
 use Rattle.fb_resource.specs.Runs.{Running, RepresentsRunning}
 use Rattle.fb_resource.specs.Takings.{IsHere, IsTakenHere}
-use Rattle.fb_resource.specs.declared.queues.Queues.{Queues}
+use Rattle.fb_resource.specs.declared.traffic.Traffic.{Traffic}
 use Rattle.fb_resource.specs.Waiting.{meaning}
 use Rattle.fb_resource.proofs.lemmas.Leaving.{Left, still}
 use Rattle.fb_laws.proofs.lemmas.takings.Effects.{takes_good}
@@ -34,8 +34,8 @@ abbrev pub item_at : (i : Inputs) (limit : ℕ) → Key → AnEvent → Effect �
 item_at i limit k e x = record { key = k; event = e; out = outcome_of (system_of i) k x }
 
 pub takes_alone : (i : Inputs) (limit r : ℕ) (l : Local (machine (system_of i) limit)) (x : Running) (s : RepresentsRunning i limit l x) (k : Key) (e : Event) (left : Contents) (effect : Effect)
-    → x.tree.resource ≡ r → k.resource ≡ r → x.stopped ≡ None → IsAtResource (system_of i) k (event_of i e)
-    → HasLeft k e x.queues.agenda left → Takes (system_of i) limit s.state k (event_of i e) effect
+    → x.resource_blocks.resource ≡ r → k.resource ≡ r → x.stopped ≡ None → IsAtResource (system_of i) k (event_of i e)
+    → HasLeft k e x.traffic.agenda left → Takes (system_of i) limit s.state k (event_of i e) effect
     → TakesAlone (machine (system_of i) limit) r l (item_at i limit k (event_of i e) effect)
 takes_alone i limit r l x s k e left effect here mine live fits gone takes = record {
   mine = mine;
@@ -57,10 +57,10 @@ changes_own : (i : Inputs) (limit : ℕ) (s : State) (k : Key) (e : AnEvent) (ef
     → Takes (system_of i) limit s k e effect → ChangesOwn (machine (system_of i) limit) (item_at i limit k e effect)
 changes_own i limit s k e effect sound fits takes j v h = ((takes_good (system_of i) sound k limit s e fits effect takes).changes j v h).class
 
-pub stands_after : (i : Inputs) (limit : ℕ) (l : Local (machine (system_of i) limit)) (old new : Running) (s : RepresentsRunning i limit l old) (k : Key) (e : Event) (mid : Queues) (stop : Option Reason)
-    → IsSound (system_of i) → new.tree.resource ≡ old.tree.resource → k.resource ≡ old.tree.resource → new.stopped ≡ stop → IsAtResource (system_of i) k (event_of i e)
-    → HasLeft k e old.queues.agenda mid.agenda
-    → (t : IsTakenHere i limit s.state k (event_of i e) stop new.clock new.tree new.meter mid new.queues)
+pub stands_after : (i : Inputs) (limit : ℕ) (l : Local (machine (system_of i) limit)) (old new : Running) (s : RepresentsRunning i limit l old) (k : Key) (e : Event) (mid : Traffic) (stop : Option Reason)
+    → IsSound (system_of i) → new.resource_blocks.resource ≡ old.resource_blocks.resource → k.resource ≡ old.resource_blocks.resource → new.stopped ≡ stop → IsAtResource (system_of i) k (event_of i e)
+    → HasLeft k e old.traffic.agenda mid.agenda
+    → (t : IsTakenHere i limit s.state k (event_of i e) stop new.clock new.resource_blocks new.meter mid new.traffic)
     → RepresentsRunning i limit (after (machine (system_of i) limit) l (item_at i limit k (event_of i e) t.effect)) new
 stands_after i limit l old new s k e mid stop sound same mine stopped fits gone t =
     let M = machine (system_of i) limit in
@@ -68,11 +68,11 @@ stands_after i limit l old new s k e mid stop sound same mine stopped fits gone 
     let own = changes_own i limit s.state k (event_of i e) t.effect sound fits t.takes in
     let parted : IsParted M l = record { own = s.own; inbox = s.inbox } in
     let later = parted_after M l item parted own in
-    let now : k.resource ≡ new.tree.resource = mine ∙ sym same in
+    let now : k.resource ≡ new.resource_blocks.resource = mine ∙ sym same in
     record {
       state = t.effect.state;
       part = ap (λ r. part_of (system_of i) r t.effect.state) now;
-      here = subst (λ r. IsHere i t.effect.state r new.clock new.tree new.meter) now t.here;
+      here = subst (λ r. IsHere i t.effect.state r new.clock new.resource_blocks new.meter) now t.here;
       counts = t.counts;
       own = later.own;
       inbox = later.inbox;
@@ -80,10 +80,10 @@ stands_after i limit l old new s k e mid stop sound same mine stopped fits gone 
       stop = t.stops ∙ sym stopped;
     }
   where
-    rest : (j : Key) → j.resource ≡ old.tree.resource → without k (machines.waiting (machine (system_of i) limit) l) j ≡ meaning i mid.agenda j
+    rest : (j : Key) → j.resource ≡ old.resource_blocks.resource → without k (machines.waiting (machine (system_of i) limit) l) j ≡ meaning i mid.agenda j
     rest j here = go (same_key k j) (gone.left j)
       where
-        go : (b : Bool) → waiting mid.agenda j ≡ cond b None (waiting old.queues.agenda j) → cond b None (machines.waiting (machine (system_of i) limit) l j) ≡ meaning i mid.agenda j
+        go : (b : Bool) → waiting mid.agenda j ≡ cond b None (waiting old.traffic.agenda j) → cond b None (machines.waiting (machine (system_of i) limit) l j) ≡ meaning i mid.agenda j
         go true h = sym (ap (option_map (event_of i)) h)
         go false h = s.waits j here ∙ sym (ap (option_map (event_of i)) h)
 

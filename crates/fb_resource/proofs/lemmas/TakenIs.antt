@@ -19,7 +19,7 @@ use Rattle.fb_agenda.specs.Agendas.{Contents, timer_set}
 use Rattle.fb_types.specs.declared.run.Event.{Event}
 use Rattle.fb_types.specs.declared.run.Event.TheVariants.{Timer}
 use Rattle.fb_net.specs.Outs.{only_lines, out_of}
-use Rattle.fb_net.specs.declared.outbox.Outbox.{Outbox}
+use Rattle.fb_net.specs.declared.effects.Effects.{Effects}
 use Rattle.fb_net.specs.Events.{CameTo, event_of}
 use Rattle.fb_net.proofs.lemmas.taking.AskedTimers.{asked_first}
 use Rattle.fb_net.specs.Worlds.{IsForest}
@@ -30,7 +30,7 @@ use Rattle.fb_laws.proofs.lemmas.typing.Simulated.{IsTypedConfig, takes-typed}
 use Rattle.fb_resource.specs.Counts.{meter_of}
 use Rattle.fb_resource.specs.Posts.{CountsAre, arriving}
 use Rattle.fb_resource.specs.Takings.{IsHere, IsSettled, IsTakenHere}
-use Rattle.fb_resource.specs.declared.queues.Queues.{Queues}
+use Rattle.fb_resource.specs.declared.traffic.Traffic.{Traffic}
 use Rattle.fb_resource.specs.Waiting.{meaning}
 use Rattle.fb_resource.specs.declared.tick_counts.TickCounts as counted
 use Rattle.fb_resource.proofs.lemmas.Meters.{alike_same}
@@ -44,7 +44,7 @@ takes_none sys limit s k e m is none =
     subst (λ (n : Meter). TakesWith sys s k e n n.left (out_of_steps s)) (sym is)
     (subst (λ (l : ℕ). TakesWith sys s k e m l (out_of_steps s)) (sym none) refl)
 
-pub taken_none : (i : Inputs) (limit : ℕ) (s : State) (k : Key) (e : AnEvent) (m : Meter) (from : ℕ) (t : Forest) (x : counted.TickCounts) (q : Queues)
+pub taken_none : (i : Inputs) (limit : ℕ) (s : State) (k : Key) (e : AnEvent) (m : Meter) (from : ℕ) (t : Forest) (x : counted.TickCounts) (q : Traffic)
     → begun limit k.tick (s.meters k.resource) ≡ m → m.left ≡ 0 → IsHere i s k.resource from t x → CountsAre q.sent.items s.sent
     → IsTakenHere i limit s k e (Some reason.Steps) from t x q q
 taken_none i limit s k e m from t x q is none here counts = record {
@@ -55,7 +55,7 @@ taken_none i limit s k e m from t x q is none here counts = record {
   counts = counts;
   agenda = λ j. refl;
   mail = sym (append-nil (map (arriving i) q.mail.items));
-  lines = sym (append-nil (map (line_of (system_of i)) q.outbox.lines.items));
+  lines = sym (append-nil (map (line_of (system_of i)) q.effects.lines.items));
 }
 
 -- ---- One step is used
@@ -89,7 +89,7 @@ put_first : (o : Option AnEvent) (t : Option (Option AnEvent)) (z : Option AnEve
 put_first (Some x) t z = refl
 put_first None t z = refl
 
-agenda_is : (i : Inputs) (k : Key) (p : Path) (ask : TimerAsk) (x : Posts) (old new : Queues) (locals : ℕ) → IsSettled i k p ask x old new locals
+agenda_is : (i : Inputs) (k : Key) (p : Path) (ask : TimerAsk) (x : Posts) (old new : Traffic) (locals : ℕ) → IsSettled i k p ask x old new locals
     → (j : Key) → meaning i new.agenda j ≡ changed_to (or_else (put_of (found j x.raised)) (timer_change (system_of i) k.resource p ask j)) (meaning i old.agenda j)
 agenda_is i k p ask x old new locals settled j =
     settled.posted.agenda j
@@ -102,17 +102,17 @@ with_at_here n x f = ap (λ b. cond b x (f n)) (eq-eqb n n refl)
 -- ---- The taking
 
 -- What an event came to in its tree was settled: it is taken, whether or not its reaction stops.
-pub taken_one : (i : Inputs) (limit : ℕ) (s : State) (k : Key) (e : Event) (m meter : counted.TickCounts) (l : ℕ) (stop : Option Reason) (old mid new : Queues) (from : ℕ) (before : Forest) (was : counted.TickCounts) (tree : Forest) (x : Outbox)
+pub taken_one : (i : Inputs) (limit : ℕ) (s : State) (k : Key) (e : Event) (m meter : counted.TickCounts) (l : ℕ) (stop : Option Reason) (old mid new : Traffic) (from : ℕ) (before : Forest) (was : counted.TickCounts) (resource_blocks : Forest) (x : Effects)
     → IsTypedSystem (system_of i) → IsTypedEvent (system_of i) (event_of i e)
     → IsHere i s k.resource from before was → CountsAre old.sent.items s.sent
     → begun limit k.tick (s.meters k.resource) ≡ meter_of m → m.meter.left ≡ suc l
-    → CameTo i k e (only_lines (map (line_of (system_of i)) old.outbox.lines.items)) l stop tree meter.meter.left x (world_of s k.resource)
-    → mid ≡ record old { outbox = x }
+    → CameTo i k e (only_lines (map (line_of (system_of i)) old.effects.lines.items)) l stop resource_blocks meter.meter.left x (world_of s k.resource)
+    → mid ≡ record old { effects = x }
     → ((counts : ℕ → ℕ) → CountsAre mid.sent.items counts
     → IsSettled i k (path_of (event_of i e)) x.timer (post_all (system_of i) k (map (out_of (system_of i)) x.outs.items) (record { locals = m.locals; sent = counts; raised = []; messages = [] })) mid new meter.locals)
-    → meter.tick ≡ Some k.tick → new.outbox.lines.items ≡ x.lines.items
-    → IsTakenHere i limit s k (event_of i e) stop from tree meter old new
-taken_one i limit s k e m meter l stop old mid new from before was tree x sound typed at counted_before is left came between settled tick shown = record {
+    → meter.tick ≡ Some k.tick → new.effects.lines.items ≡ x.lines.items
+    → IsTakenHere i limit s k (event_of i e) stop from resource_blocks meter old new
+taken_one i limit s k e m meter l stop old mid new from before was resource_blocks x sound typed at counted_before is left came between settled tick shown = record {
   effect = effect;
   takes = takes;
   stops = came.stops;
@@ -149,9 +149,9 @@ taken_one i limit s k e m meter l stop old mid new from before was tree x sound 
 
     after_old : IsSettled i k (path_of event) x.timer (post_all sys k (map (out_of sys) x.outs.items) start) old new meter.locals
     after_old =
-        let it = settled s.sent (subst (λ (q : Queues). CountsAre q.sent.items s.sent) (sym between) counted_before) in
-        let mail : mid.mail.items ≡ old.mail.items = ap (λ (q : Queues). q.mail.items) between in
-        let agenda : mid.agenda ≡ old.agenda = ap (λ (q : Queues). q.agenda) between in
+        let it = settled s.sent (subst (λ (q : Traffic). CountsAre q.sent.items s.sent) (sym between) counted_before) in
+        let mail : mid.mail.items ≡ old.mail.items = ap (λ (q : Traffic). q.mail.items) between in
+        let agenda : mid.agenda ≡ old.agenda = ap (λ (q : Traffic). q.agenda) between in
         record {
           mid = it.mid;
           set = λ j. it.set j ∙ ap (λ (a : Contents). changed_to (timer_change sys k.resource (path_of event) x.timer j) (meaning i a j)) agenda;
@@ -167,8 +167,8 @@ taken_one i limit s k e m meter l stop old mid new from before was tree x sound 
     its = subst (λ ask. IsSettled i k (path_of event) ask posts old new meter.locals) (came.represents.timer ∙ asked_first o.timer)
         (subst (λ (os : List Out). IsSettled i k (path_of event) x.timer (post_all sys k os start) old new meter.locals) came.represents.outs after_old)
 
-    here : IsForest i tree (world_of state k.resource)
-    here = subst (λ h. IsForest i tree (record { blocks = o.world.blocks; held = h })) (sym (with_at_here k.resource o.world.held s.held)) came.represents.world
+    here : IsForest i resource_blocks (world_of state k.resource)
+    here = subst (λ h. IsForest i resource_blocks (record { blocks = o.world.blocks; held = h })) (sym (with_at_here k.resource o.world.held s.held)) came.represents.world
 
     metered : state.meters k.resource ≡ meter_of meter
     metered =

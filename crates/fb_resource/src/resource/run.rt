@@ -2,13 +2,13 @@
 
 ghost use Rattle.std.specs.Prelude.{◌≡◌, ◌^◌, ◌≤◌, None, IfOk};
 ghost use Rattle.fb_resource.specs.Resources.{HasRun, IsOf};
-ghost use Rattle.fb_resource.specs.Runs.{with_queues};
+ghost use Rattle.fb_resource.specs.Runs.{with_traffic};
 ghost use Rattle.fb_resource.specs.Takings.{IsEmpty};
 ghost use Rattle.fb_resource.specs.declared.resource.WindowDone.TheVariants.{Ran};
 
 use crate::next::{find_next, put_next};
 use crate::one_taking::take;
-use crate::queues::Queues;
+use crate::traffic::Traffic;
 use crate::resource::{Output, Resource, WindowDone};
 use crate::tick_counts::TickCounts;
 use fb_agenda::{Agenda, Least};
@@ -18,52 +18,52 @@ use std::alloc::{AllocError, Global};
 use std::mem;
 
 impl Resource {
-    /// Takes all events of its queues below a tick, least key first, or up to the stop, which is returned. The lines
-    /// and the messages gather in the queues. Every event of a later run has a later tick, so that each run counts
+    /// Takes all events of its traffic below a tick, least key first, or up to the stop, which is returned. The lines
+    /// and the messages gather in its traffic. Every event of a later run has a later tick, so that each run counts
     /// afresh.
     ///
     /// # Errors
     /// When memory runs out, or a link has carried 2^128 messages.
     fn take_all(
         &mut self,
-        queues: &mut Queues,
+        traffic: &mut Traffic,
         system: &System,
         to: u64,
         steps: u64,
     ) -> Result<Option<StopMark>, AllocError>
-        requires of { IsOf system.now (with_queues self.old queues.old) }
-        requires empty { IsEmpty queues.old }
+        requires of { IsOf system.now (with_traffic self.old traffic.old) }
+        requires empty { IsEmpty traffic.old }
         requires live { self.old.stopped ≡ None }
         requires ahead { self.old.clock ≤ to }
         requires early { to ≤ 10 ^ 12 }
         requires few { steps ≤ 10 ^ 7 }
-        ensures { IfOk result (λ stop. HasRun system.now steps (with_queues self.old queues.old) to (Ran (with_queues self.new queues.new) queues.new.outbox.lines queues.new.mail stop)) }
+        ensures { IfOk result (λ stop. HasRun system.now steps (with_traffic self.old traffic.old) to (Ran (with_traffic self.new traffic.new) traffic.new.effects.lines traffic.new.mail stop)) }
     {
         // for the prover: what holds of each system
         system.facts();
         let mut counts = TickCounts::new();
         let mut least = Least::new();
-        let mut found = queues.agenda.take_least_into(to, &mut least);
+        let mut found = traffic.agenda.take_least_into(to, &mut least);
         'events: while found {
             self.clock = least.key.tick;
             let taken = take(
-                &mut self.tree,
+                &mut self.resource_blocks,
                 &mut counts,
-                queues,
+                traffic,
                 system,
                 steps,
                 &mut least,
             )?;
             self.stopped = taken.stop;
             if let Some(reason) = self.stopped {
-                put_next(&mut queues.agenda, taken.raised, &least)?;
+                put_next(&mut traffic.agenda, taken.raised, &least)?;
                 return Ok(Some(StopMark {
                     tick: least.key.tick,
                     resource: least.key.resource,
                     reason,
                 }));
             }
-            found = find_next(&mut queues.agenda, to, taken.raised, &mut least)?;
+            found = find_next(&mut traffic.agenda, to, taken.raised, &mut least)?;
         }
         self.clock = to;
         Ok(None)
@@ -159,11 +159,11 @@ impl Resource {
     {
         let agenda = mem::replace(&mut self.agenda, Agenda::none(alloc));
         let sent = mem::replace(&mut self.sent, Vec::new(alloc));
-        let mut queues = Queues::over(alloc, agenda, sent, spent);
-        let stop = self.take_all(&mut queues, system, to, steps)?;
-        let lines = mem::replace(&mut queues.outbox.lines, Vec::new(alloc));
-        let mail = mem::replace(&mut queues.mail, Vec::new(alloc));
-        let (agenda, sent) = queues.into_kept();
+        let mut traffic = Traffic::over(alloc, agenda, sent, spent);
+        let stop = self.take_all(&mut traffic, system, to, steps)?;
+        let lines = mem::replace(&mut traffic.effects.lines, Vec::new(alloc));
+        let mail = mem::replace(&mut traffic.mail, Vec::new(alloc));
+        let (agenda, sent) = traffic.into_kept();
         self.agenda = agenda;
         self.sent = sent;
         Ok(Output {

@@ -35,7 +35,7 @@ module _ (v : Talk) (p : Past) (was : StandsBy v p) (running : v.stage ≡ stage
   f = (was.goes (alive v p was running)).0
 
   abbrev piece : List ℕ
-  piece = lines_text v.form (system_of i) (map (line_of (system_of i)) m1.queues.outbox.lines.items)
+  piece = lines_text v.form (system_of i) (map (line_of (system_of i)) m1.traffic.effects.lines.items)
 
   ready : IsReady i v.steps f v.machine
   ready = (was.goes (alive v p was running)).2
@@ -46,10 +46,10 @@ module _ (v : Talk) (p : Past) (was : StandsBy v p) (running : v.stage ≡ stage
       ap (lines_text v.form (system_of i)) (x.lines ∙ ap (λ z. map (line_of (system_of i)) z ++ lines_of ts) (was.none (alive v p was running)))
 
   -- what is to be written are lines of the system
-  pub lines_belong : (s : Step) → Steps i (10 ^ 12) v.steps (now i p) v.machine m1 s → All (BelongsTo (system_of i)) m1.queues.outbox.lines.items
-  lines_belong Nothing s = (s.3 f ready).queues.lines
-  lines_belong (Took tick) s = (s.5 f ready).1.queues.lines
-  lines_belong (Stopped mark) s = (s.7 f ready).1.queues.lines
+  pub lines_belong : (s : Step) → Steps i (10 ^ 12) v.steps (now i p) v.machine m1 s → All (BelongsTo (system_of i)) m1.traffic.effects.lines.items
+  lines_belong Nothing s = (s.3 f ready).traffic.lines
+  lines_belong (Took tick) s = (s.5 f ready).1.traffic.lines
+  lines_belong (Stopped mark) s = (s.7 f ready).1.traffic.lines
 
   -- the lines were not written whole
   pub piece_fails : (s : Step) → Steps i (10 ^ 12) v.steps (now i p) v.machine m1 s → (w0 w1 : Option (List ℕ)) (k : ℕ) → IsPartWritten w0 w1 piece k
@@ -64,7 +64,7 @@ module _ (v : Talk) (p : Past) (was : StandsBy v p) (running : v.stage ≡ stage
       (s.0 ∷ [], [], s.1.chain, subst (λ (t : List ℕ). IsPartWritten w0 w1 t k) (piece_is (s.0 ∷ []) s.1 ∙ sym (append-nil (text_of i v.form (s.0 ∷ [])))) part)
 
   -- the lines were written and dropped
-  module _ (none : m2.queues.outbox.lines.items ≡ []) (on : (s : State) (a : Agenda) → IsAt i s a m1 → IsAt i s a m2)
+  module _ (none : m2.traffic.effects.lines.items ≡ []) (on : (s : State) (a : Agenda) → IsAt i s a m1 → IsAt i s a m2)
       (clear : (t : ℕ) → IsReady i v.steps t m1 → IsReady i v.steps t m2) (w0 w1 : Option (List ℕ)) (got : Appends w0 w1 piece) where
     pub next_nothing : (w k : ℕ) → Steps i (10 ^ 12) v.steps (now i p) v.machine m1 Nothing
         → HasTaken v (record v { written = w; machine = m2 }) p [] w0 w1 × NoneBelow (now i p).agenda (10 ^ 12)

@@ -17,8 +17,8 @@ not_failed : (t : Talk) → t.stage ≡ stage.Running → t.stage ≡ stage.Fail
 not_failed t running failed = let no : stage.Running ≡ stage.Failed = sym running ∙ failed in absurd cc
 
 pub peeks : (t : Talk) (r : Option (ℕ × ℕ)) → t.stage ≡ stage.Running
-    → IfSome r (λ f. (k : Key) × (k.tick ≡ f.0) × (k.resource ≡ f.1) × IsLeast t.machine.queues.agenda k × (f.0 < 10 ^ 12))
-    → IfNone r ((j : Key) → j.tick < 10 ^ 12 → waiting t.machine.queues.agenda j ≡ None) → Peeks t r
+    → IfSome r (λ f. (k : Key) × (k.tick ≡ f.0) × (k.resource ≡ f.1) × IsLeast t.machine.traffic.agenda k × (f.0 < 10 ^ 12))
+    → IfNone r ((j : Key) → j.tick < 10 ^ 12 → waiting t.machine.traffic.agenda j ≡ None) → Peeks t r
 peeks t None running some none = λ on p was j less. (was.at (not_failed t running)).agenda j ∙ ap (option_map (event_of t.inputs)) (none j less)
 peeks t (Some f) running some none = (
   running,
@@ -27,7 +27,7 @@ peeks t (Some f) running some none = (
       let at = was.at (not_failed t running) in
       record {
         key = some.0;
-        waits = subst (λ (o : Option Event). IsSome o) (sym (at.agenda some.0)) (mapped (event_of t.inputs) (waiting t.machine.queues.agenda some.0) some.3.waits);
+        waits = subst (λ (o : Option Event). IsSome o) (sym (at.agenda some.0)) (mapped (event_of t.inputs) (waiting t.machine.traffic.agenda some.0) some.3.waits);
         least = λ j before. at.agenda j ∙ ap (option_map (event_of t.inputs)) (some.3.none_before j before);
         tick_is = some.1;
         resource_is = some.2;

@@ -67,7 +67,7 @@ pub record Gone (i : Inputs) (o : Reach) (c : Config) (old m : Machine) (written
   pub onward : (from : ℕ) → from ≤ o.to → IsReady i o.steps from old → (t : ℕ) × (t ≤ o.to) × IsLater i o.steps from t m more
 
 module _ (i : Inputs) (o : Reach) where
-  pub gone_first : (c : Config) (m : Machine) (written : Option (List ℕ)) → IsAt i c.state c.agenda m → m.queues.outbox.lines.items ≡ [] → Gone i o c m m written written 0
+  pub gone_first : (c : Config) (m : Machine) (written : Option (List ℕ)) → IsAt i c.state c.agenda m → m.traffic.effects.lines.items ≡ [] → Gone i o c m m written written 0
   gone_first c m written is none = record {
     more = [];
     run = record { chain = tt; at = is; none = none; got = Appends-nil written; counted = omega arith };
@@ -86,16 +86,16 @@ module _ (i : Inputs) (o : Reach) where
     d = last c g.more
 
     -- the lines that are there are those of the piece
-    piece_is : map (line_of (system_of i)) new.queues.outbox.lines.items ≡ lines_of taken
+    piece_is : map (line_of (system_of i)) new.traffic.effects.lines.items ≡ lines_of taken
     piece_is = x.lines ∙ ap (λ z. map (line_of (system_of i)) z ++ lines_of taken) g.run.none
 
     piece : List ℕ
-    piece = lines_text o.form (system_of i) (map (line_of (system_of i)) new.queues.outbox.lines.items)
+    piece = lines_text o.form (system_of i) (map (line_of (system_of i)) new.traffic.effects.lines.items)
 
-    piece_text : lines_text o.form (system_of i) (map (line_of (system_of i)) new.queues.outbox.lines.items) ≡ text_of i o.form taken
+    piece_text : lines_text o.form (system_of i) (map (line_of (system_of i)) new.traffic.effects.lines.items) ≡ text_of i o.form taken
     piece_text = ap (lines_text o.form (system_of i)) piece_is
 
-    pub cut_off : (now : Option (List ℕ)) (k : ℕ) → IsPartWritten mid now (lines_text o.form (system_of i) (map (line_of (system_of i)) new.queues.outbox.lines.items)) k
+    pub cut_off : (now : Option (List ℕ)) (k : ℕ) → IsPartWritten mid now (lines_text o.form (system_of i) (map (line_of (system_of i)) new.traffic.effects.lines.items)) k
         → FailsRun i o c (fault.Write (bounded (n + k))) written now
     cut_off now k p = (
       g.more ++ taken,
@@ -104,9 +104,9 @@ module _ (i : Inputs) (o : Reach) where
           (part-after (text_of i o.form g.more) g.run.got g.run.counted (subst (λ (t : List ℕ). IsPartWritten mid now t k) piece_text p)),
     )
 
-    module _ (now : Option (List ℕ)) (k : ℕ) (got : Appends mid now (lines_text o.form (system_of i) (map (line_of (system_of i)) new.queues.outbox.lines.items)))
-        (counted : k ≡ bounded (length (lines_text o.form (system_of i) (map (line_of (system_of i)) new.queues.outbox.lines.items))))
-        (next : Machine) (none : next.queues.outbox.lines.items ≡ []) (on : (s : State) (a : Agenda) → IsAt i s a new → IsAt i s a next)
+    module _ (now : Option (List ℕ)) (k : ℕ) (got : Appends mid now (lines_text o.form (system_of i) (map (line_of (system_of i)) new.traffic.effects.lines.items)))
+        (counted : k ≡ bounded (length (lines_text o.form (system_of i) (map (line_of (system_of i)) new.traffic.effects.lines.items))))
+        (next : Machine) (none : next.traffic.effects.lines.items ≡ []) (on : (s : State) (a : Agenda) → IsAt i s a new → IsAt i s a next)
         (ready : (t : ℕ) → IsReady i o.steps t new → IsReady i o.steps t next) where
       leads : last c (g.more ++ taken) ≡ last d taken
       leads = last_append g.more taken c
@@ -172,16 +172,16 @@ module _ (i : Inputs) (o : Reach) where
 
       -- a break is for the last event, of which a line is there
       pub break_here : (number tick : ℕ) → IsTrue o.is_watched → (before : List Taken) (t : Taken) → taken ≡ before ++ t ∷ [] → lines_of before ≡ []
-          → Each (λ (l : Line). l.key ≡ t.key) t.effect.lines → (l : run.Line) → Contains new.queues.outbox.lines.items l → l.key.tick ≡ tick
+          → Each (λ (l : Line). l.key ≡ t.key) t.effect.lines → (l : run.Line) → Contains new.traffic.effects.lines.items l → l.key.tick ≡ tick
           → Each (λ (t : Taken). t.effect.stop ≡ None) taken → All (λ (t : Taken). t.key.tick < o.to) taken → Onward i o.to o.steps t.key.tick m new taken
           → EndsRun i o c old next (g.more ++ taken) (until.Break number tick)
       break_here number tick watched before t is quiet its l there at going below y =
           let less : t.key.tick < o.to = last_holds (λ (z : Taken). z.key.tick < o.to) before t (subst (λ zs. All (λ (z : Taken). z.key.tick < o.to) zs) is below) in
-          let lines : map (line_of (system_of i)) new.queues.outbox.lines.items ≡ t.effect.lines =
+          let lines : map (line_of (system_of i)) new.traffic.effects.lines.items ≡ t.effect.lines =
           piece_is ∙ ap lines_of is ∙ lines_of-append before (t ∷ []) ∙ ap (λ z. z ++ (t.effect.lines ++ [])) quiet ∙ append-nil t.effect.lines in
           let own : l.key ≡ t.key =
           each_of (λ (z : Line). z.key ≡ t.key) t.effect.lines (line_of (system_of i) l) its
-          (subst (λ zs. Contains zs (line_of (system_of i) l)) lines (Contains-map (line_of (system_of i)) new.queues.outbox.lines.items l there)) in
+          (subst (λ zs. Contains zs (line_of (system_of i) l)) lines (Contains-map (line_of (system_of i)) new.traffic.effects.lines.items l there)) in
           let same : t.key.tick ≡ tick = ap (λ (z : Key). z.tick) (sym own) ∙ at in (
             watched,
             going_more going,

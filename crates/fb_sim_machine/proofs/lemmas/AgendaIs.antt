@@ -28,27 +28,27 @@ use Rattle.fb_sim_machine.specs.declared.machine.Machine.{Machine}
 
 -- the machine from whose agenda the least key was taken
 abbrev pub without_least : Machine → Contents → Machine
-without_least m a = record m { queues = record m.queues { agenda = a } }
+without_least m a = record m { traffic = record m.traffic { agenda = a } }
 
-pub machine_left : (i : Inputs) (limit t : ℕ) (k : Key) (e : Event) (m : Machine) (a : Contents) → IsReady i limit t m → Left k m.queues.agenda a
-    → waiting m.queues.agenda k ≡ Some e → ((q : Key) → Precedes q k → waiting m.queues.agenda q ≡ None) → a.due ≡ m.queues.agenda.due
+pub machine_left : (i : Inputs) (limit t : ℕ) (k : Key) (e : Event) (m : Machine) (a : Contents) → IsReady i limit t m → Left k m.traffic.agenda a
+    → waiting m.traffic.agenda k ≡ Some e → ((q : Key) → Precedes q k → waiting m.traffic.agenda q ≡ None) → a.due ≡ m.traffic.agenda.due
     → IsReady i limit k.tick (without_least m a)
 machine_left i limit t k e m a ready left found least due = record {
   trees_counted = ready.trees_counted;
   trees = ready.trees;
   meters_counted = ready.meters_counted;
   meters = ready.meters;
-  past = λ r x h. let was = ready.past r x h in let later = (ready.queues.order.waits k e found).later in omega (arith, was, later);
-  queues = ready_left i t k m.queues a ready.queues left least due;
+  past = λ r x h. let was = ready.past r x h in let later = (ready.traffic.order.waits k e found).later in omega (arith, was, later);
+  traffic = ready_left i t k m.traffic a ready.traffic left least due;
   delivered = ready.delivered;
 }
 
-pub at_left : (i : Inputs) (k : Key) (d : Config) (m : Machine) (a : Contents) → IsAt i d.state d.agenda m → Left k m.queues.agenda a
+pub at_left : (i : Inputs) (k : Key) (d : Config) (m : Machine) (a : Contents) → IsAt i d.state d.agenda m → Left k m.traffic.agenda a
     → IsAt i d.state (without k d.agenda) (without_least m a)
 at_left i k d m a is left = record {
   here = is.here;
   sent = is.sent;
-  agenda = meaning_left i k m.queues.agenda a d.agenda is.agenda left;
+  agenda = meaning_left i k m.traffic.agenda a d.agenda is.agenda left;
 }
 
 -- ---- One taking more

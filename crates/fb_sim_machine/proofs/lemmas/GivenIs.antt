@@ -57,24 +57,24 @@ given_typed i s g good is =
     (subst (λ (bs : List Bound). IsTypedEvent sys (Stimulated (stimulus_of s).port bs)) (sym is.sets) typed)
 
 -- An event was put on the agenda of the machine, under a key that is no timer's.
-module _ (i : Inputs) (m : Machine) (a : Contents) (k : Key) (e : Event) (put : IsPut m.queues.agenda a k e) (due : a.due ≡ m.queues.agenda.due) where
+module _ (i : Inputs) (m : Machine) (a : Contents) (k : Key) (e : Event) (put : IsPut m.traffic.agenda a k e) (due : a.due ≡ m.traffic.agenda.due) where
   pub ready_put : (limit from : ℕ) → k.class ≢ 1 → MayWait i from k e → IsReady i limit from m → IsReady i limit from (on_agenda a m)
   ready_put limit from class may ready =
-      let queues = ready.queues in
+      let traffic = ready.traffic in
       record {
         trees_counted = ready.trees_counted;
         trees = ready.trees;
         meters_counted = ready.meters_counted;
         meters = ready.meters;
         past = ready.past;
-        queues = record {
-          order = order_put i from m.queues.agenda a k e put class may due queues.order;
-          due = ap length due ∙ queues.due;
-          counted = queues.counted;
-          mail = queues.mail;
-          lines = queues.lines;
-          none = queues.none;
-          keeps = queues.keeps;
+        traffic = record {
+          order = order_put i from m.traffic.agenda a k e put class may due traffic.order;
+          due = ap length due ∙ traffic.due;
+          counted = traffic.counted;
+          mail = traffic.mail;
+          lines = traffic.lines;
+          none = traffic.none;
+          keeps = traffic.keeps;
         };
         delivered = ready.delivered;
       }
@@ -83,7 +83,7 @@ module _ (i : Inputs) (m : Machine) (a : Contents) (k : Key) (e : Event) (put : 
   at_put s g at = record {
     here = at.here;
     sent = at.sent;
-    agenda = λ j. one (same_key k j) (g j) ∙ ap (cond (same_key k j) (Some (event_of i e))) (at.agenda j) ∙ sym (meaning_put i m.queues.agenda a k e put j);
+    agenda = λ j. one (same_key k j) (g j) ∙ ap (cond (same_key k j) (Some (event_of i e))) (at.agenda j) ∙ sym (meaning_put i m.traffic.agenda a k e put j);
   }
     where
       one : (b : Bool) (o : Option model.Event) → or_else (or_else None (cond b (Some (event_of i e)) None)) o ≡ cond b (Some (event_of i e)) o

@@ -1,4 +1,4 @@
--- The local event that a taking put out alone, which is in the slot and on no agenda.
+-- The local event that a taking put out alone, which is in `Least` and on no agenda.
 use Rattle.std.proofs.Common.{◌≡◌, ℕ, Bool, true, [], map, sym, ap, subst, ◌∙◌}
 use Rattle.std.specs.Global.{Vec}
 use Rattle.std.specs.Bool.{OnTrue}
@@ -12,7 +12,7 @@ use Rattle.fb_agenda.specs.Agendas.{Contents, waiting}
 use Rattle.fb_net.specs.Events.{event_of}
 use Rattle.fb_resource.specs.Posts.{arriving}
 use Rattle.fb_resource.specs.Waiting.{meaning}
-use Rattle.fb_resource.specs.declared.queues.Queues.{Queues}
+use Rattle.fb_resource.specs.declared.traffic.Traffic.{Traffic}
 use Rattle.fb_resource.proofs.lemmas.Lone.{ready_alike}
 use Rattle.fb_sim_machine.specs.Machines.{IsAt, IsReady}
 use Rattle.fb_sim_machine.specs.declared.machine.Machine.{Machine}
@@ -23,12 +23,12 @@ no_mail raised a b new old is kept none =
     let both : (a ≡ b) × (new ≡ old) = subst (λ (r : Bool). OnTrue r ((a ≡ b) × (new ≡ old))) is kept in
     ap (λ (v : Vec Message). v.items) both.1 ∙ none
 
-pub nothing_delivered : (i : Inputs) (q : Queues) → q.mail.items ≡ [] → (j : Key) → meaning i q.agenda j ≡ or_else (found j (map (arriving i) q.mail.items)) (meaning i q.agenda j)
+pub nothing_delivered : (i : Inputs) (q : Traffic) → q.mail.items ≡ [] → (j : Key) → meaning i q.agenda j ≡ or_else (found j (map (arriving i) q.mail.items)) (meaning i q.agenda j)
 nothing_delivered i q none j = ap (λ ms. or_else (found j (map (arriving i) ms)) (meaning i q.agenda j)) (sym none)
 
 -- the machine with another agenda
 abbrev pub on_agenda : Contents → Machine → Machine
-on_agenda a m = record m { queues = record m.queues { agenda = a } }
+on_agenda a m = record m { traffic = record m.traffic { agenda = a } }
 
 -- on which the same waits
 module _ (i : Inputs) (m : Machine) (a b : Contents) (same : (j : Key) → waiting b j ≡ waiting a j) where
@@ -42,6 +42,6 @@ module _ (i : Inputs) (m : Machine) (a b : Contents) (same : (j : Key) → waiti
     meters_counted = ready.meters_counted;
     meters = ready.meters;
     past = ready.past;
-    queues = ready_alike i tick (record m.queues { agenda = a }) b same due ready.queues;
+    traffic = ready_alike i tick (record m.traffic { agenda = a }) b same due ready.traffic;
     delivered = ready.delivered;
   }

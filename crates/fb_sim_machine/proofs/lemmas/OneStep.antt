@@ -20,11 +20,11 @@ alone None = tt
 alone (Some r) = refl
 
 pub one_gone : (i : Inputs) (limit : ℕ) (c : Config) (k : Key) (e : Event) (m new : Machine) (a : Contents) (stop : Option Reason) → IsAt i c.state c.agenda m
-    → waiting m.queues.agenda k ≡ Some e → ((q : Key) → Precedes q k → waiting m.queues.agenda q ≡ None)
+    → waiting m.traffic.agenda k ≡ Some e → ((q : Key) → Precedes q k → waiting m.traffic.agenda q ≡ None)
     → (t : IsTaken i limit c.state c.agenda k (event_of i e) stop (without_least m a) new)
     → HasGone i limit c m new (record { key = k; event = event_of i e; effect = t.effect } ∷ [])
 one_gone i limit c k e m new a stop is found least t = record {
-  chain = (takes_least i limit c k e stop m.queues.agenda (without_least m a) new is.agenda found least t, alone t.effect.stop, tt);
+  chain = (takes_least i limit c k e stop m.traffic.agenda (without_least m a) new is.agenda found least t, alone t.effect.stop, tt);
   at = t.at;
-  lines = t.lines ∙ ap (λ z. map (line_of (system_of i)) m.queues.outbox.lines.items ++ z) (sym (append-nil t.effect.lines));
+  lines = t.lines ∙ ap (λ z. map (line_of (system_of i)) m.traffic.effects.lines.items ++ z) (sym (append-nil t.effect.lines));
 }

@@ -24,7 +24,7 @@ abbrev fresh : TickCounts
 fresh = record { tick = None; meter = record { left = 0 }; locals = 0 }
 
 pub at_opened : (i : Inputs) (m : Machine) (n : ℕ) → AreAccepted i → AreOpened i n m.trees.items → m.meters.items ≡ replicate n fresh
-    → CountsAre m.queues.sent.items (opening_state (system_of i)).sent → IsOpened i None m.queues.agenda
+    → CountsAre m.traffic.sent.items (opening_state (system_of i)).sent → IsOpened i None m.traffic.agenda
     → IsAt i (opening_state (system_of i)) (opening_agenda (system_of i) (stimuli_of i)) m
 at_opened i m n accepted trees meters sent opened = record {
   here = λ r t x its_tree its_meter.
@@ -35,15 +35,15 @@ at_opened i m n accepted trees meters sent opened = record {
 }
 
 pub ready_opened : (i : Inputs) (limit : ℕ) (m : Machine) → AreOpened i (length (system_of i).resource_names) m.trees.items
-    → m.meters.items ≡ replicate (length (system_of i).resource_names) fresh → AreReady i 0 m.queues → m.queues.mail.items ≡ []
+    → m.meters.items ≡ replicate (length (system_of i).resource_names) fresh → AreReady i 0 m.traffic → m.traffic.mail.items ≡ []
     → IsReady i limit 0 m
-ready_opened i limit m trees meters queues delivered = record {
+ready_opened i limit m trees meters traffic delivered = record {
   trees_counted = trees.counted;
   trees = λ r t is. (trees.each r t is).1;
   meters_counted = ap length meters ∙ length-replicate (length (system_of i).resource_names) fresh;
   meters = λ r x is. subst (IsMetered limit) (its r x is) (metered_opened limit);
   past = λ r x is. subst (λ (z : TickCounts). unwrap_or z.tick 0 ≤ 0) (its r x is) (omega arith);
-  queues = queues;
+  traffic = traffic;
   delivered = delivered;
 }
   where

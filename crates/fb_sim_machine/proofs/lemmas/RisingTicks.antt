@@ -14,11 +14,11 @@ module _ (i : Inputs) (limit from : ℕ) where
   later_none m ready = record { later = omega arith; ready = ready; before = All-nil (λ (u : Taken). u.key.tick ≤ from) }
 
   -- one event more, which was on the agenda
-  pub later_more : (t : ℕ) (m new : Machine) (ts : List Taken) (x : Taken) (e : Event) → IsLater i limit from t m ts → waiting m.queues.agenda x.key ≡ Some e
+  pub later_more : (t : ℕ) (m new : Machine) (ts : List Taken) (x : Taken) (e : Event) → IsLater i limit from t m ts → waiting m.traffic.agenda x.key ≡ Some e
       → IsReady i limit x.key.tick new → IsLater i limit from x.key.tick new (ts ++ x ∷ [])
   later_more t m new ts x e was found ready =
       let low = was.later in
-      let later = (was.ready.queues.order.waits x.key e found).later in
+      let later = (was.ready.traffic.order.waits x.key e found).later in
       record {
         later = omega (arith, low, later);
         ready = ready;

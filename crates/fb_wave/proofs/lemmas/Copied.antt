@@ -22,7 +22,7 @@ use Rattle.fb_wave.specs.Writing.{HasShown, IsDump}
 use Rattle.fb_wave.specs.declared.dump.Dump.{Dump}
 use Rattle.fb_wave.specs.Lines.{IsLast, IsLineOf, IsTextOf}
 use Rattle.fb_wave.specs.Named.{HasNames}
-use Rattle.fb_wave.specs.Copying.{IsAfter, IsCopied, IsFinished, IsFirstLine, IsNoWriteFault, IsTaken, IsUnfinished}
+use Rattle.fb_wave.specs.Copying.{IsAfter, IsCopied, IsFinished, IsFirstLine, IsNoWriteError, IsTaken, IsUnfinished}
 use Rattle.fb_wave.specs.Waves.{AreLinesOf, EndsAfter, FailsWave, IsBegun, IsWave, RiseFrom, WritesFront, WritesPart}
 use Rattle.fb_wave.specs.declared.copy.Progress.{Progress}
 use Rattle.fb_wave.specs.declared.error.WaveError.{WaveError}
@@ -242,7 +242,7 @@ front_flushed sys form number x y after line input left old mid got is taken flu
 -- ---- Failures
 
 -- the writer did not fail
-pub fails_front : (sys : System) (old new : Option (List ℕ)) (e : WaveError) → IsNoWriteFault e → WritesFront sys old new → FailsWave sys old new e
+pub fails_front : (sys : System) (old new : Option (List ℕ)) (e : WaveError) → IsNoWriteError e → WritesFront sys old new → FailsWave sys old new e
 fails_front sys old new (Write n) other front = absurd other
 fails_front sys old new (Refused line) other front = front
 fails_front sys old new Names other front = front

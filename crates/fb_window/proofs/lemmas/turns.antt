@@ -1,4 +1,4 @@
 pub mod OneTurn
-pub mod Walking
-pub mod Walked
+pub mod ManyTurns
+pub mod TurnByTurn
 pub mod Turned

@@ -11,7 +11,7 @@ use Rattle.fb_types.specs.Blocks.{Kind, ports_of, outputs_with, event_names, var
 use Rattle.fb_types.specs.Flat.{port_in, resource_of, kind_at}
 use Rattle.fb_types.specs.Repeated.{NameTwice, Twice}
 use Rattle.fb_types.specs.Unknown.{data_outs}
-use Rattle.fb_types.specs.Mapped.{IsCut, IsServed, NoEvent}
+use Rattle.fb_types.specs.Mapped.{IsCrossing, IsServed, NoEvent}
 use Rattle.fb_types.specs.declared.library.Library.{Library}
 use Rattle.fb_types.specs.declared.library.Connection.{Connection}
 use Rattle.fb_types.specs.declared.library.PortName.{PortName}
@@ -217,12 +217,12 @@ served_is lib plan m x c served component b r s found once holds network are the
 
 -- ---- All data connections
 
-no_event : (lib : Library) (plan : Plan) (d : Connection) → is_served lib plan d ≡ false → IsCut plan (pair_of d) × ¬ (IsServed lib plan (pair_of d))
+no_event : (lib : Library) (plan : Plan) (d : Connection) → is_served lib plan d ≡ false → IsCrossing plan (pair_of d) × ¬ (IsServed lib plan (pair_of d))
 no_event lib plan d h =
     let all = lib.application.network.event_connections in
     let r = resource_of plan (port_in [] d.from).at in
     let s = resource_of plan (port_in [] d.to).at in
-    elim (nat_eq r s) as (λ b. nat_eq r s ≡ b → (b || list_any (brings lib plan d) all) ≡ false → IsCut plan (pair_of d) × ¬ (IsServed lib plan (pair_of d))) [
+    elim (nat_eq r s) as (λ b. nat_eq r s ≡ b → (b || list_any (brings lib plan d) all) ≡ false → IsCrossing plan (pair_of d) × ¬ (IsServed lib plan (pair_of d))) [
       | true ↦ λ e g. absurd (true≢false g)
       | false ↦ λ e g. (
         λ same. true≢false (sym (let at : nat_eq r s ≡ true = grind (arith, nat_tests, same) in at) ∙ e),
@@ -230,13 +230,13 @@ no_event lib plan d h =
       )
     ] refl h
 
-served : (lib : Library) (plan : Plan) (d : Connection) → is_served lib plan d ≡ true → IsCut plan (pair_of d) → IsServed lib plan (pair_of d)
-served lib plan d h cut =
+served : (lib : Library) (plan : Plan) (d : Connection) → is_served lib plan d ≡ true → IsCrossing plan (pair_of d) → IsServed lib plan (pair_of d)
+served lib plan d h crossing =
     let all = lib.application.network.event_connections in
     let r = resource_of plan (port_in [] d.from).at in
     let s = resource_of plan (port_in [] d.to).at in
     elim (nat_eq r s) as (λ b. nat_eq r s ≡ b → (b || list_any (brings lib plan d) all) ≡ true → IsServed lib plan (pair_of d)) [
-      | true ↦ λ e g. absurd (cut (let at : r ≡ s = grind (arith, nat_tests, e) in at))
+      | true ↦ λ e g. absurd (crossing (let at : r ≡ s = grind (arith, nat_tests, e) in at))
       | false ↦ λ e g. let w = passes_somewhere (brings lib plan d) all g in served_from_brings lib plan d w.0 w.1 w.2
     ] refl h
 
@@ -244,7 +244,7 @@ pub each_no_event : (lib : Library) (plan : Plan) → All (IsNoEventAt lib plan)
 each_no_event lib plan =
     all_each (IsNoEventAt lib plan) (no_event_at lib plan) lib.application.network.data_connections
     (λ k c at. all_unless (IsNoEventAt lib plan) (is_served lib plan c) k (λ e.
-    let u = no_event lib plan c e in record { at_index = c; found = at; cut = u.0; alone = u.1 }))
+    let u = no_event lib plan c e in record { at_index = c; found = at; crossing = u.0; alone = u.1 }))
 
 pub none_no_event : (lib : Library) (plan : Plan) → no_event_all lib plan ≡ [] → ¬ (NoEvent lib plan)
 none_no_event lib plan h w =
@@ -252,8 +252,8 @@ none_no_event lib plan h w =
     let r = map-Contains pair_of ds w.0 w.1 in
     let all = none_each (no_event_at lib plan) (is_served lib plan) ds (λ k c e. none_unless (is_served lib plan c) k e) h in
     w.3 (subst (λ (p : Port × Port). IsServed lib plan p) r.2
-    (served lib plan r.0 (passes_at (is_served lib plan) ds r.0 all r.1) (subst (λ (p : Port × Port). IsCut plan p) (sym r.2) w.2)))
+    (served lib plan r.0 (passes_at (is_served lib plan) ds r.0 all r.1) (subst (λ (p : Port × Port). IsCrossing plan p) (sym r.2) w.2)))
 
 pub no_event_applies : (lib : Library) (plan : Plan) (k : ℕ) → IsNoEventAt lib plan k → NoEvent lib plan
 no_event_applies lib plan k h =
-    (pair_of h.at_index, Contains-map pair_of lib.application.network.data_connections h.at_index (element_of_index lib.application.network.data_connections k h.at_index h.found), h.cut, h.alone)
+    (pair_of h.at_index, Contains-map pair_of lib.application.network.data_connections h.at_index (element_of_index lib.application.network.data_connections k h.at_index h.found), h.crossing, h.alone)

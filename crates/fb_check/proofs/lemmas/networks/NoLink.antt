@@ -9,7 +9,7 @@ use Rattle.std.proofs.lemmas.Bool.Decides.{nat_tests}
 use Rattle.std.proofs.lemmas.List.Elements.{All-append, Contains-append_left, Contains-append_right, Contains-append_cases}
 use Rattle.fb_types.specs.Names.{Name, Port, same_name}
 use Rattle.fb_types.specs.Flat.{port_in, resource_of, link_between, name_of_resource}
-use Rattle.fb_types.specs.Mapped.{NoLink, IsCut, event_pairs_of, data_pairs_of}
+use Rattle.fb_types.specs.Mapped.{NoLink, IsCrossing, event_pairs_of, data_pairs_of}
 use Rattle.fb_types.specs.declared.library.Library.{Library}
 use Rattle.fb_types.specs.declared.library.Connection.{Connection}
 use Rattle.fb_types.specs.declared.library.PortName.{PortName}
@@ -135,10 +135,10 @@ apart plan r s h =
 
 -- and these are not linked
 not_linked : (plan : Plan) (r s : ℕ) → r ≢ s → link_between plan r s ≡ None → are_linked plan r s ≡ true → ⊥
-not_linked plan r s cut none h =
+not_linked plan r s crossing none h =
     let joining = is_joining (name_of_resource plan r) (name_of_resource plan s) in
     elim (nat_eq r s) as (λ b. nat_eq r s ≡ b → (b || list_any joining plan.links) ≡ true → ⊥) [
-      | true ↦ λ e g. cut (let at : r ≡ s = grind (arith, nat_tests, e) in at)
+      | true ↦ λ e g. crossing (let at : r ≡ s = grind (arith, nat_tests, e) in at)
       | false ↦ λ e g. true≢false (sym g ∙ sym (is_some-position joining plan.links) ∙ ap is_some none)
     ] refl h
 
@@ -148,7 +148,7 @@ each_of_flow lib plan f cs all =
     all_each (IsNoLinkAt lib plan) (no_link_at plan f) cs
     (λ k c at. all_unless (IsNoLinkAt lib plan) (is_linked plan c) (record { flow = f; connection = k }) (λ e.
     let a = apart plan (resource_of plan (pair_of c).0.at) (resource_of plan (pair_of c).1.at) e in
-    record { at_index = c; found = ap (λ (cs : List Connection). slice_get cs k) all ∙ at; cut = a.0; none = a.1 }))
+    record { at_index = c; found = ap (λ (cs : List Connection). slice_get cs k) all ∙ at; crossing = a.0; none = a.1 }))
 
 pub each_no_link : (lib : Library) (plan : Plan) → All (IsNoLinkAt lib plan) (no_link_all lib plan)
 each_no_link lib plan =
@@ -159,15 +159,15 @@ each_no_link lib plan =
 
 -- if each connection is linked, none of their pairs lacks a link
 linked_pairs :
-    (plan : Plan) (f : FlowKind) (cs : List Connection) (p : Port × Port) → each_at (no_link_at plan f) cs ≡ [] → Contains (map pair_of cs) p → IsCut plan p
+    (plan : Plan) (f : FlowKind) (cs : List Connection) (p : Port × Port) → each_at (no_link_at plan f) cs ≡ [] → Contains (map pair_of cs) p → IsCrossing plan p
     → link_between plan (resource_of plan p.0.at) (resource_of plan p.1.at) ≡ None → ⊥
-linked_pairs plan f cs p h c cut none =
+linked_pairs plan f cs p h c crossing none =
     let r = map-Contains pair_of cs p c in
     let all : list_all (is_linked plan) cs ≡ true =
     none_each (no_link_at plan f) (is_linked plan) cs (λ k c e. none_unless (is_linked plan c) (record { flow = f; connection = k }) e) h in
     let q : Port × Port = pair_of r.0 in
     not_linked plan (resource_of plan q.0.at) (resource_of plan q.1.at)
-    (subst (λ (p : Port × Port). IsCut plan p) (sym r.2) cut)
+    (subst (λ (p : Port × Port). IsCrossing plan p) (sym r.2) crossing)
     (subst (λ (p : Port × Port). link_between plan (resource_of plan p.0.at) (resource_of plan p.1.at) ≡ None) (sym r.2) none)
     (passes_at (is_linked plan) cs r.0 all r.1)
 
@@ -190,4 +190,4 @@ pair_there lib Data c there =
 
 pub no_link_applies : (lib : Library) (plan : Plan) (u : NoLinkAt) → IsNoLinkAt lib plan u → NoLink lib plan
 no_link_applies lib plan u h =
-    (pair_of h.at_index, pair_there lib u.flow h.at_index (element_of_index (connections_of u.flow lib.application.network) u.connection h.at_index h.found), h.cut, h.none)
+    (pair_of h.at_index, pair_there lib u.flow h.at_index (element_of_index (connections_of u.flow lib.application.network) u.connection h.at_index h.found), h.crossing, h.none)

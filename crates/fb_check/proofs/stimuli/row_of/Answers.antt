@@ -3,7 +3,7 @@ use Rattle.std.specs.Option.{option_copied}
 use Rattle.std.specs.Prelude.{is_some}
 use Rattle.std.proofs.lemmas.Bool.{true≢false}
 use Rattle.fb_types.specs.Repeated.{instance_names}
-use Rattle.fb_types.specs.declared.run.SlotValue.{SlotValue}
+use Rattle.fb_types.specs.declared.run.InputValue.{InputValue}
 use Rattle.fb_check.specs.Stimuli.{AreSlotsOr}
 use Rattle.fb_check.specs.Directory.{IsFound, ports_at_index, slot_of}
 use Rattle.fb_check.specs.declared.directory_making.TypeInputs.{TypeInputs}
@@ -50,7 +50,7 @@ returns-in-Err c =
     let P : Option TypeInputs → Type 0 = λ o. IsFound (ports_at_index lib c.in-Some.index) o in
     let known : Known lib = record { plan = c.requires.names.0; once = c.requires.names.1.once; known = c.requires.names.2 } in
     let found = found_at lib s c.in-Some.index (Some x) (at ∙ c.in-Some.is, subst P (ap option_copied c.in-Some-inputs_at.is) c.inputs_at.ensures.found) in
-    let Q : Result (List SlotValue) ℕ → Type 0 = AreSlotsOr (slot_of c.args.directory.now x s) s.settings in
+    let Q : Result (List InputValue) ℕ → Type 0 = AreSlotsOr (slot_of c.args.directory.now x s) s.settings in
     let w = subst Q c.in-Err.is c.in_ok-sets.ensures in
     (w.0, w.1, slot_none lib c.args.directory.now x s w.0 known c.requires.directory found w.2)
 
@@ -66,7 +66,7 @@ returns c =
     c.requires.names.1.instances refl c.index_of_name.ensures in
     let x = c.in-Some-inputs_at.inputs.now in
     let P : Option TypeInputs → Type 0 = λ o. IsFound (ports_at_index lib c.in-Some.index) o in
-    let Q : Result (List SlotValue) ℕ → Type 0 = AreSlotsOr (slot_of d x s) s.settings in
+    let Q : Result (List InputValue) ℕ → Type 0 = AreSlotsOr (slot_of d x s) s.settings in
     taken_is lib d s x _ c.in-Some.index c.in-Some-copied.event c.requires.directory
     (at ∙ c.in-Some.is, subst P (ap option_copied c.in-Some-inputs_at.is) c.inputs_at.ensures.found)
     (sym (c.copied.ensures ∙ c.get.ensures.value) ∙ c.in-Some-copied.is)

@@ -9,7 +9,7 @@ use Rattle.fb_types.specs.declared.run.Carried.{Carried}
 use Rattle.fb_net.specs.Samples.{HoldsAll}
 use Rattle.fb_net.specs.Steps.{AreKept}
 use Rattle.fb_net.specs.Changes.{Changes, block_in, with_instance}
-use Rattle.fb_net.specs.Worlds.{InForest, IsForest, Stands, seat_in}
+use Rattle.fb_net.specs.Worlds.{InForest, IsForest, Stands, index_in}
 use Rattle.fb_net.specs.declared.resource.Forest.{Forest}
 
 -- nothing has changed
@@ -51,11 +51,11 @@ pub stands-changed :
     (i : Inputs) (old new : Forest) (k : ℕ) (change : model.Block → model.Block) → Stands i old k → Changes i old k change new → Stands i new k
 stands-changed i old new k change stands changes = stands-kept i old new k (kept-changed i old new k change changes stands.here) stands
 
--- an instance that stands has its seat
-pub seat-there : (i : Inputs) (t : Forest) (k : ℕ) → k < length (system_of i).paths → Stands i t k → k < length t.seats
-seat-there i t k number stands = let seated = stands.whole.1.seated in omega (arith, number, seated)
+-- an instance that stands has its index
+pub shell_index-there : (i : Inputs) (t : Forest) (k : ℕ) → k < length (system_of i).paths → Stands i t k → k < length t.shell_indexes
+shell_index-there i t k number stands = let has_shells = stands.whole.1.has_shells in omega (arith, number, has_shells)
 
 -- an instance that stands has its shell
-pub shell-there : (i : Inputs) (t : Forest) (k : ℕ) → k < length (system_of i).paths → Stands i t k → seat_in t.seats k < length t.shells
+pub shell-there : (i : Inputs) (t : Forest) (k : ℕ) → k < length (system_of i).paths → Stands i t k → index_in t.shell_indexes k < length t.shells
 shell-there i t k number stands =
-    let there = stands.whole.1.shells k number stands.here in slice_get_within t.shells (seat_in t.seats k) there.shell there.stood
+    let there = stands.whole.1.shells k number stands.here in slice_get_within t.shells (index_in t.shell_indexes k) there.shell there.stood

@@ -16,7 +16,7 @@ use Rattle.fb_types.specs.declared.value.Value.{Value}
 use Rattle.fb_types.proofs.lemmas.names.PathLaws.{same_path_is, same_path_itself}
 use Rattle.fb_system.specs.IndexLists.{AreIndexes, variable_at}
 use Rattle.fb_system.specs.Stimuli.{set_of}
-use Rattle.fb_types.specs.declared.run.SlotValue.{SlotValue}
+use Rattle.fb_types.specs.declared.run.InputValue.{InputValue}
 use Rattle.fb_types.specs.declared.run.InstanceVariable.{InstanceVariable}
 use Rattle.fb_net.specs.Changes.{Changes, Holds, block_in, input_sampled, slot_set, with_instance}
 use Rattle.fb_net.specs.Worlds.{IsForest}
@@ -104,7 +104,7 @@ changes_as {i} {a} {b} {k} g changes is = subst (λ (f : model.Block → model.B
 abbrev pub variable_sampled : Bound → model.Block → model.Block
 variable_sampled x = input_sampled x.variable x.value
 
-abbrev pub value_set : System → (instance : ℕ) → SlotValue → model.Block → model.Block
+abbrev pub value_set : System → (instance : ℕ) → InputValue → model.Block → model.Block
 value_set sys k x = slot_set (set_of sys k x).variable x.value
 
 -- the variable at an index, with a value
@@ -160,7 +160,7 @@ samples_all vs names indexes values ys changes all stand =
     changes_as (all_sampled names values) changes
     (λ m. ap (λ (bs : List Bound). one_by_one variable_sampled bs m) bounds ∙ one_by_one-sampled (pair_up names values) m)
 
-pub one_by_one-set : (sys : System) (k : ℕ) (sets : List SlotValue) (b : model.Block) → one_by_one (value_set sys k) sets b ≡ slots_set sys k sets b
+pub one_by_one-set : (sys : System) (k : ℕ) (sets : List InputValue) (b : model.Block) → one_by_one (value_set sys k) sets b ≡ slots_set sys k sets b
 one_by_one-set sys k [] b = refl
 one_by_one-set sys k (x ∷ xs) b = one_by_one-set sys k xs (value_set sys k x b)
 

@@ -23,7 +23,7 @@ use Rattle.fb_event.specs.State.{State}
 use Rattle.fb_net.specs.Blocks.{components_of, own_of}
 use Rattle.fb_net.specs.Changes.{block_in, remembered, with_instance}
 use Rattle.fb_net.specs.Trees.{Changed, block_at, put_at}
-use Rattle.fb_net.specs.Worlds.{EventRepresents, InForest, IsForest, ShellRepresents, Represents, input_names, seat_in, way_in}
+use Rattle.fb_net.specs.Worlds.{EventRepresents, InForest, IsForest, ShellRepresents, Represents, input_names, index_in, way_in}
 use Rattle.fb_net.specs.declared.block.Block.{Block}
 use Rattle.fb_net.specs.declared.block.Block.TheVariants as block
 use Rattle.fb_net.specs.declared.resource.Forest.{Forest}
@@ -91,14 +91,14 @@ module _ (i : Inputs) (old : Forest) (k : ℕ) (kind : EventKind) (of_kind : (sy
   same_shell : (a b : Shell) → Some a ≡ Some b → a ≡ b
   same_shell a b e = cc
 
-  shell_there : (w : World) → IsForest i old w → InForest i old k → (shell : Shell) → slice_get old.shells (seat_in old.seats k) ≡ Some shell
+  shell_there : (w : World) → IsForest i old w → InForest i old k → (shell : Shell) → slice_get old.shells (index_in old.shell_indexes k) ≡ Some shell
       → ShellRepresents (system_of i) (path_at (system_of i) k) shell (block_in i w k)
   shell_there w forest lies shell found =
       let here = forest.shells k number lies in
       subst (λ (s : Shell). ShellRepresents (system_of i) (path_at (system_of i) k) s (block_in i w k)) (same_shell here.shell shell (sym here.stood ∙ found)) here.represents
 
   -- the data inputs of the event block hold values of their types
-  pub typed_there : (w : World) → IsForest i old w → InForest i old k → HasTypedInputs i kind k w → (shell : Shell) → slice_get old.shells (seat_in old.seats k) ≡ Some shell
+  pub typed_there : (w : World) → IsForest i old w → InForest i old k → HasTypedInputs i kind k w → (shell : Shell) → slice_get old.shells (index_in old.shell_indexes k) ≡ Some shell
       → IsTypedAt shell.inputs old.blocks (way_in i old.roots k)
   typed_there w forest lies fit shell found =
       let sys = system_of i in
@@ -116,7 +116,7 @@ module _ (i : Inputs) (old : Forest) (k : ℕ) (kind : EventKind) (of_kind : (sy
       }
 
 -- no instance of the resource is without a shell
-pub no_shell : (i : Inputs) (old : Forest) (k : ℕ) → k < length (system_of i).paths → (w : World) → IsForest i old w → InForest i old k → slice_get old.shells (seat_in old.seats k) ≡ None → ⊥
+pub no_shell : (i : Inputs) (old : Forest) (k : ℕ) → k < length (system_of i).paths → (w : World) → IsForest i old w → InForest i old k → slice_get old.shells (index_in old.shell_indexes k) ≡ None → ⊥
 no_shell i old k number w forest lies none = (let here = forest.shells k number lies in none-some here.shell (sym none ∙ here.stood))
 
 -- what fits the interface of an event block by its kind
@@ -188,7 +188,7 @@ module _ (i : Inputs) (numbered : AreNumbered i) (old : Forest) (k : ℕ) (numbe
 
 -- the reaction to an event is the model's
 pub taken_is : (i : Inputs) (old : Forest) (at : Target) (kind : EventKind) (tick : ℕ) (shell : Shell) → (system_of i).kind (path_at (system_of i) at.instance) ≡ Some (Event kind)
-    → at.instance < length (system_of i).paths → slice_get old.shells (seat_in old.seats at.instance) ≡ Some shell → (s : State)
+    → at.instance < length (system_of i).paths → slice_get old.shells (index_in old.shell_indexes at.instance) ≡ Some shell → (s : State)
     → (w : World) → IsForest i old w → InForest i old at.instance → EventRepresents kind s (block_in i w at.instance).memory → reaction_to s at.event tick shell.inputs ≡ taken_reaction i kind at tick w
 taken_is i old at kind tick shell of_kind number found s w forest lies stood =
     taken_agrees (system_of i) (path_at (system_of i) at.instance) kind s shell (block_in i w at.instance) at.event tick of_kind stood

@@ -21,7 +21,7 @@ use Rattle.fb_system.proofs.lemmas.networks.Distinct.{AreOnce, below, paths_from
 use Rattle.fb_types.proofs.lemmas.lists.ByIndex.{element_at, element_of_index, index_of_element}
 use Rattle.fb_system.proofs.lemmas.networks.InsideInstances.{network_known}
 use Rattle.fb_system.proofs.lemmas.networks.Sites.{IsSite, all_once, inside_is, instance_is}
-use Rattle.fb_net.specs.Worlds.{WaysDiffer, rooted, seat_in, way_in}
+use Rattle.fb_net.specs.Worlds.{WaysDiffer, rooted, index_in, way_in}
 
 -- ---- Every path leads to an instance
 
@@ -124,7 +124,7 @@ above lib n m p x h =
 abbrev pub RootsDistinguish : Library → Plan → (resource : ℕ) → List ℕ → Type 0
 RootsDistinguish lib plan r roots =
     (n m : Name) (x y : Instance) → instance_at lib (n ∷ []) ≡ Some x → instance_at lib (m ∷ []) ≡ Some y → resource_of plan (n ∷ []) ≡ r → resource_of plan (m ∷ []) ≡ r →
-    seat_in roots (index_at lib [] n) ≡ seat_in roots (index_at lib [] m) → n ≡ m
+    index_in roots (index_at lib [] n) ≡ index_in roots (index_at lib [] m) → n ≡ m
 
 module _ (lib : Library) (plan : Plan) (r : ℕ) (roots : List ℕ) (distinguish : RootsDistinguish lib plan r roots) where
   abbrev in_trees : Path → List ℕ
@@ -139,7 +139,7 @@ module _ (lib : Library) (plan : Plan) (r : ℕ) (roots : List ℕ) (distinguish
   same_path_by_way [] q x y h g e lies_p lies_q = cc
   same_path_by_way (n ∷ p) [] x y h g e lies_p lies_q = cc
   same_path_by_way (n ∷ []) (m ∷ []) x y h g e lies_p lies_q =
-      ap (λ z. z ∷ []) (distinguish n m x y h g lies_p lies_q (last_same [] [] (seat_in roots (index_at lib [] n)) (seat_in roots (index_at lib [] m)) e).1)
+      ap (λ z. z ∷ []) (distinguish n m x y h g lies_p lies_q (last_same [] [] (index_in roots (index_at lib [] n)) (index_in roots (index_at lib [] m)) e).1)
   same_path_by_way (n ∷ []) (m ∷ m' ∷ q) x y h g e lies_p lies_q = let long = as_long (n ∷ []) (m ∷ m' ∷ q) e in absurd (omega (arith, long))
   same_path_by_way (n ∷ n' ∷ p) (m ∷ []) x y h g e lies_p lies_q = let long = as_long (n ∷ n' ∷ p) (m ∷ []) e in absurd (omega (arith, long))
   same_path_by_way (n ∷ n' ∷ p) (m ∷ m' ∷ q) x y h g e lies_p lies_q =

@@ -16,10 +16,10 @@ use Rattle.fb_types.proofs.lemmas.lists.Options.{and_then_parts}
 use Rattle.fb_system.specs.Layouts.{index_at, route_to}
 use Rattle.fb_net.specs.Blocks.{components_of, own_of}
 use Rattle.fb_net.specs.Trees.{block_at, own_at}
-use Rattle.fb_net.specs.Worlds.{IsForest, RepresentsAt, Represents, rooted, seat_in}
+use Rattle.fb_net.specs.Worlds.{IsForest, RepresentsAt, Represents, rooted, index_in}
 use Rattle.fb_net.specs.declared.block.Block.{Block}
 use Rattle.fb_net.specs.declared.resource.Forest.{Forest}
-use Rattle.fb_net.specs.Opening.{AreDeep, AreGrown, AreRooted, AreSeated, CoversAll, Grown}
+use Rattle.fb_net.specs.Opening.{AreDeep, AreGrown, AreRooted, HaveShells, CoversAll, Grown}
 use Rattle.std.proofs.lemmas.Option.{none-some, same_Some}
 use Rattle.fb_net.proofs.lemmas.values.Acceptance.{in_network, stood}
 use Rattle.fb_net.proofs.lemmas.opening.Growing.{instance_is, number_is}
@@ -38,7 +38,7 @@ further blocks n (m ∷ route) b index h =
 below_rooted : (blocks : List Block) (roots route : List ℕ) (b : Block) (index : ℕ) → block_at blocks (rooted roots route) ≡ Some b
     → block_at blocks (rooted roots (route ++ index ∷ [])) ≡ slice_get (components_of b) index
 below_rooted blocks roots [] b index h = absurd (none-some b h)
-below_rooted blocks roots (n ∷ route) b index h = further blocks (seat_in roots n) route b index h
+below_rooted blocks roots (n ∷ route) b index h = further blocks (index_in roots n) route b index h
 
 -- ---- Names and indexes
 
@@ -67,7 +67,7 @@ module _ (i : Inputs) (r : ℕ) (roots numbers : List ℕ) (rooted_so : AreRoote
 
   -- an instance of the application that is in the resource has its root
   root_there : (n : Name) (x : Instance) → instance_in i.library.application.network n ≡ Some x → resource_of i.plan (n ∷ []) ≡ r
-      → (k : ℕ) × (slice_get numbers (seat_in roots (index_at i.library [] n)) ≡ Some k) × (path_at (system_of i) k ≡ n ∷ [])
+      → (k : ℕ) × (slice_get numbers (index_in roots (index_at i.library [] n)) ≡ Some k) × (path_at (system_of i) k ≡ n ∷ [])
   root_there n x found lies =
       let index = index_at i.library [] n in
       let at = found_index i.library [] i.library.application.network n x refl found in
@@ -87,10 +87,10 @@ module _ (i : Inputs) (r : ℕ) (roots numbers : List ℕ) (rooted_so : AreRoote
 
 module _ (i : Inputs) (r : ℕ) (roots numbers : List ℕ) (blocks : List Block) (rooted_so : AreRooted i r roots numbers) (grown : AreGrown i 17 numbers blocks) where
   stands_top : (n : Name) (x : Instance) → instance_in i.library.application.network n ≡ Some x → resource_of i.plan (n ∷ []) ≡ r
-      → (b : Block) × (slice_get blocks (seat_in roots (index_at i.library [] n)) ≡ Some b) × Grown i 17 (n ∷ []) b
+      → (b : Block) × (slice_get blocks (index_in roots (index_at i.library [] n)) ≡ Some b) × Grown i 17 (n ∷ []) b
   stands_top n x found lies =
       let k = root_there i r roots numbers rooted_so n x found lies in
-      let b = grown.grown (seat_in roots (index_at i.library [] n)) k.0 k.1 in
+      let b = grown.grown (index_in roots (index_at i.library [] n)) k.0 k.1 in
       (b.0, b.1, subst (λ (p : Path). Grown i 17 p b.0) k.2 b.2)
 
   stands_path : (p : Path) (n : Name) (x : Instance) (d : ℕ) → instance_at i.library (n ∷ p) ≡ Some x → resource_of i.plan (n ∷ p) ≡ r → length (n ∷ p) + d ≡ 18
@@ -136,16 +136,16 @@ module _ (i : Inputs) (r : ℕ) (roots numbers : List ℕ) (blocks : List Block)
 -- the blocks and shells represent the opening state
 pub forest_is :
     (i : Inputs) (t : Forest) (r : ℕ) (numbers : List ℕ) → AreAccepted i → AreNumbered i → t.resource ≡ r → AreRooted i r t.roots numbers → AreGrown i 17 numbers t.blocks
-    → AreSeated i (length (system_of i).paths) t → CoversAll i r t.held → IsForest i t (world_of (opening_state (system_of i)) r)
-forest_is i t r numbers accepted numbered is rooted_so grown seated held = record {
+    → HaveShells i (length (system_of i).paths) t → CoversAll i r t.held → IsForest i t (world_of (opening_state (system_of i)) r)
+forest_is i t r numbers accepted numbered is rooted_so grown has_shells held = record {
   blocks = λ k h lies. stands_at i r t.roots numbers t.blocks rooted_so grown accepted k h (lies ∙ is);
   ways = they_differ i t.resource t.roots (λ j k h g lies_j lies_k same.
       sym (numbered j h)
       ∙ ap (system_of i).number (paths_by_ways i r t.roots accepted (roots_distinguish i r t.roots numbers rooted_so) j k h g (lies_j ∙ is) (lies_k ∙ is) same)
       ∙ numbered k g);
-  shells = seated.stand;
-  seated = let each = seated.each in omega (arith, each);
-  apart = seated.apart;
+  shells = has_shells.stand;
+  has_shells = let each = has_shells.each in omega (arith, each);
+  apart = has_shells.apart;
   held = λ x variable read outside.
       held read.to read.variable (read.within ∙ is) x variable read.source (λ e. outside (e ∙ sym is));
 }

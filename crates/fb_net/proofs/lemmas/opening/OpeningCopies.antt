@@ -16,10 +16,10 @@ use Rattle.fb_types.specs.declared.run.InstanceVariable.{InstanceVariable}
 use Rattle.fb_system.specs.Ports.{IsVariable, variable_of, variables_at}
 use Rattle.fb_system.specs.Stimuli.{initial_inputs, initial_outputs}
 use Rattle.fb_types.specs.Systems.{System}
-use Rattle.fb_net.specs.HeldAt.{IsAdded, IsSet, held_at, place_of}
+use Rattle.fb_net.specs.HeldAt.{IsAdded, IsSet, held_at, side_index_of}
 use Rattle.fb_net.specs.Opening.{Covers, CoversIndexes, KeepsCovers, KeepsInitial}
 use Rattle.fb_net.specs.declared.held_copies.HeldCopies.{HeldCopies}
-use Rattle.fb_net.proofs.lemmas.values.HeldRows.{place_once}
+use Rattle.fb_net.proofs.lemmas.values.HeldRows.{side_once}
 use Rattle.fb_net.proofs.lemmas.values.ShownValues.{name_there, variable_is}
 use Rattle.fb_net.proofs.lemmas.values.Writing.{AreNumbered}
 use Rattle.fb_net.proofs.lemmas.values.ShownValues.{name_is as shown_name}
@@ -150,9 +150,9 @@ side_starts sys x = of x.is_output
     of false = refl
 
 -- the value of one of them
-pub starts_there : (sys : System) (x y : InstanceVariable) → place_of y ≡ place_of x → IsVariable sys y → (vs : List Value) → vs ≡ starts sys x → slice_get vs y.variable ≡ Some (sys.initial (variable_of sys y))
-starts_there sys x y place is vs start =
-    let once = place_once x y (sym place) in
+pub starts_there : (sys : System) (x y : InstanceVariable) → side_index_of y ≡ side_index_of x → IsVariable sys y → (vs : List Value) → vs ≡ starts sys x → slice_get vs y.variable ≡ Some (sys.initial (variable_of sys y))
+starts_there sys x y side_index is vs start =
+    let once = side_once x y (sym side_index) in
     let same : starts sys x ≡ starts sys y = λ j. starts sys (record { instance = once.0 j; variable = y.variable; is_output = once.1 j }) in
     let its : Name → Value = λ n. sys.initial (record { at = path_at sys y.instance; name = n }) in
     ap (λ (ws : List Value). slice_get ws y.variable) (start ∙ same ∙ side_starts sys y)
@@ -167,7 +167,7 @@ side_starts_so i old new x is vs start added = added.here x refl ∙ starts_ther
 
 pub side_keeps : (i : Inputs) (old new : HeldCopies) (x : InstanceVariable) (vs : List Value) → vs ≡ starts (system_of i) x → IsAdded old x vs new → KeepsInitial i old new
 side_keeps i old new x vs start added y is was =
-    elim (cases_eq (place_of y) (place_of x)) [
+    elim (cases_eq (side_index_of y) (side_index_of x)) [
       | inl same ↦ added.here y same ∙ starts_there (system_of i) x y same is vs start
       | inr other ↦ added.elsewhere y other ((system_of i).initial (variable_of (system_of i) y)) was
     ]
@@ -179,12 +179,12 @@ set_starts i old new x v u start was set = set.here u (sym was) ∙ ap (λ (w : 
 
 pub set_keeps : (i : Inputs) (old new : HeldCopies) (x : InstanceVariable) (v u : Value) → v ≡ (system_of i).initial (variable_of (system_of i) x) → Some u ≡ held_at old x → IsSet old x v new → KeepsInitial i old new
 set_keeps i old new x v u start was set y is before =
-    elim (cases_eq (place_of y) (place_of x)) [
-      | inr other ↦ set.elsewhere y (λ (e : y ≡ x). other (ap place_of e)) ∙ before
+    elim (cases_eq (side_index_of y) (side_index_of x)) [
+      | inr other ↦ set.elsewhere y (λ (e : y ≡ x). other (ap side_index_of e)) ∙ before
       | inl same ↦ elim (cases_eq y.variable x.variable) [
         | inr other ↦ set.elsewhere y (λ (e : y ≡ x). other (ap (λ (z : InstanceVariable). z.variable) e)) ∙ before
         | inl there ↦
-            let once = place_once x y (sym same) in
+            let once = side_once x y (sym same) in
             let e : x ≡ y = λ j. record { instance = once.0 j; variable = sym there j; is_output = once.1 j } in
             subst (λ (z : InstanceVariable). held_at new z ≡ Some ((system_of i).initial (variable_of (system_of i) z))) e (set_starts i old new x v u start was set)
       ]

@@ -8,9 +8,9 @@ use Rattle.fb_types.specs.Numbers.{path_at}
 use Rattle.fb_types.proofs.lemmas.lists.ByIndex.{slice_get-append_left, slice_get-append_here}
 use Rattle.fb_system.specs.Layouts.{AreNumbers}
 use Rattle.fb_net.specs.Opening.{AreRooted, AreRoots}
-use Rattle.fb_net.specs.Worlds.{seat_in}
+use Rattle.fb_net.specs.Worlds.{index_in}
 use Rattle.fb_net.proofs.lemmas.opening.Growing.{Before, Last, nearer}
-use Rattle.fb_net.proofs.lemmas.opening.Seating.{longer, seat_kept, seat_last}
+use Rattle.fb_net.proofs.lemmas.opening.ShellIndexes.{longer, shell_index_kept, shell_index_last}
 
 -- an element of the first n is one of the first n + 1
 one_more : {A : Type 0} (xs : List A) (n m : ℕ) (x : A) → slice_get (take n xs) m ≡ Some x → slice_get (take (suc n) xs) m ≡ Some x
@@ -60,10 +60,10 @@ module _ (i : Inputs) (r n k : ℕ) (top roots numbers : List ℕ) (at : slice_g
       let e : n + 1 ≡ suc n = omega arith in
       longer roots x n long ∙ e ∙ sym (length-take-le (suc n) top (omega (arith, h)))
 
-  kept : (x index j : ℕ) → slice_get (take n top) index ≡ Some j → seat_in (roots ++ x ∷ []) index ≡ seat_in roots index
+  kept : (x index j : ℕ) → slice_get (take n top) index ≡ Some j → index_in (roots ++ x ∷ []) index ≡ index_in roots index
   kept x index j h =
       let before = slice_get_within (take n top) index j h in
-      let same = are.each in seat_kept roots x index (omega (arith, before, same))
+      let same = are.each in shell_index_kept roots x index (omega (arith, before, same))
 
   -- an instance that is in the resource is put after the others
   pub root_here : (system_of i).resource (path_at (system_of i) k) ≡ r → AreRoots i r (take (n + 1) top) (roots ++ length numbers ∷ []) (numbers ++ k ∷ [])
@@ -74,10 +74,10 @@ module _ (i : Inputs) (r n k : ℕ) (top roots numbers : List ℕ) (at : slice_g
         there = λ index j h lies_j. elim (nearer top n index j h) [
           | Before g ↦
               ap (slice_get (numbers ++ k ∷ [])) (kept (length numbers) index j g)
-              ∙ slice_get-append_left numbers (k ∷ []) (seat_in roots index) j (are.there index j g lies_j)
+              ∙ slice_get-append_left numbers (k ∷ []) (index_in roots index) j (are.there index j g lies_j)
           | Last e g ↦
-              ap (λ p. slice_get (numbers ++ k ∷ []) (seat_in (roots ++ length numbers ∷ []) p)) e
-              ∙ ap (slice_get (numbers ++ k ∷ [])) (seat_last roots (length numbers) n long) ∙ slice_get-append_here numbers k ∙ sym at ∙ g
+              ap (λ p. slice_get (numbers ++ k ∷ []) (index_in (roots ++ length numbers ∷ []) p)) e
+              ∙ ap (slice_get (numbers ++ k ∷ [])) (shell_index_last roots (length numbers) n long) ∙ slice_get-append_here numbers k ∙ sym at ∙ g
         ];
         among = λ index j h. elim (among numbers k index j h) [
           | There g ↦ (let m = are.among index j g in (m.0, one_more top n m.0 j m.1))

@@ -24,8 +24,8 @@ use Rattle.fb_types.proofs.lemmas.names.NameLaws.{same_name-itself}
 use Rattle.fb_types.proofs.lemmas.events.EventCounts.{one_input}
 use Rattle.fb_system.specs.Lines.{IsEmission}
 use Rattle.fb_net.specs.Outs.{Gathered, RepresentsOutcome, asked, gathered, out_of}
-use Rattle.fb_net.specs.declared.outbox.Out.{Out}
-use Rattle.fb_net.specs.declared.outbox.Outbox.{Outbox}
+use Rattle.fb_net.specs.declared.effects.Out.{Out}
+use Rattle.fb_net.specs.declared.effects.Effects.{Effects}
 use Rattle.fb_event.specs.Reactions.{FitTheirTypes}
 use Rattle.fb_net.specs.Leaves.{EventCame, HasTypedInputs, taken_reaction}
 use Rattle.fb_net.specs.Samples.{AreShown}
@@ -100,12 +100,12 @@ module _ (i : Inputs) (k : Key) (kind : EventKind) (at : Target) (is : (system_o
       ap (λ (x : Ports). taking sys k w (port_of sys at) x left) ports ∙ ap (λ (z : Port). taking sys k w z its left) port
 
   -- the blocks once the event is taken
-  begun-represents : (old mid : Forest) (x y : Outbox) → ComesTo i (sampling i k at) old x mid y
+  begun-represents : (old mid : Forest) (x y : Effects) → ComesTo i (sampling i k at) old x mid y
       → (w : World) (left : ℕ) → IsForest i old w → RepresentsOutcome i (gathered i x) mid y (begun w left)
   begun-represents old mid x y taken w left h = subst (λ (o : Outcome). RepresentsOutcome i (gathered i x) mid y o) (begun-is w left) (taken w left h)
 
   -- the blocks hold values of their types once the event is taken
-  pub event-typed : (old mid : Forest) (x y : Outbox) → ComesTo i (sampling i k at) old x mid y → IsTypedSystem sys → AreTypedAt i old → InForest i mid at.instance
+  pub event-typed : (old mid : Forest) (x y : Effects) → ComesTo i (sampling i k at) old x mid y → IsTypedSystem sys → AreTypedAt i old → InForest i mid at.instance
       → (w : World) × IsForest i mid w × InForest i mid at.instance × HasTypedInputs i kind at.instance w
   event-typed old mid x y taken sound typed lies =
       let w : World = typed.0 in (
@@ -116,7 +116,7 @@ module _ (i : Inputs) (k : Key) (kind : EventKind) (at : Target) (is : (system_o
       )
 
   -- The event block has reacted, and what it emits was put out.
-  pub event-reacts : (old mid late new : Forest) (x y z : Outbox) (ask : TimerAsk) (emits : List run.Emission)
+  pub event-reacts : (old mid late new : Forest) (x y z : Effects) (ask : TimerAsk) (emits : List run.Emission)
       → ComesTo i (sampling i k at) old x mid y → InForest i mid at.instance
       → ((w : World) → IsForest i mid w → InForest i mid at.instance → EventCame i at.instance kind (taken_reaction i kind at k.tick w) late ask emits w)
       → ((before : Gathered) (o : Outcome) → RepresentsOutcome i before late (record y { timer = asked y.timer ask }) o
@@ -138,7 +138,7 @@ module _ (i : Inputs) (k : Key) (kind : EventKind) (at : Target) (is : (system_o
 -- ---- Basic blocks
 
 -- The line of an event at a leaf and what the leaf emits were put out.
-pub wrote-so : (i : Inputs) (k : Key) (at : ℕ) (line : Line) (es : List Emission) (old new : Forest) (x y z : Outbox)
+pub wrote-so : (i : Inputs) (k : Key) (at : ℕ) (line : Line) (es : List Emission) (old new : Forest) (x y z : Effects)
     → map (line_of (system_of i)) y.lines.items ≡ map (line_of (system_of i)) x.lines.items ++ line ∷ []
     → y.outs.items ≡ x.outs.items → y.timer ≡ x.timer
     → ((before : Gathered) (o : Outcome) → RepresentsOutcome i before old y o → RepresentsOutcome i before new z (emitted_all (system_of i) k (path_at (system_of i) at) es o))
@@ -162,7 +162,7 @@ sent-of i r at before after =
     ++ spread (system_of i) r (map (carried_of (system_of i)) []) ((system_of i).targets (port_of (system_of i) at))
 
 -- An event has gone on inside.
-pub enters : (i : Inputs) (k : Key) (at : Target) (old mid : Forest) (x y z : Outbox) → ComesTo i (sampling i k at) old x mid y → IsReady k mid
+pub enters : (i : Inputs) (k : Key) (at : Target) (old mid : Forest) (x y z : Effects) → ComesTo i (sampling i k at) old x mid y → IsReady k mid
     → z.lines.items ≡ y.lines.items → z.timer ≡ y.timer
     → sent-of i mid.resource at y.outs.items z.outs.items → ComesTo i (entering i k at) old x mid z
 enters i k at old mid x y z taken ready lines timer sent w left h =
@@ -178,7 +178,7 @@ enters i k at old mid x y z taken ready lines timer sent w left h =
     }
 
 -- An event has left, with what the composite shows.
-pub leaves : (i : Inputs) (k : Key) (at : Target) (old new : Forest) (x y : Outbox) (values : List Value) (emits : List run.Emission)
+pub leaves : (i : Inputs) (k : Key) (at : Target) (old new : Forest) (x y : Effects) (values : List Value) (emits : List run.Emission)
     → IsReady k old → at.is_output ≡ true → InForest i old at.instance → AreShown i old at values
     → emits ≡ record { event = at.event; values = values } ∷ []
     → ((before : Gathered) (o : Outcome) → RepresentsOutcome i before old x o → RepresentsOutcome i before new y

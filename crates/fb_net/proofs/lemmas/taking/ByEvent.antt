@@ -29,12 +29,12 @@ use Rattle.fb_types.specs.declared.value.Value.{Value}
 use Rattle.fb_types.specs.declared.run.Event.{Event as Waiting}
 use Rattle.fb_types.specs.declared.run.Event.TheVariants as waits
 use Rattle.fb_net.specs.Outs.{Gathered, RepresentsOutcome, asked, gathered, out_of}
-use Rattle.fb_net.specs.declared.outbox.Outbox.{Outbox}
+use Rattle.fb_net.specs.declared.effects.Effects.{Effects}
 use Rattle.fb_net.specs.Leaves.{EventCame, expiry_reaction}
 use Rattle.fb_net.specs.Samples.{HoldsAll, slots_set}
 use Rattle.fb_system.specs.Stimuli.{IsStimulusAt, set_of}
 use Rattle.fb_system.specs.declared.stimulus.StimulusAt.{StimulusAt}
-use Rattle.fb_types.specs.declared.run.SlotValue.{SlotValue}
+use Rattle.fb_types.specs.declared.run.InputValue.{InputValue}
 use Rattle.fb_net.specs.Changes.{Changes}
 use Rattle.fb_net.specs.Worlds.{InForest, IsForest}
 use Rattle.fb_net.specs.declared.resource.Forest.{Forest}
@@ -50,7 +50,7 @@ use Rattle.fb_net.proofs.lemmas.values.Sampling.{ports-of_kind}
 -- ---- From the arrival to the taking
 
 -- An event is taken by what it brings first, and by its arrival then.
-module _ (i : Inputs) (k : Key) (e : Waiting) (at : Target) (old mid new : Forest) (x y : Outbox) (left after : ℕ) (brings : World → World)
+module _ (i : Inputs) (k : Key) (e : Waiting) (at : Target) (old mid new : Forest) (x y : Effects) (left after : ℕ) (brings : World → World)
     (brought : (w : World) → IsForest i old w → IsForest i mid (brings w))
     (takes : (w : World) (o : Outcome) → Arrives i k at left (brings w) o → Reacts (system_of i) k w (event_of i e) left o) where
   came : (stop : Option Reason) → ReactedIn i (Arrives i k at left) mid x stop new after y → Came i k e old x left stop new after y
@@ -70,7 +70,7 @@ arrives-at i k at left w o h =
     subst (λ (p : Path). ReactsAt (system_of i) k w (port_of (system_of i) at) left ((system_of i).kind p) o) (sym (path-of_port (system_of i) at)) h
 
 -- A local event is its arrival.
-pub local-taken : (i : Inputs) (k : Key) (at : Target) (old new : Forest) (x y : Outbox) (left after : ℕ) (r : Result (Unit {0}) Halt)
+pub local-taken : (i : Inputs) (k : Key) (at : Target) (old new : Forest) (x y : Effects) (left after : ℕ) (r : Result (Unit {0}) Halt)
     → HasReacted i (Arrives i k at left) old x r new after y → HasTaken i k (waits.Local at) old x left r new after y
 local-taken i k at old new x y left after r h =
     taken-by_arrival i k (waits.Local at) at old old new x y left after (λ w. w) (λ w represents. represents) (arrives-at i k at left) r h
@@ -86,7 +86,7 @@ module _ (i : Inputs) (k : Key) (m : Message) (old mid : Forest) (holds : HoldsA
       let w : World = typed.0 in
       (record w { held = hold_all carried w.held }, holds.represents w typed.1, held_typed (system_of i) w typed.2 carried event)
 
-  pub arrival-taken : (new : Forest) (x y : Outbox) (left after : ℕ) (r : Result (Unit {0}) Halt)
+  pub arrival-taken : (new : Forest) (x y : Effects) (left after : ℕ) (r : Result (Unit {0}) Halt)
       → HasReacted i (Arrives i k m.target left) mid x r new after y → HasTaken i k (waits.Arrival m) old x left r new after y
   arrival-taken new x y left after r h =
       taken-by_arrival i k (waits.Arrival m) m.target old mid new x y left after (λ w. record w { held = hold_all carried w.held }) holds.represents
@@ -102,7 +102,7 @@ stimulus-is i row s is =
     ∙ ap (λ (bs : List Bound). Stimulated (port_of (system_of i) s.target) bs) (sym is.sets)
 
 -- An event that is a stimulus at this target, with these slots: one of the system by its row, or one that was given.
-module _ (i : Inputs) (e : Waiting) (at : Target) (xs : List SlotValue)
+module _ (i : Inputs) (e : Waiting) (at : Target) (xs : List InputValue)
     (is : event_of i e ≡ Stimulated (port_of (system_of i) at) (map (set_of (system_of i) at.instance) xs)) where
   pub stimulus-lies : (old : Forest) → (system_of i).resource (path_of (event_of i e)) ≡ old.resource → InForest i old at.instance
   stimulus-lies old here = ap (system_of i).resource (sym (ap path_of is ∙ path-of_port (system_of i) at)) ∙ here
@@ -144,7 +144,7 @@ module _ (i : Inputs) (e : Waiting) (at : Target) (xs : List SlotValue)
         subst (λ (z : model.Event). Reacts sys k w z left o) (sym is)
         (subst (λ (z : Path). ReactsAt sys k (with_slots z sets w) q left (sys.kind z) o) (sym (path-of_port sys at)) h)
 
-    pub stimulus-taken : (new : Forest) (x y : Outbox) (left after : ℕ) (r : Result (Unit {0}) Halt)
+    pub stimulus-taken : (new : Forest) (x y : Effects) (left after : ℕ) (r : Result (Unit {0}) Halt)
         → HasReacted i (Arrives i k at left) mid x r new after y → HasTaken i k e old x left r new after y
     stimulus-taken new x y left after r h =
         taken-by_arrival i k e at old mid new x y left after (with_slots p sets) brought (takes left) r h
@@ -152,7 +152,7 @@ module _ (i : Inputs) (e : Waiting) (at : Target) (xs : List SlotValue)
 -- ---- Timers
 
 -- nothing was put out yet
-silent-represents : (i : Inputs) (f : Forest) (x : Outbox) (w : World) (left : ℕ) → IsForest i f w
+silent-represents : (i : Inputs) (f : Forest) (x : Effects) (w : World) (left : ℕ) → IsForest i f w
     → RepresentsOutcome i (gathered i x) f x (silent w left)
 silent-represents i f x w left h = record {
   world = h;
@@ -162,7 +162,7 @@ silent-represents i f x w left h = record {
 }
 
 -- An event block has reacted to its timer, and what it emits was put out.
-pub timer-expires : (i : Inputs) (k : Key) (kind : EventKind) (at : ℕ) (old late new : Forest) (x y : Outbox) (ask : TimerAsk) (emits : List run.Emission)
+pub timer-expires : (i : Inputs) (k : Key) (kind : EventKind) (at : ℕ) (old late new : Forest) (x y : Effects) (ask : TimerAsk) (emits : List run.Emission)
     → (system_of i).kind (path_at (system_of i) at) ≡ Some (Event kind) → InForest i old at
     → ((w : World) → IsForest i old w → InForest i old at → EventCame i at kind (expiry_reaction i kind at k.tick w) late ask emits w)
     → ((before : Gathered) (o : Outcome) → RepresentsOutcome i before late (record x { timer = asked x.timer ask }) o → RepresentsOutcome i before new y
@@ -183,7 +183,7 @@ timer-expires i k kind at old late new x y ask emits is here comes put_out w lef
     (put_out (gathered i x) (remembered p r (silent w left)) settled)
 
 -- The timer of an event block was taken.
-pub timer-taken : (i : Inputs) (k : Key) (kind : EventKind) (at : ℕ) (old new : Forest) (x y : Outbox)
+pub timer-taken : (i : Inputs) (k : Key) (kind : EventKind) (at : ℕ) (old new : Forest) (x y : Effects)
     → (system_of i).kind (path_at (system_of i) at) ≡ Some (Event kind) → ComesTo i (expiring i k kind at) old x new y
     → (left : ℕ) → Came i k (waits.Timer at) old x left None new left y
 timer-taken i k kind at old new x y is represents left w h =
@@ -204,7 +204,7 @@ rests i k p w left None = refl
 rests i k p w left (Some (block.Basic t)) = refl
 rests i k p w left (Some (block.Composite t)) = refl
 
-pub timer-rests : (i : Inputs) (k : Key) (at : ℕ) (declared : Option BlockType) (f : Forest) (x : Outbox)
+pub timer-rests : (i : Inputs) (k : Key) (at : ℕ) (declared : Option BlockType) (f : Forest) (x : Effects)
     → option_map kind_of declared ≡ (system_of i).kind (path_at (system_of i) at) → (left : ℕ) → Came i k (waits.Timer at) f x left None f left x
 timer-rests i k at declared f x is left w h =
     let sys = system_of i in

@@ -23,7 +23,7 @@ use Rattle.fb_types.specs.declared.value.Reason.{Reason}
 use Rattle.fb_types.specs.declared.value.Value.{Value}
 use Rattle.fb_types.proofs.lemmas.names.PathLaws.{same_path_itself}
 use Rattle.fb_net.specs.Outs.{gathered, RepresentsOutcome}
-use Rattle.fb_net.specs.declared.outbox.Outbox.{Outbox}
+use Rattle.fb_net.specs.declared.effects.Effects.{Effects}
 use Rattle.fb_net.specs.Leaves.{ChartCame, ChartEnded, EachWorld, chart_start, charted_block}
 use Rattle.fb_net.specs.Samples.{AreSampled}
 use Rattle.fb_net.specs.Worlds.{InForest, IsForest}
@@ -69,7 +69,7 @@ start_at b left = record { state = state_of b.memory; vars = b.variables; left =
 
 -- A basic block t has reacted to an event with values that it sampled, and line and emissions were written.
 module _ (i : Inputs) (k : Key) (at : Target) (t : BasicType) (is : (system_of i).kind (path_at (system_of i) at.instance) ≡ Some (Basic t))
-    (input : at.is_output ≡ false) (old mid new : Forest) (x y : Outbox) (ready : IsReady k old) (here : InForest i old at.instance)
+    (input : at.is_output ≡ false) (old mid new : Forest) (x y : Effects) (ready : IsReady k old) (here : InForest i old at.instance)
     (values : List Value) (are : AreSampled i old at values) (before after : ℕ) (emits : List run.Emission)
     (wrote : WritesAndEmits i k at.instance (line_of (system_of i) (taken_line k at values))
     (map (emission_of (ports_at (system_of i) (path_at (system_of i) at.instance))) emits) mid x new y) where

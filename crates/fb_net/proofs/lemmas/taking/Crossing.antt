@@ -23,7 +23,7 @@ use Rattle.fb_types.specs.declared.library.Ports.{Ports}
 use Rattle.fb_types.specs.declared.run.Halt.{Halt}
 use Rattle.fb_types.specs.declared.run.Halt.TheVariants as halt
 use Rattle.fb_types.specs.declared.run.Target.{Target}
-use Rattle.fb_net.specs.declared.outbox.Outbox.{Outbox}
+use Rattle.fb_net.specs.declared.effects.Effects.{Effects}
 use Rattle.fb_types.proofs.lemmas.names.NameLaws.{any_from_contains, contains_from_any}
 use Rattle.fb_types.proofs.lemmas.lists.TwiceLaws.{Twice-append_left}
 use Rattle.fb_types.proofs.lemmas.lists.Elements.{Contains-cons_cases, Contains-nil}
@@ -38,7 +38,7 @@ use Rattle.fb_net.proofs.lemmas.values.Sampling.{input_port, output_port, ports-
 -- ---- How a reaction ended
 
 -- A step that did not stop is a reaction of the model.
-pub done-reacted : (i : Inputs) (step : World → ℕ → Outcome) (Comes : World → Outcome → Type 0) (old new : Forest) (x y : Outbox) (left : ℕ)
+pub done-reacted : (i : Inputs) (step : World → ℕ → Outcome) (Comes : World → Outcome → Type 0) (old new : Forest) (x y : Effects) (left : ℕ)
     → ((w : World) → Comes w (step w left)) → ((w : World) → (step w left).stop ≡ None) → ((w : World) → (step w left).left ≡ left)
     → ComesTo i step old x new y → ReactedIn i Comes old x None new left y
 done-reacted i step Comes old new x y left comes stops leaves represents w h = record {
@@ -50,7 +50,7 @@ done-reacted i step Comes old new x y left comes stops leaves represents w h = r
 }
 
 -- However a reaction ended that nothing stops, its result is what it says.
-pub reacted-ended : (i : Inputs) (Comes : World → Outcome → Type 0) (old new : Forest) (x y : Outbox) (left : ℕ) (r : Result (Unit {0}) Halt)
+pub reacted-ended : (i : Inputs) (Comes : World → Outcome → Type 0) (old new : Forest) (x y : Effects) (left : ℕ) (r : Result (Unit {0}) Halt)
     → IfErr r (λ h. h ≡ halt.Memory) → OnOk r (ReactedIn i Comes old x None new left y) → HasReacted i Comes old x r new left y
 reacted-ended i Comes old new x y left (Ok u) memory done = done
 reacted-ended i Comes old new x y left (Err (halt.Stop s)) memory done = absurd cc

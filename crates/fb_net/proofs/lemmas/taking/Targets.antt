@@ -18,8 +18,8 @@ use Rattle.fb_types.specs.declared.value.Value.{Value}
 use Rattle.fb_system.specs.Ports.{AreTogether, IsCarried, IsTarget, link_of}
 use Rattle.fb_net.specs.Emitting.{GoesTo, PutsOut, message_to, out_at, out_to}
 use Rattle.fb_net.specs.Outs.{IsOut, out_of}
-use Rattle.fb_net.specs.declared.outbox.Out.{Out}
-use Rattle.fb_net.specs.declared.outbox.Out.TheVariants.{Local}
+use Rattle.fb_net.specs.declared.effects.Out.{Out}
+use Rattle.fb_net.specs.declared.effects.Out.TheVariants.{Local}
 use Rattle.fb_net.proofs.lemmas.emitting.PortRows.{path-of_port}
 
 -- ---- One target

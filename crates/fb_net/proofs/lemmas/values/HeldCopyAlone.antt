@@ -92,7 +92,7 @@ module _ (i : Inputs) (accepted : AreAccepted i) (numbered : (k : ℕ) → k < l
               blocks = forest.blocks;
               ways = forest.ways;
               shells = forest.shells;
-              seated = forest.seated;
+              has_shells = forest.has_shells;
               apart = forest.apart;
               held = λ y is_y read other.
                   by_port w y is_y (w.held (variable_of (system_of i) y)) (forest.held y is_y read other) (same_port (variable_of (system_of i) y) (variable_of (system_of i) x)) refl;

@@ -21,7 +21,7 @@ use Rattle.fb_types.proofs.lemmas.names.NameLaws.{same_from_same_name, same_name
 use Rattle.fb_system.specs.Ports.{data_input}
 use Rattle.fb_system.specs.IndexLists.{AreIndexes}
 use Rattle.fb_net.specs.Outs.{RepresentsOutcome, gathered, out_of}
-use Rattle.fb_net.specs.declared.outbox.Outbox.{Outbox}
+use Rattle.fb_net.specs.declared.effects.Effects.{Effects}
 use Rattle.fb_net.specs.Samples.{AreSampled, all_sampled, names_in}
 use Rattle.fb_net.specs.Changes.{Changes}
 use Rattle.fb_net.specs.Worlds.{InForest, IsForest}
@@ -145,7 +145,7 @@ module _ (i : Inputs) (k : Key) (at : Target) (its : Ports) (ports : ports_at (s
       ap (λ (x : Ports). taking sys k w (port_of sys at) x left) ports ∙ ap (λ (q : Port). taking sys k w q its left) port-here
 
 -- An event block or a composite has taken the event.
-pub sampling-represents : (i : Inputs) (k : Key) (at : Target) (old new : Forest) (x y : Outbox) (values : List Value)
+pub sampling-represents : (i : Inputs) (k : Key) (at : Target) (old new : Forest) (x y : Effects) (values : List Value)
     → IsReady k old → at.is_output ≡ false → InForest i old at.instance → AreSampled i old at values
     → Changes i old at.instance (all_sampled (names_in (system_of i) at) values) new
     → map (line_of (system_of i)) y.lines.items ≡ map (line_of (system_of i)) x.lines.items ++ line_of (system_of i) (taken_line k at values) ∷ []

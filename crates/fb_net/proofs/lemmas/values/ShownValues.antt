@@ -15,7 +15,7 @@ use Rattle.fb_types.specs.declared.library.Variable.{Variable}
 use Rattle.fb_types.specs.declared.value.Value.{Value}
 use Rattle.fb_types.specs.declared.run.InstanceVariable.{InstanceVariable}
 use Rattle.fb_system.specs.Ports.{IsVariable, data_input, data_output, variable_of, variables_at}
-use Rattle.fb_net.specs.Worlds.{IsComposite, Reads, ShellRepresents, ValuesRepresent, seat_in, value_in}
+use Rattle.fb_net.specs.Worlds.{IsComposite, Reads, ShellRepresents, ValuesRepresent, index_in, value_in}
 use Rattle.fb_net.specs.declared.resource.Forest.{Forest}
 use Rattle.fb_net.specs.declared.shell.Shell.{Shell}
 use Rattle.fb_types.proofs.lemmas.lists.ByIndex.{element_at}
@@ -87,26 +87,26 @@ module _ (sys : System) (x : InstanceVariable) (s : Shell) (m : model.Block) (va
       no_basic : (t : BasicType) → Some (Composite composite.0) ≢ Some (Basic t)
       no_basic t e = cc
 
--- ---- The seats
+-- ---- The indexes
 
 same_found : {A : Type 0} (o : Option A) (a b : A) → o ≡ Some a → o ≡ Some b → a ≡ b
 same_found o a b e f = cc
 
--- what is read at the index that is the seat of an instance is its shell
+-- what is read at the index that is the index of an instance is its shell
 pub shell_read :
-    (t : Forest) (k index : ℕ) (shells : List Shell) (s : Shell) → seat_in t.seats k < length t.shells → index ≡ seat_in t.seats k → shells ≡ t.shells → s ≡ get_or shells index s →
-    slice_get t.shells (seat_in t.seats k) ≡ Some s
+    (t : Forest) (k index : ℕ) (shells : List Shell) (s : Shell) → index_in t.shell_indexes k < length t.shells → index ≡ index_in t.shell_indexes k → shells ≡ t.shells → s ≡ get_or shells index s →
+    slice_get t.shells (index_in t.shell_indexes k) ≡ Some s
 shell_read t k index shells s within at same read =
-    slice_get_read t.shells (length t.shells) (seat_in t.seats k) s refl within
+    slice_get_read t.shells (length t.shells) (index_in t.shell_indexes k) s refl within
     (read ∙ ap (λ (xs : List Shell). get_or xs index s) same ∙ ap (λ (n : ℕ). get_or t.shells n s) at)
 
--- what the shell at the seat of an instance holds is what the block of the model holds
-pub seated_reads :
+-- what the shell at the index of an instance holds is what the block of the model holds
+pub shell_there_reads :
     (i : Inputs) (t : Forest) (x : InstanceVariable) (part : model.Block → Values) (s : Shell) (v : Value) → x.instance < length (system_of i).paths →
-    slice_get t.shells (seat_in t.seats x.instance) ≡ Some s →
+    slice_get t.shells (index_in t.shell_indexes x.instance) ≡ Some s →
     ((m : model.Block) → ShellRepresents (system_of i) (path_at (system_of i) x.instance) s m → v ≡ part m (variable_of (system_of i) x).name) →
     Reads i t x part v
-seated_reads i t x part s v number found reads w forest within =
+shell_there_reads i t x part s v number found reads w forest within =
     let there = forest.shells x.instance number within in
     let p = path_at (system_of i) x.instance in
     reads (w.blocks p) (subst (λ (y : Shell). ShellRepresents (system_of i) p y (w.blocks p)) (same_found _ there.shell s there.stood found) there.represents)

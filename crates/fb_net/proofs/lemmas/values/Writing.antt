@@ -22,7 +22,7 @@ use Rattle.fb_net.specs.Blocks.{components_of, own_of, with_input, with_publishe
 use Rattle.fb_net.specs.Changes.{Changes}
 use Rattle.fb_net.specs.Changes as specs
 use Rattle.fb_net.specs.Trees.{PutAlone, block_at, put_at}
-use Rattle.fb_net.specs.Worlds.{InForest, IsForest, NodeRepresents, SeatedAt, ShellRepresents, RepresentsAt, Represents, TakesSamples, ValuesRepresent, input_names, output_names, seat_in, way_in, with_seated}
+use Rattle.fb_net.specs.Worlds.{InForest, IsForest, NodeRepresents, ShellAt, ShellRepresents, RepresentsAt, Represents, TakesSamples, ValuesRepresent, input_names, output_names, index_in, way_in, with_shell_at}
 use Rattle.fb_net.specs.declared.block.Block.{Block}
 use Rattle.fb_net.specs.declared.block.Block.TheOpen.{Block-F}
 use Rattle.fb_net.specs.declared.block.Block.TheViews.{out-Block}
@@ -31,7 +31,7 @@ use Rattle.fb_net.specs.declared.shell.Shell.{Shell}
 use Rattle.fb_net.proofs.lemmas.values.NamesDiffer.{kind_apart}
 use Rattle.fb_types.proofs.lemmas.lists.ByIndex.{element_of_index}
 use Rattle.fb_net.proofs.lemmas.blocks.OtherBlocks.{get_set_other, get_set_same, others_stay}
-use Rattle.fb_net.proofs.lemmas.opening.Seating.{seats_differ}
+use Rattle.fb_net.proofs.lemmas.opening.ShellIndexes.{shell_indexes_differ}
 use Rattle.fb_net.proofs.lemmas.blocks.WaysInTrees.{ways_differ}
 use Rattle.fb_net.proofs.lemmas.values.ShownValues.{among_inputs, among_outputs, name_there}
 
@@ -143,32 +143,32 @@ each_instance i numbered w k number after At here j h there = by_path (same_path
         there (λ is. true≢false (sym (ap (λ (m : ℕ). same_path (path_at (system_of i) m) (path_at (system_of i) k)) is ∙ same_path_itself (path_at (system_of i) k)) ∙ e))
 
 module _ (i : Inputs) (numbered : AreNumbered i) (t : Forest) (w : World) (forest : IsForest i t w) (k : ℕ) (number : k < length (system_of i).paths) (lies : InForest i t k) (after : model.Block) where
-  -- another shell at the seat of the instance
-  pub seated_forest :
+  -- another shell at the index of the instance
+  pub shell_there_forest :
       (s : Shell) → ShellRepresents (system_of i) (path_at (system_of i) k) s after →
       ((own : Block) → Represents (system_of i) (path_at (system_of i) k) own (w.blocks (path_at (system_of i) k)) → Represents (system_of i) (path_at (system_of i) k) own after) →
-      IsForest i (with_seated t k s) (with_block (path_at (system_of i) k) after w)
-  seated_forest s represents kept =
-      let seat = seat_in t.seats k in
+      IsForest i (with_shell_at t k s) (with_block (path_at (system_of i) k) after w)
+  shell_there_forest s represents kept =
+      let shell_index = index_in t.shell_indexes k in
       let here = forest.shells k number lies in
       let block = forest.blocks k number lies in
       record {
         blocks = λ j h lies_j. each_instance i numbered w k number after (λ n b. RepresentsAt i t.roots t.blocks n b)
             (record { own = block.own; stood = block.stood; represents = kept block.own block.represents }) j h (λ other. forest.blocks j h lies_j);
         ways = forest.ways;
-        shells = λ j h lies_j. each_instance i numbered w k number after (λ n b. SeatedAt i t.seats (slice_set t.shells seat s) n b)
-            (record { shell = s; stood = get_set_same t.shells seat here.shell s here.stood; represents = represents }) j h
+        shells = λ j h lies_j. each_instance i numbered w k number after (λ n b. ShellAt i t.shell_indexes (slice_set t.shells shell_index s) n b)
+            (record { shell = s; stood = get_set_same t.shells shell_index here.shell s here.stood; represents = represents }) j h
             (λ other.
             (let there = forest.shells j h lies_j in
             record {
               shell = there.shell;
               stood =
-                  get_set_other t.shells seat (seat_in t.seats j) s
-                  (λ seats. other (seats_differ i t.resource (length (system_of i).paths) t.seats forest.apart j k h number lies_j lies seats))
+                  get_set_other t.shells shell_index (index_in t.shell_indexes j) s
+                  (λ shell_indexes. other (shell_indexes_differ i t.resource (length (system_of i).paths) t.shell_indexes forest.apart j k h number lies_j lies shell_indexes))
                   ∙ there.stood;
               represents = there.represents;
             }));
-        seated = forest.seated;
+        has_shells = forest.has_shells;
         apart = forest.apart;
         held = forest.held;
       }
@@ -193,9 +193,9 @@ module _ (i : Inputs) (numbered : AreNumbered i) (t : Forest) (w : World) (fores
               represents = there.represents;
             }));
         ways = forest.ways;
-        shells = λ j h lies_j. each_instance i numbered w k number after (λ n y. SeatedAt i t.seats t.shells n y)
+        shells = λ j h lies_j. each_instance i numbered w k number after (λ n y. ShellAt i t.shell_indexes t.shells n y)
             (record { shell = shell.shell; stood = shell.stood; represents = kept shell.shell shell.represents }) j h (λ other. forest.shells j h lies_j);
-        seated = forest.seated;
+        has_shells = forest.has_shells;
         apart = forest.apart;
         held = forest.held;
       }
@@ -226,7 +226,7 @@ outputs_once i accepted p =
     ] refl
 
 module _ (i : Inputs) (accepted : AreAccepted i) (numbered : AreNumbered i) (old : Forest) (x : InstanceVariable) (variable : IsVariable (system_of i) x) (v : Value)
-    (s : Shell) (found : slice_get old.shells (seat_in old.seats x.instance) ≡ Some s) where
+    (s : Shell) (found : slice_get old.shells (index_in old.shell_indexes x.instance) ≡ Some s) where
   abbrev pub path : Path
   path = path_at (system_of i) x.instance
 
@@ -236,28 +236,28 @@ module _ (i : Inputs) (accepted : AreAccepted i) (numbered : AreNumbered i) (old
   changes :
       (f : Shell → Shell) (change : model.Block → model.Block) → ((m : model.Block) → ShellRepresents (system_of i) path s m → ShellRepresents (system_of i) path (f s) (change m)) →
       ((m : model.Block) (own : Block) → Represents (system_of i) path own m → Represents (system_of i) path own (change m)) →
-      Changes i old x.instance change (with_seated old x.instance (f s))
+      Changes i old x.instance change (with_shell_at old x.instance (f s))
   changes f change keeps kept =
       record {
         resource = refl;
         represents = λ w forest lies.
             (let here = forest.shells x.instance variable.instance lies in
-            seated_forest i numbered old w forest x.instance variable.instance lies (change (w.blocks path)) (f s)
+            shell_there_forest i numbered old w forest x.instance variable.instance lies (change (w.blocks path)) (f s)
             (keeps (w.blocks path) (subst (λ (y : Shell). ShellRepresents (system_of i) path y (w.blocks path)) (same_shell here.shell s (sym here.stood ∙ found)) here.represents))
             (kept (w.blocks path)));
       }
 
-  pub slot_changes : x.is_output ≡ false → Changes i old x.instance (specs.slot_set name v) (with_seated old x.instance (with_slot x.variable v s))
+  pub slot_changes : x.is_output ≡ false → Changes i old x.instance (specs.slot_set name v) (with_shell_at old x.instance (with_slot x.variable v s))
   slot_changes into =
       changes (with_slot x.variable v) (specs.slot_set name v)
       (λ m represents. slot_set (system_of i) path s m represents (inputs_once i accepted path) x.variable name (input_there (system_of i) x variable into) v) (λ m own represents. represents)
 
-  pub output_changes : x.is_output ≡ true → Changes i old x.instance (specs.output_shown name v) (with_seated old x.instance (with_published x.variable v s))
+  pub output_changes : x.is_output ≡ true → Changes i old x.instance (specs.output_shown name v) (with_shell_at old x.instance (with_published x.variable v s))
   output_changes out =
       changes (with_published x.variable v) (specs.output_shown name v)
       (λ m represents. output_set (system_of i) path s m represents (outputs_once i accepted path) x.variable name (output_there (system_of i) x variable out) v) (λ m own represents. represents)
 
-  pub input_changes : x.is_output ≡ false → TakesSamples (system_of i) x → Changes i old x.instance (specs.input_sampled name v) (with_seated old x.instance (with_input x.variable v s))
+  pub input_changes : x.is_output ≡ false → TakesSamples (system_of i) x → Changes i old x.instance (specs.input_sampled name v) (with_shell_at old x.instance (with_input x.variable v s))
   input_changes into takes =
       changes (with_input x.variable v) (specs.input_sampled name v)
       (λ m represents. input_set (system_of i) path s m represents (inputs_once i accepted path) x.variable name (input_there (system_of i) x variable into) v)

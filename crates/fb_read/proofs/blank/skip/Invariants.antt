@@ -3,4 +3,4 @@ use Rattle.fb_read.specs.Blank.{skip, start}
 use Rattle.fb_read.proofs.blank.skip.Given as goal
 
 abbrev pub invariant-loop-i : goal.invariant-loop-i
-invariant-loop-i l = skip l.position (drop l.i l.bytes) ≡ skip start l.bytes
+invariant-loop-i l = skip l.state (drop l.i l.bytes) ≡ skip start l.bytes

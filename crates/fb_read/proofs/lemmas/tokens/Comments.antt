@@ -3,20 +3,20 @@ use Rattle.std.proofs.Common.{◌≡◌, ℕ, ◌<◌, ◌≤◌, Bool, true, fa
 use Rattle.std.specs.Prelude.{◌&&◌}
 use Rattle.std.proofs.lemmas.Bool.{and_parts, cases_lt, eqb-true}
 use Rattle.std.proofs.lemmas.List.{drop_all}
-use Rattle.fb_read.specs.declared.blank.Position.{Position}
-use Rattle.fb_read.specs.declared.blank.Position.TheVariants.{Between, Opening, Inside, Closing, Line}
+use Rattle.fb_read.specs.declared.blank.BlankState.{BlankState}
+use Rattle.fb_read.specs.declared.blank.BlankState.TheVariants.{Between, Opening, Inside, Closing, Line}
 use Rattle.fb_read.specs.Blank.{Text, at, is_blank, skip, start, step, may_end}
 use Rattle.fb_read.specs.Located.{begun}
 
 -- the position is in a comment that has to be closed
-abbrev pub InComment : Position → Type 0
+abbrev pub InComment : BlankState → Type 0
 InComment Between = ⊥
 InComment Opening = Unit {0}
 InComment Inside = Unit {0}
 InComment Closing = Unit {0}
 InComment Line = ⊥
 
-pub in-comment : (p : Position) → may_end p ≡ false → InComment p
+pub in-comment : (p : BlankState) → may_end p ≡ false → InComment p
 in-comment Between e = absurd cc
 in-comment Opening e = tt
 in-comment Inside e = tt
@@ -24,18 +24,18 @@ in-comment Closing e = tt
 in-comment Line e = absurd cc
 
 -- what is skipped from where the comment begins is what is skipped from here
-pub since-begun : (p : Position) (z : Text) (i before : ℕ) → skip p (drop i z) ≡ skip start (drop before z) → skip p (drop i z) ≡ skip start (drop (begun p i before) z)
+pub since-begun : (p : BlankState) (z : Text) (i before : ℕ) → skip p (drop i z) ≡ skip start (drop before z) → skip p (drop i z) ≡ skip start (drop (begun p i before) z)
 since-begun Between z i before h = refl
 since-begun Opening z i before h = h
 since-begun Inside z i before h = h
 since-begun Closing z i before h = h
 since-begun Line z i before h = h
 
-not-comment : (p q : Position) → Some p ≡ Some q → (InComment p → ⊥) → InComment q → ⊥
+not-comment : (p q : BlankState) → Some p ≡ Some q → (InComment p → ⊥) → InComment q → ⊥
 not-comment p q e n c = let same : p ≡ q = cc in n (rw same c)
 
 -- a comment that is gone into begins with a bracket
-pub begins-comment : (p q : Position) (b next i before : ℕ) (z : Text) → at z i ≡ b → step p b next ≡ Some q → (InComment p → at z before ≡ 40) → InComment q → at z (begun p i before) ≡ 40
+pub begins-comment : (p q : BlankState) (b next i before : ℕ) (z : Text) → at z i ≡ b → step p b next ≡ Some q → (InComment p → at z before ≡ 40) → InComment q → at z (begun p i before) ≡ 40
 begins-comment Between q b next i before z e s h c = blank (is_blank b) s
   where
     line : (t : Bool) → cond t (Some Line) None ≡ Some q → at z i ≡ 40
@@ -61,7 +61,7 @@ begins-comment Line q b next i before z e s h c = line (eqb b 10) s
 abbrev pub end_or_none : Bool → Option Text
 end_or_none b = cond b (Some []) None
 
-pub may-not-end : (p : Position) → end_or_none (may_end p) ≡ None → may_end p ≡ false
+pub may-not-end : (p : BlankState) → end_or_none (may_end p) ≡ None → may_end p ≡ false
 may-not-end p h = go (may_end p) refl h
   where
     go : (b : Bool) → may_end p ≡ b → end_or_none b ≡ None → may_end p ≡ false

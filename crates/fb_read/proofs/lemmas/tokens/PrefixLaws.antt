@@ -3,8 +3,8 @@ use Rattle.std.proofs.Common.{◌≡◌, ℕ, zero, suc, ◌+◌, ◌-◌, ◌<�
 use Rattle.std.specs.Prelude.{◌&&◌}
 use Rattle.std.proofs.lemmas.Bool.{and_parts, cases_lt, eqb-true, false_from_ne_true, true≢false}
 use Rattle.std.proofs.lemmas.List.{drop_all, drop-take, get_or-take, get_or_past, length-drop, length-take, length-take-le, take-append-drop, take-take}
-use Rattle.fb_read.specs.declared.blank.Position.{Position}
-use Rattle.fb_read.specs.declared.blank.Position.TheVariants.{Between, Opening, Inside, Closing, Line}
+use Rattle.fb_read.specs.declared.blank.BlankState.{BlankState}
+use Rattle.fb_read.specs.declared.blank.BlankState.TheVariants.{Between, Opening, Inside, Closing, Line}
 use Rattle.fb_read.specs.declared.token.Located.{Located}
 use Rattle.fb_read.specs.declared.token.Token.{Token}
 use Rattle.fb_read.specs.Blank.{Text, at, is_blank, skip, start, step, stepped}
@@ -56,15 +56,15 @@ front-before t n m z h short le =
 
 -- ---- blanks and comments before a token of which something is left
 
-abbrev at_position : Position → Option Position
-at_position p = Some p
+abbrev at_state : BlankState → Option BlankState
+at_state p = Some p
 
 -- what begins a token does so at the end of a text too
-step-end : (p : Position) (b next : ℕ) → step p b next ≡ None → step p b 0 ≡ None
+step-end : (p : BlankState) (b next : ℕ) → step p b next ≡ None → step p b 0 ≡ None
 step-end Between b next h = go (is_blank b) (eqb b 40) (eqb b 47) (eqb next 42) (eqb next 47) h
   where
-    go : (w x y u v : Bool) → cond w (at_position Between) (cond (x && u) (Some Opening) (cond (y && v) (Some Line) None)) ≡ None
-        → cond w (at_position Between) (cond (x && false) (Some Opening) (cond (y && false) (Some Line) None)) ≡ None
+    go : (w x y u v : Bool) → cond w (at_state Between) (cond (x && u) (Some Opening) (cond (y && v) (Some Line) None)) ≡ None
+        → cond w (at_state Between) (cond (x && false) (Some Opening) (cond (y && false) (Some Line) None)) ≡ None
     go true x y u v h = h
     go false true true u v h = refl
     go false true false u v h = refl
@@ -73,27 +73,27 @@ step-end Between b next h = go (is_blank b) (eqb b 40) (eqb b 47) (eqb next 42) 
 step-end Opening b next h = absurd cc
 step-end Inside b next h = go (eqb b 42 && eqb next 41) h
   where
-    go : (w : Bool) → cond w (at_position Closing) (Some Inside) ≡ None → step Inside b 0 ≡ None
+    go : (w : Bool) → cond w (at_state Closing) (Some Inside) ≡ None → step Inside b 0 ≡ None
     go true e = absurd cc
     go false e = absurd cc
 step-end Closing b next h = absurd cc
 step-end Line b next h = h
 
-stays : (p : Position) (b : ℕ) (bs : Text) (m : ℕ) → step p b (at bs 0) ≡ None → skip p (b ∷ take m bs) ≡ Some (b ∷ take m bs)
+stays : (p : BlankState) (b : ℕ) (bs : Text) (m : ℕ) → step p b (at bs 0) ≡ None → skip p (b ∷ take m bs) ≡ Some (b ∷ take m bs)
 unfolding skip
-stays p b bs zero e = ap (λ (o : Option Position). stepped (λ q. skip q []) (b ∷ []) o) (step-end p b (at bs 0) e)
+stays p b bs zero e = ap (λ (o : Option BlankState). stepped (λ q. skip q []) (b ∷ []) o) (step-end p b (at bs 0) e)
 stays p b bs (suc m) e = rw (at-take m bs, e) refl
 
-passes : (p q : Position) (b : ℕ) (bs : Text) (k : ℕ) → step p b (at bs 0) ≡ Some q → skip p (b ∷ take (suc k) bs) ≡ skip q (take (suc k) bs)
+passes : (p q : BlankState) (b : ℕ) (bs : Text) (k : ℕ) → step p b (at bs 0) ≡ Some q → skip p (b ∷ take (suc k) bs) ≡ skip q (take (suc k) bs)
 unfolding skip
 passes p q b bs k e = rw (at-take k bs, e) refl
 
-skip-before : (p : Position) (z here : Text) (s m : ℕ) → skip p z ≡ Some here → length z ≡ s + length here → 0 < length here → skip p (take (s + suc m) z) ≡ Some (take (suc m) here)
+skip-before : (p : BlankState) (z here : Text) (s m : ℕ) → skip p z ≡ Some here → length z ≡ s + length here → 0 < length here → skip p (take (s + suc m) z) ≡ Some (take (suc m) here)
 unfolding skip
 skip-before p [] here s m h l some = absurd (omega arith)
 skip-before p (b ∷ bs) here s m h l some = go (λ q r k e. skip-before q bs here r m k e some) (step p b (at bs 0)) refl h
   where
-    go : ((q : Position) (r : ℕ) → skip q bs ≡ Some here → length bs ≡ r + length here → skip q (take (r + suc m) bs) ≡ Some (take (suc m) here)) → (o : Option Position) → step p b (at bs 0) ≡ o
+    go : ((q : BlankState) (r : ℕ) → skip q bs ≡ Some here → length bs ≡ r + length here → skip q (take (r + suc m) bs) ≡ Some (take (suc m) here)) → (o : Option BlankState) → step p b (at bs 0) ≡ o
         → stepped (λ q. skip q bs) (b ∷ bs) o ≡ Some here → skip p (take (s + suc m) (b ∷ bs)) ≡ Some (take (suc m) here)
     go deeper None e k =
         let same : b ∷ bs ≡ here = cc in

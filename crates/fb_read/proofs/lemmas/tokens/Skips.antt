@@ -1,15 +1,15 @@
 -- Skipping blanks and comments, a byte at a time.
 use Rattle.std.proofs.Common.{◌≡◌, ℕ, ◌+◌, ◌<◌, ◌≤◌, [], length, get_or, drop, cond, Some, None, refl, ap, ◌∙◌, arith}
 use Rattle.std.proofs.lemmas.List.{drop_more, drop_all, get_or-drop}
-use Rattle.fb_read.specs.declared.blank.Position.{Position}
+use Rattle.fb_read.specs.declared.blank.BlankState.{BlankState}
 use Rattle.fb_read.specs.Blank.{Text, at, skip, step, stepped, may_end}
 
-pub skip_turn : (position : Position) (z : Text) (i : ℕ) → i < length z → skip position (drop i z) ≡ stepped (λ next. skip next (drop (i + 1) z)) (drop i z) (step position (get_or z i 0) (at z (i + 1)))
+pub skip_turn : (state : BlankState) (z : Text) (i : ℕ) → i < length z → skip state (drop i z) ≡ stepped (λ next. skip next (drop (i + 1) z)) (drop i z) (step state (get_or z i 0) (at z (i + 1)))
 unfolding skip
-skip_turn position z i lt =
+skip_turn state z i lt =
     let next : at (drop (i + 1) z) 0 ≡ at z (i + 1) = get_or-drop (i + 1) z 0 0 ∙ ap (λ (k : ℕ). get_or z k 0) (let e : i + 1 + 0 ≡ i + 1 = omega arith in e) in
     rw (drop_more z i 0 lt, next) refl
 
-pub skip_end : (position : Position) (z : Text) (i : ℕ) → length z ≤ i → skip position (drop i z) ≡ cond (may_end position) (Some []) None
+pub skip_end : (state : BlankState) (z : Text) (i : ℕ) → length z ≤ i → skip state (drop i z) ≡ cond (may_end state) (Some []) None
 unfolding skip
-skip_end position z i le = rw (drop_all i z le) refl
+skip_end state z i le = rw (drop_all i z le) refl

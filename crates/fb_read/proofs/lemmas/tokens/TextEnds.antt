@@ -2,7 +2,7 @@
 use Rattle.std.proofs.Common.{◌≡◌, ℕ, ◌+◌, ◌-◌, ◌≤◌, Bool, true, false, cond, [], ◌∷◌, ◌++◌, length, drop, Option, Some, None, refl, sym, ap, subst, ◌∙◌, append_assoc, arith}
 use Rattle.std.proofs.lemmas.List.{length-append, length-drop, take-append-drop, take_all, drop_at}
 use Rattle.std.specs.Prelude.{take}
-use Rattle.fb_read.specs.declared.blank.Position.{Position}
+use Rattle.fb_read.specs.declared.blank.BlankState.{BlankState}
 use Rattle.fb_read.specs.Blank.{Text, at, skip, step, stepped, may_end}
 use Rattle.fb_read.specs.Located.{IsEnd}
 
@@ -29,7 +29,7 @@ end-at end z w =
     ap (λ (y : Text). drop (length z - length end) y) (sym w.joined) ∙ drop_at w.before end (length z - length end) n
 
 -- the next token is at an end of the text
-pub skip-end : (p : Position) (z here : Text) → skip p z ≡ Some here → IsEnd here z
+pub skip-end : (p : BlankState) (z here : Text) → skip p z ≡ Some here → IsEnd here z
 unfolding skip
 skip-end p [] here h = go (may_end p) h
   where
@@ -38,7 +38,7 @@ skip-end p [] here h = go (may_end p) h
     go false e = absurd cc
 skip-end p (b ∷ bs) here h = go (λ q. skip-end q bs here) (step p b (at bs 0)) h
   where
-    go : ((q : Position) → skip q bs ≡ Some here → IsEnd here bs) → (o : Option Position) → stepped (λ q. skip q bs) (b ∷ bs) o ≡ Some here → IsEnd here (b ∷ bs)
+    go : ((q : BlankState) → skip q bs ≡ Some here → IsEnd here bs) → (o : Option BlankState) → stepped (λ q. skip q bs) (b ∷ bs) o ≡ Some here → IsEnd here (b ∷ bs)
     go deeper None e = let same : b ∷ bs ≡ here = cc in subst (λ (y : Text). IsEnd y (b ∷ bs)) same (end-whole (b ∷ bs))
     go deeper (Some q) e = end-more b here bs (deeper q e)
 

@@ -11,9 +11,9 @@ returns-then-not-raised-clause-finds c =
     let a = c.args.agenda.now in
     let is = c.take_least_into.ensures in
     let now = c.take_least_into.new.self in
-    let slot = c.take_least_into.new.slot in
-    subst (λ b. Finds c.args.horizon (with_next b c.args.least.now.key c.args.least.now.event a) c.take_least_into.result slot.key slot.event now) (sym c.if-not-raised.true)
-    (finds_taken c.args.horizon a now c.take_least_into.result slot.key slot.event is.found is.below is.least is.left is.none is.kept)
+    let least_event = c.take_least_into.new.least_event in
+    subst (λ b. Finds c.args.horizon (with_next b c.args.least.now.key c.args.least.now.event a) c.take_least_into.result least_event.key least_event.event now) (sym c.if-not-raised.true)
+    (finds_taken c.args.horizon a now c.take_least_into.result least_event.key least_event.event is.found is.below is.least is.left is.none is.kept)
 
 pub returns-then-is_clear-clause-finds : goal.returns-then-is_clear-clause-finds
 returns-then-is_clear-clause-finds c =
@@ -36,7 +36,7 @@ returns-clause-finds c =
     ] in
     let is = c.take_least_into-2.ensures in
     let now = c.take_least_into-2.new.self in
-    let slot = c.take_least_into-2.new.slot in
-    finds_alike c.args.horizon (with_next b k e c.args.agenda.now) mid now c.take_least_into-2.result slot.key slot.event
+    let least_event = c.take_least_into-2.new.least_event in
+    finds_alike c.args.horizon (with_next b k e c.args.agenda.now) mid now c.take_least_into-2.result least_event.key least_event.event
     (λ j. c.in_ok-put_next.ensures.put j ∙ ap (λ (z : Contents). waiting (with_next b k e z) j) kept)
-    (finds_taken c.args.horizon mid now c.take_least_into-2.result slot.key slot.event is.found is.below is.least is.left is.none is.kept)
+    (finds_taken c.args.horizon mid now c.take_least_into-2.result least_event.key least_event.event is.found is.below is.least is.left is.none is.kept)

@@ -1,7 +1,7 @@
 use Rattle.std.proofs.Common.{◌≡◌, [], ◌∷◌, All, refl, sym, ◌∙◌, ap, subst, arith}
 use Rattle.fb_types.specs.Headline.{system_of}
-use Rattle.fb_net.specs.declared.outbox.Out.{Out}
-use Rattle.fb_net.specs.declared.outbox.Out.TheVariants.{Send}
+use Rattle.fb_net.specs.declared.effects.Out.{Out}
+use Rattle.fb_net.specs.declared.effects.Out.TheVariants.{Send}
 use Rattle.fb_resource.specs.Posts.{IsOneMessage, IsPostable, IsSendable}
 use Rattle.fb_resource.proofs.lemmas.Lone.{lone_out, message_settles, nothing_out, still_settles}
 use Rattle.fb_resource.proofs.lemmas.ReadyIs.{when_ok_four}
@@ -10,7 +10,7 @@ use Rattle.fb_resource.proofs.one_taking.settle.Goals as goal
 pub returns-in-empty : goal.returns-in-empty
 returns-in-empty c =
     let none = sym c.as_slice.ensures.value ∙ nothing_out c.as_slice.result.now (omega (arith, c.in-empty.len_below)) in
-    still_settles c.args.system.now c.args.least.now c.args.locals.now c.args.queues.now c.requires.may none c.in-Keep.is
+    still_settles c.args.system.now c.args.least.now c.args.locals.now c.args.traffic.now c.requires.may none c.in-Keep.is
 
 -- ---- One message
 
@@ -35,7 +35,7 @@ post_lone-requires-clause-link c =
 
 pub returns-in-Send : goal.returns-in-Send
 returns-in-Send c =
-    let alone : IsOneMessage c.in-Send.sending.link c.args.queues.now.outbox.outs.items = record {
+    let alone : IsOneMessage c.in-Send.sending.link c.args.traffic.now.effects.outs.items = record {
       message = c.in-Send.sending;
       is = sym c.as_slice.ensures.value
           ∙ lone_out c.as_slice.result.now c.only-item.result _ (omega (arith, c.in-len1.len_at_least, c.in-len1.len_below)) c.only-item.is
@@ -43,5 +43,5 @@ returns-in-Send c =
       over = refl;
     } in
     when_ok_four c.post_lone.result c.post_lone.ensures.put c.post_lone.ensures.counted c.post_lone.ensures.later c.post_lone.ensures.none
-    (message_settles c.args.system.now c.args.least.now c.args.locals.now c.in-Send.sending.link c.args.queues.now c.post_lone.new.sent c.post_lone.new.mail c.post_lone.new.outs
+    (message_settles c.args.system.now c.args.least.now c.args.locals.now c.in-Send.sending.link c.args.traffic.now c.post_lone.new.sent c.post_lone.new.mail c.post_lone.new.outs
     c.requires.may alone c.in-Keep.is)

@@ -13,7 +13,7 @@ use Rattle.fb_laws.proofs.lemmas.typing.Accepted.{accepted_typed}
 use Rattle.fb_types.specs.declared.value.Reason.TheVariants.{Steps}
 use Rattle.fb_resource.specs.Counts.{IsMetered, before_step, meter_of}
 use Rattle.fb_resource.specs.Takings.{AreReady, IsTakenHere, with_event}
-use Rattle.fb_resource.specs.declared.queues.Queues.{Queues}
+use Rattle.fb_resource.specs.declared.traffic.Traffic.{Traffic}
 use Rattle.fb_resource.specs.declared.tick_counts.TickCounts.{TickCounts}
 use Rattle.fb_resource.proofs.lemmas.Alone.{came_ended, put_out}
 use Rattle.fb_resource.proofs.lemmas.Lone.{lone_ready, lone_settled, raised_lone}
@@ -26,13 +26,13 @@ returns-then-not-step-clause-taken c s from le here counts =
     let i = c.args.system.now in
     let k = c.args.least.now.key in
     let e = event_of i c.args.least.now.event in
-    let q = c.args.queues.now in
-    let none = taken_none i c.args.limit s k e (begun c.args.limit k.tick (meter_of c.args.counts.now)) from c.args.tree.now c.args.counts.now q
+    let q = c.args.traffic.now in
+    let none = taken_none i c.args.limit s k e (begun c.args.limit k.tick (meter_of c.args.counts.now)) from c.args.resource_blocks.now c.args.counts.now q
     (here.meter c.args.limit k.tick le) c.if-not-step.ensures.none here counts in
-    subst (λ (m : TickCounts). IsTakenHere i c.args.limit s k e (Some Steps) from c.args.tree.now m q q) (sym c.if-not-step.ensures.kept) none
+    subst (λ (m : TickCounts). IsTakenHere i c.args.limit s k e (Some Steps) from c.args.resource_blocks.now m q q) (sym c.if-not-step.ensures.kept) none
 
-pub returns-then-not-step-clause-queues : goal.returns-then-not-step-clause-queues
-returns-then-not-step-clause-queues c = c.requires.queues
+pub returns-then-not-step-clause-traffic : goal.returns-then-not-step-clause-traffic
+returns-then-not-step-clause-traffic c = c.requires.traffic
 
 pub returns-then-not-step-clause-counts : goal.returns-then-not-step-clause-counts
 returns-then-not-step-clause-counts c = subst (IsMetered c.args.limit) (sym c.if-not-step.ensures.kept) c.requires.counts
@@ -42,7 +42,7 @@ take_waiting-end-requires c =
     let i = c.args.system.now in
     let l = c.args.least.now in
     let represents = c.requires.represents in
-    let here = sym c.requires.tree in
+    let here = sym c.requires.resource_blocks in
     record {
       here = here;
       event = subst (λ n. IsEventIn i n l.event) here c.requires.event;
@@ -54,19 +54,19 @@ take_waiting-end-requires c =
 
 pub settle-requires-clause-may : goal.settle-requires-clause-may
 settle-requires-clause-may c =
-    let came = came_ended c.args.system.now c.args.least.now.key c.args.least.now.event c.args.tree.now c.args.queues.now.outbox c.step.new.self.meter.left c.in_ok-stop.stop c.take_waiting-end.result
-    c.take_waiting-end.new.self c.take_waiting-end.new.meter.left c.take_waiting-end.new.outbox c.requires.queues.none c.requires.queues.keeps
+    let came = came_ended c.args.system.now c.args.least.now.key c.args.least.now.event c.args.resource_blocks.now c.args.traffic.now.effects c.step.new.self.meter.left c.in_ok-stop.stop c.take_waiting-end.result
+    c.take_waiting-end.new.self c.take_waiting-end.new.meter.left c.take_waiting-end.new.effects c.requires.traffic.none c.requires.traffic.keeps
     c.in_ok-stop.ensures c.take_waiting-end.ensures.taken in
-    let put = put_out c.args.system.now c.args.tree.now c.args.queues.now.outbox c.take_waiting-end.new.self c.take_waiting-end.new.outbox c.in_ok-stop.stop c.take_waiting-end.result
-    c.in_ok-stop.ensures c.requires.queues.lines c.requires.queues.none c.take_waiting-end.ensures.outs in
+    let put = put_out c.args.system.now c.args.resource_blocks.now c.args.traffic.now.effects c.take_waiting-end.new.self c.take_waiting-end.new.effects c.in_ok-stop.stop c.take_waiting-end.result
+    c.in_ok-stop.ensures c.requires.traffic.lines c.requires.traffic.none c.take_waiting-end.ensures.outs in
     let i = c.args.system.now in
     let k = c.args.least.now.key in
-    let had = c.requires.queues in
-    let here = c.take_waiting-end.ensures.resource ∙ c.requires.tree in
+    let had = c.requires.traffic in
+    let here = c.take_waiting-end.ensures.resource ∙ c.requires.resource_blocks in
     let represents = c.requires.represents in
     let w = world_of represents.0 k.resource in
-    let good = came_good i k c.args.least.now.event _ _ _ c.take_waiting-end.new.self c.take_waiting-end.new.outbox _ w c.facts.ensures.accepted c.facts.ensures.limits c.requires.event.here (represents.1.typed k.resource) c.requires.typed
-    (came w represents.1.blocks) (subst (λ n. All (IsOut (system_of i) n) c.take_waiting-end.new.outbox.outs.items) here put.outs) in
+    let good = came_good i k c.args.least.now.event _ _ _ c.take_waiting-end.new.self c.take_waiting-end.new.effects _ w c.facts.ensures.accepted c.facts.ensures.limits c.requires.event.here (represents.1.typed k.resource) c.requires.typed
+    (came w represents.1.blocks) (subst (λ n. All (IsOut (system_of i) n) c.take_waiting-end.new.effects.outs.items) here put.outs) in
     record {
       event = c.requires.event;
       named = c.requires.named;
@@ -82,21 +82,21 @@ settle-requires-clause-may c =
 
 pub returns-clause-taken : goal.returns-clause-taken
 returns-clause-taken c s from le here counts =
-    let came = came_ended c.args.system.now c.args.least.now.key c.args.least.now.event c.args.tree.now c.args.queues.now.outbox c.step.new.self.meter.left c.in_ok-stop.stop c.take_waiting-end.result
-    c.take_waiting-end.new.self c.take_waiting-end.new.meter.left c.take_waiting-end.new.outbox c.requires.queues.none c.requires.queues.keeps
+    let came = came_ended c.args.system.now c.args.least.now.key c.args.least.now.event c.args.resource_blocks.now c.args.traffic.now.effects c.step.new.self.meter.left c.in_ok-stop.stop c.take_waiting-end.result
+    c.take_waiting-end.new.self c.take_waiting-end.new.meter.left c.take_waiting-end.new.effects c.requires.traffic.none c.requires.traffic.keeps
     c.in_ok-stop.ensures c.take_waiting-end.ensures.taken in
     let i = c.args.system.now in
     let k = c.args.least.now.key in
-    let old = c.args.queues.now in
-    let mid : Queues = record old { outbox = c.take_waiting-end.new.outbox } in
-    taken_one i c.args.limit s k c.args.least.now.event (before_step c.step.new.self) _ _ _ old mid c.settle.new.queues
-    from c.args.tree.now c.args.counts.now c.take_waiting-end.new.self c.take_waiting-end.new.outbox
+    let old = c.args.traffic.now in
+    let mid : Traffic = record old { effects = c.take_waiting-end.new.effects } in
+    taken_one i c.args.limit s k c.args.least.now.event (before_step c.step.new.self) _ _ _ old mid c.settle.new.traffic
+    from c.args.resource_blocks.now c.args.counts.now c.take_waiting-end.new.self c.take_waiting-end.new.effects
     (accepted_typed i c.facts.ensures.accepted).system c.requires.typed
     here counts (here.meter c.args.limit k.tick le ∙ sym c.if-not-step.ensures.used) refl
     (came (world_of s k.resource) here.blocks) refl c.in_ok-settle.ensures.settled c.if-not-step.ensures.tick c.in_ok-settle.ensures.lines
 
-pub returns-clause-queues : goal.returns-clause-queues
-returns-clause-queues c = c.in_ok-settle.ensures.ready
+pub returns-clause-traffic : goal.returns-clause-traffic
+returns-clause-traffic c = c.in_ok-settle.ensures.ready
 
 pub returns-clause-later : goal.returns-clause-later
 returns-clause-later c = c.in_ok-settle.ensures.later
@@ -121,59 +121,59 @@ count_lone-requires-clause-keeps c = c.in-Some.ensures.keeps
 
 pub returns-in-Some-clause-taken : goal.returns-in-Some-clause-taken
 returns-in-Some-clause-taken c s from le here counts =
-    let came = came_ended c.args.system.now c.args.least.now.key c.args.least.now.event c.args.tree.now c.args.queues.now.outbox c.step.new.self.meter.left c.in_ok-stop.stop c.take_waiting-end.result
-    c.take_waiting-end.new.self c.take_waiting-end.new.meter.left c.take_waiting-end.new.outbox c.requires.queues.none c.requires.queues.keeps
+    let came = came_ended c.args.system.now c.args.least.now.key c.args.least.now.event c.args.resource_blocks.now c.args.traffic.now.effects c.step.new.self.meter.left c.in_ok-stop.stop c.take_waiting-end.result
+    c.take_waiting-end.new.self c.take_waiting-end.new.meter.left c.take_waiting-end.new.effects c.requires.traffic.none c.requires.traffic.keeps
     c.in_ok-stop.ensures c.take_waiting-end.ensures.taken in
     let i = c.args.system.now in
     let k = c.args.least.now.key in
-    let old = c.args.queues.now in
-    let x = c.take_waiting-end.new.outbox in
-    let y = c.count_lone.new.outbox in
+    let old = c.args.traffic.now in
+    let x = c.take_waiting-end.new.effects in
+    let y = c.count_lone.new.effects in
     let t = c.in-Some.target.now in
     let m = before_step c.step.new.self in
     let z = c.follow.new.self in
     let a = with_event (local_key k.tick k.resource m.locals) (Local t) old.agenda in
-    let mid : Queues = record old { outbox = x } in
-    let new : Queues = record old { agenda = a; outbox = y } in
+    let mid : Traffic = record old { effects = x } in
+    let new : Traffic = record old { agenda = a; effects = y } in
     let lone = raised_lone k t old.agenda m.locals c.count_lone.new.locals x y c.in-Some.ensures.alone c.in-Some.ensures.keeps c.count_lone.ensures.counted c.count_lone.ensures.emptied in
     let n : TickCounts = record { tick = c.step.new.self.tick; meter = c.take_waiting-end.new.meter; locals = c.count_lone.new.locals } in
     subst (λ (j : Key). IsTakenHere i c.args.limit s k (event_of i c.args.least.now.event) c.in_ok-stop.stop from c.take_waiting-end.new.self n old
-    (record old { agenda = with_event j z.event old.agenda; outbox = y })) (sym c.follow.ensures.key)
+    (record old { agenda = with_event j z.event old.agenda; effects = y })) (sym c.follow.ensures.key)
     (subst (λ (e : Event). IsTakenHere i c.args.limit s k (event_of i c.args.least.now.event) c.in_ok-stop.stop from c.take_waiting-end.new.self n old
-    (record old { agenda = with_event (local_key k.tick k.resource m.locals) e old.agenda; outbox = y })) (sym c.follow.ensures.event)
+    (record old { agenda = with_event (local_key k.tick k.resource m.locals) e old.agenda; effects = y })) (sym c.follow.ensures.event)
     (taken_one i c.args.limit s k c.args.least.now.event m n _ _ old mid new
-    from c.args.tree.now c.args.counts.now c.take_waiting-end.new.self x
+    from c.args.resource_blocks.now c.args.counts.now c.take_waiting-end.new.self x
     (accepted_typed i c.facts.ensures.accepted).system c.requires.typed
     here counts (here.meter c.args.limit k.tick le ∙ sym c.if-not-step.ensures.used) refl
     (came (world_of s k.resource) here.blocks) refl
     (lone_settled i k t old.agenda a m.locals c.count_lone.new.locals x y lone old.sent old.mail (path_of (event_of i c.args.least.now.event)))
     c.if-not-step.ensures.tick c.count_lone.ensures.emptied.lines))
 
-pub returns-in-Some-clause-queues : goal.returns-in-Some-clause-queues
-returns-in-Some-clause-queues c =
-    let came = came_ended c.args.system.now c.args.least.now.key c.args.least.now.event c.args.tree.now c.args.queues.now.outbox c.step.new.self.meter.left c.in_ok-stop.stop c.take_waiting-end.result
-    c.take_waiting-end.new.self c.take_waiting-end.new.meter.left c.take_waiting-end.new.outbox c.requires.queues.none c.requires.queues.keeps
+pub returns-in-Some-clause-traffic : goal.returns-in-Some-clause-traffic
+returns-in-Some-clause-traffic c =
+    let came = came_ended c.args.system.now c.args.least.now.key c.args.least.now.event c.args.resource_blocks.now c.args.traffic.now.effects c.step.new.self.meter.left c.in_ok-stop.stop c.take_waiting-end.result
+    c.take_waiting-end.new.self c.take_waiting-end.new.meter.left c.take_waiting-end.new.effects c.requires.traffic.none c.requires.traffic.keeps
     c.in_ok-stop.ensures c.take_waiting-end.ensures.taken in
-    let put = put_out c.args.system.now c.args.tree.now c.args.queues.now.outbox c.take_waiting-end.new.self c.take_waiting-end.new.outbox c.in_ok-stop.stop c.take_waiting-end.result
-    c.in_ok-stop.ensures c.requires.queues.lines c.requires.queues.none c.take_waiting-end.ensures.outs in
+    let put = put_out c.args.system.now c.args.resource_blocks.now c.args.traffic.now.effects c.take_waiting-end.new.self c.take_waiting-end.new.effects c.in_ok-stop.stop c.take_waiting-end.result
+    c.in_ok-stop.ensures c.requires.traffic.lines c.requires.traffic.none c.take_waiting-end.ensures.outs in
     let i = c.args.system.now in
     let k = c.args.least.now.key in
-    let old = c.args.queues.now in
-    let x = c.take_waiting-end.new.outbox in
-    let y = c.count_lone.new.outbox in
+    let old = c.args.traffic.now in
+    let x = c.take_waiting-end.new.effects in
+    let y = c.count_lone.new.effects in
     let t = c.in-Some.target.now in
     let n = c.step.new.self.locals in
     let z = c.follow.new.self in
-    let here = c.take_waiting-end.ensures.resource ∙ c.requires.tree in
+    let here = c.take_waiting-end.ensures.resource ∙ c.requires.resource_blocks in
     let represents = c.requires.represents in
     let w = world_of represents.0 k.resource in
     let good = came_good i k c.args.least.now.event _ _ _ c.take_waiting-end.new.self x _ w c.facts.ensures.accepted c.facts.ensures.limits c.requires.event.here (represents.1.typed k.resource) c.requires.typed
     (came w represents.1.blocks) (subst (λ n. All (IsOut (system_of i) n) x.outs.items) here put.outs) in
     let lone = raised_lone k t old.agenda n c.count_lone.new.locals x y c.in-Some.ensures.alone c.in-Some.ensures.keeps c.count_lone.ensures.counted c.count_lone.ensures.emptied in
-    subst (λ (j : Key). AreReady i k.tick (record old { agenda = with_event j z.event old.agenda; outbox = y })) (sym c.follow.ensures.key)
-    (subst (λ (e : Event). AreReady i k.tick (record old { agenda = with_event (local_key k.tick k.resource n) e old.agenda; outbox = y })) (sym c.follow.ensures.event)
+    subst (λ (j : Key). AreReady i k.tick (record old { agenda = with_event j z.event old.agenda; effects = y })) (sym c.follow.ensures.key)
+    (subst (λ (e : Event). AreReady i k.tick (record old { agenda = with_event (local_key k.tick k.resource n) e old.agenda; effects = y })) (sym c.follow.ensures.event)
     (lone_ready i k t old.agenda (with_event (local_key k.tick k.resource n) (Local t) old.agenda) n c.count_lone.new.locals x y lone old.sent old.mail
-    old.outbox c.requires.named good.0 put.lines c.requires.queues))
+    old.effects c.requires.named good.0 put.lines c.requires.traffic))
 
 pub returns-in-Some-clause-counts : goal.returns-in-Some-clause-counts
 returns-in-Some-clause-counts c =

@@ -26,14 +26,14 @@ use Rattle.fb_window.specs.Reaching.{OfEachCore}
 use Rattle.fb_window.specs.Leaving.{AreLegal, HasLeft}
 use Rattle.fb_window.specs.Settling.{IsMerged, Settles, lists_of, settled_of}
 use Rattle.fb_window.specs.Standing.{IsAt}
-use Rattle.fb_window.specs.Walking.{Walks, after_walk}
+use Rattle.fb_window.specs.ManyTurns.{TakesTurns, after_series}
 use Rattle.fb_window.specs.declared.cores.AwayState.{AwayState}
 use Rattle.fb_window.specs.declared.cores.CoreState.{CoreState}
 use Rattle.fb_window.specs.declared.cores.Reach.{Reach}
 use Rattle.fb_window.specs.declared.cores.Reach.TheVariants as reach
 use Rattle.fb_window.specs.declared.cores.Settled.{Settled}
 use Rattle.fb_window.specs.declared.cores.Settled.TheVariants as settled
-use Rattle.fb_sim.specs.Rounds.{FailsRound, FailsToHandOut, HandsOut, RoundsWithCounts, HasCome, HasWalked, HoldsTo, IsAfter, AreUnwrittenOf, IsHomeAgain, IsHomeOnce, IsOnItsWay, Rounds, WritesPartOf, lines_out, round_of, text_of}
+use Rattle.fb_sim.specs.Rounds.{FailsRound, FailsToHandOut, HandsOut, RoundsWithCounts, HasCome, HasTakenTurns, HoldsTo, IsAfter, AreUnwrittenOf, IsHomeAgain, IsHomeOnce, IsOnItsWay, Rounds, WritesPartOf, lines_out, round_of, text_of}
 use Rattle.fb_sim.specs.declared.rounds.unwritten_lines.UnwrittenLines.{UnwrittenLines}
 use Rattle.fb_sim.specs.declared.options.Options.{Options}
 use Rattle.fb_sim.specs.declared.outcome.RunError.{RunError}
@@ -115,22 +115,22 @@ module _ (i : Inputs) (limit horizon : ℕ) (core : CoreState) (ls : List Line) 
 abbrev pub on_its_way : (i : Inputs) (limit horizon : ℕ) (core : CoreState) (ls : List Line) → HasCome i limit horizon core ls → IsOnItsWay i limit horizon core ls
 on_its_way i limit horizon core ls h = record { of = h.of; steps = h.steps; schedule = h.way.schedule; at = h.way.at; left = h.way.left.handed }
 
--- ---- A walk before the window
+-- ---- A series of turns before the window
 
 module _ (i : Inputs) (limit horizon : ℕ) (core : CoreState) (ls : List Line) (h : HasCome i limit horizon core ls) where
   -- no clock is over the horizon
-  pub walk_keeps : AreGood i → KeepHorizon horizon core.resources.items
-  walk_keeps good = keeps i good limit core.resources.items horizon h.steps h.way.schedule h.way.at
+  pub series_keeps : AreGood i → KeepHorizon horizon core.resources.items
+  series_keeps good = keeps i good limit core.resources.items horizon h.steps h.way.schedule h.way.at
 
   module _ (most : ℕ) (next : CoreState) (system : next.system ≡ core.system) (steps : next.steps ≡ core.steps) where
-    has_walked : All (λ p. All (BelongsTo (system_of i)) p.items) next.pending.items → Walks i limit horizon most core next → HasWalked i limit horizon (core_of i limit h.steps) ls next
-    has_walked belong walks =
-        let led = walks h.steps h.way.schedule h.way.at in
+    has_taken_turns : All (λ p. All (BelongsTo (system_of i)) p.items) next.pending.items → TakesTurns i limit horizon most core next → HasTakenTurns i limit horizon (core_of i limit h.steps) ls next
+    has_taken_turns belong takes_turns =
+        let led = takes_turns h.steps h.way.schedule h.way.at in
         let l = led.1 in
         record {
           way = record {
             of = record { inputs = system ∙ h.of.inputs; steps = steps ∙ h.of.steps; kept = belong };
-            steps = after_walk i limit h.steps led.0;
+            steps = after_series i limit h.steps led.0;
             schedule = l.schedule;
             at = l.at;
             left = l.left ls h.way.left.handed;
@@ -138,20 +138,20 @@ module _ (i : Inputs) (limit horizon : ℕ) (core : CoreState) (ls : List Line) 
           floors = l.floors;
         }
 
-    pub walked_on : All (λ p. All (BelongsTo (system_of core.system)) p.items) next.pending.items → Walks core.system core.steps horizon most core next
-        → HasWalked i limit horizon (core_of i limit h.steps) ls next
-    walked_on belong walks =
-        has_walked (subst (λ (j : Inputs). All (λ p. All (BelongsTo (system_of j)) p.items) next.pending.items) h.of.inputs belong)
-        (at_core (λ j l. Walks j l horizon most core next) i core.system limit core.steps (sym h.of.inputs) (sym h.of.steps) walks)
+    pub turned_on : All (λ p. All (BelongsTo (system_of core.system)) p.items) next.pending.items → TakesTurns core.system core.steps horizon most core next
+        → HasTakenTurns i limit horizon (core_of i limit h.steps) ls next
+    turned_on belong takes_turns =
+        has_taken_turns (subst (λ (j : Inputs). All (λ p. All (BelongsTo (system_of j)) p.items) next.pending.items) h.of.inputs belong)
+        (at_core (λ j l. TakesTurns j l horizon most core next) i core.system limit core.steps (sym h.of.inputs) (sym h.of.steps) takes_turns)
 
--- A round of the core after a walk is one of the core before it.
-module _ (i : Inputs) (limit horizon : ℕ) (c : model_cores.Core (machine (system_of i) limit)) (ls ms : List Line) (core : CoreState) (h : HasWalked i limit horizon c ls core) where
+-- A round of the core after a series of turns is one of the core before it.
+module _ (i : Inputs) (limit horizon : ℕ) (c : model_cores.Core (machine (system_of i) limit)) (ls ms : List Line) (core : CoreState) (h : HasTakenTurns i limit horizon c ls core) where
   after_since : (round : Round) → IsAfter i limit horizon (core_of i limit h.way.steps) ms round → IsAfter i limit horizon c ms round
   after_since (Going next) a = (a.0, a.1, a.2, λ m floor. a.3 m (h.floors m floor))
   after_since (Ended last) a = a
   after_since (Stopped mark) a = a
 
-pub home_since : (i : Inputs) (limit horizon : ℕ) (c : model_cores.Core (machine (system_of i) limit)) (ls : List Line) (core : CoreState) (h : HasWalked i limit horizon c ls core) (s : Settled)
+pub home_since : (i : Inputs) (limit horizon : ℕ) (c : model_cores.Core (machine (system_of i) limit)) (ls : List Line) (core : CoreState) (h : HasTakenTurns i limit horizon c ls core) (s : Settled)
     → IsHomeAgain i limit horizon (core_of i limit h.way.steps) ls s → IsHomeAgain i limit horizon c ls s
 home_since i limit horizon c ls core h s home = record { belong = home.belong; after = after_since i limit horizon c ls (ls ++ map (line_of (system_of i)) (lines_out s)) core h (round_of s) home.after }
 

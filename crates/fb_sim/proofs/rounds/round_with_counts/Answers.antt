@@ -10,21 +10,21 @@ use Rattle.fb_sim.specs.MergedText.{all_bytes}
 use Rattle.fb_sim.specs.declared.outcome.RunError.TheVariants.{Memory}
 use Rattle.fb_sim.proofs.lemmas.text.HandedOut.{part_by_text, whole_by_text}
 use Rattle.fb_sim.proofs.lemmas.text.Texts.{merged_list}
-use Rattle.fb_sim.proofs.lemmas.rounds.WindowIs.{held_failed, unwritten_out_of_memory, held_passed, unwritten_whole, home_since, walk_keeps, walked_on}
+use Rattle.fb_sim.proofs.lemmas.rounds.WindowIs.{held_failed, unwritten_out_of_memory, held_passed, unwritten_whole, home_since, series_keeps, turned_on}
 use Rattle.fb_sim.proofs.rounds.round_with_counts.Goals as goal
 
-pub walk-requires-clause-system : goal.walk-requires-clause-system
-walk-requires-clause-system g c =
+pub turn_series-requires-clause-system : goal.turn_series-requires-clause-system
+turn_series-requires-clause-system g c =
     let h = c.requires.holds.1 in
     let all = merged_list c.args.alloc c.args.round_state.unwritten.lists.items c.args.round_state.unwritten.count h.of.few h.of.counted in
     sym (h.come all.0 all.1).of.inputs
 
-pub walk-requires-clause-clocks : goal.walk-requires-clause-clocks
-walk-requires-clause-clocks g c =
+pub turn_series-requires-clause-clocks : goal.turn_series-requires-clause-clocks
+turn_series-requires-clause-clocks g c =
     let o = c.args.plan.options in
     let h = c.requires.holds.1 in
     let all = merged_list c.args.alloc c.args.round_state.unwritten.lists.items c.args.round_state.unwritten.count h.of.few h.of.counted in
-    walk_keeps c.args.system.now o.steps o.horizon c.args.round_state.core _ (h.come all.0 all.1) (record { accepted = c.facts.ensures.accepted; limits = c.facts.ensures.limits })
+    series_keeps c.args.system.now o.steps o.horizon c.args.round_state.core _ (h.come all.0 all.1) (record { accepted = c.facts.ensures.accepted; limits = c.facts.ensures.limits })
 
 pub window-requires-clause-come : goal.window-requires-clause-come
 window-requires-clause-come g c κs w =
@@ -32,8 +32,8 @@ window-requires-clause-come g c κs w =
     let all = merged_list c.args.alloc c.args.round_state.unwritten.lists.items c.args.round_state.unwritten.count h.of.few h.of.counted in
     let o = c.args.plan.options in
     let on = c.in_ok-core.ensures in
-    let walked = walked_on c.args.system.now o.steps o.horizon c.args.round_state.core _ (h.come all.0 all.1) c.args.plan.turns _ on.system on.steps on.pending on.walks in
-    (_, walked.way)
+    let turned = turned_on c.args.system.now o.steps o.horizon c.args.round_state.core _ (h.come all.0 all.1) c.args.plan.turns _ on.system on.steps on.pending on.takes_turns in
+    (_, turned.way)
 
 pub window-requires-2-clause-come : goal.window-requires-2-clause-come
 window-requires-2-clause-come g c κs w =
@@ -41,8 +41,8 @@ window-requires-2-clause-come g c κs w =
     let all = merged_list c.args.alloc c.args.round_state.unwritten.lists.items c.args.round_state.unwritten.count h.of.few h.of.counted in
     let o = c.args.plan.options in
     let on = c.in_ok-core.ensures in
-    let walked = walked_on c.args.system.now o.steps o.horizon c.args.round_state.core _ (h.come all.0 all.1) c.args.plan.turns _ on.system on.steps on.pending on.walks in
-    (_, walked.way)
+    let turned = turned_on c.args.system.now o.steps o.horizon c.args.round_state.core _ (h.come all.0 all.1) c.args.plan.turns _ on.system on.steps on.pending on.takes_turns in
+    (_, turned.way)
 
 pub returns-in_err-core : goal.returns-in_err-core
 returns-in_err-core g c ls h =
@@ -95,8 +95,8 @@ returns-then-is_shared g c ls h =
     (c.after.ensures.lines ∙ c.count-lines.ensures)
     (λ ks come all merged.
     let on = c.in_ok-core.ensures in
-    let walked = walked_on i o.steps o.horizon s.core ks come c.args.plan.turns _ on.system on.steps on.pending on.walks in
-    home_since i o.steps o.horizon (core_of i o.steps come.steps) ks _ walked _ (c.in_ok-texts.ensures.home ks walked.way all merged)) c.in_ok-texts.ensures.unwritten pool
+    let turned = turned_on i o.steps o.horizon s.core ks come c.args.plan.turns _ on.system on.steps on.pending on.takes_turns in
+    home_since i o.steps o.horizon (core_of i o.steps come.steps) ks _ turned _ (c.in_ok-texts.ensures.home ks turned.way all merged)) c.in_ok-texts.ensures.unwritten pool
 
 pub returns-in_err-result : goal.returns-in_err-result
 returns-in_err-result g c ls h =
@@ -128,5 +128,5 @@ returns g c ls h =
     c.after-2.ensures.lines
     (λ ks come all merged.
     let on = c.in_ok-core.ensures in
-    let walked = walked_on i o.steps o.horizon s.core ks come c.args.plan.turns _ on.system on.steps on.pending on.walks in
-    home_since i o.steps o.horizon (core_of i o.steps come.steps) ks _ walked _ (c.in_ok-result.ensures.home ks walked.way all merged)) c.in_ok-result.ensures.unwritten c.in_ok-bytes-2.ensures.whole
+    let turned = turned_on i o.steps o.horizon s.core ks come c.args.plan.turns _ on.system on.steps on.pending on.takes_turns in
+    home_since i o.steps o.horizon (core_of i o.steps come.steps) ks _ turned _ (c.in_ok-result.ensures.home ks turned.way all merged)) c.in_ok-result.ensures.unwritten c.in_ok-bytes-2.ensures.whole

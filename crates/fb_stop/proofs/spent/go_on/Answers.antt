@@ -37,16 +37,16 @@ step-requires-clause-represents c =
     (inv.at.state, inv.at.agenda, at_left c.args.system.now k inv.at c.loop-moment.run _ inv.is c.loop-moment-test.ensures.left)
 
 pub step-requires-clause-event : goal.step-requires-clause-event
-step-requires-clause-event c = (c.loop-moment.invariant.ready.1.queues.order.waits c.take_least_into.new.slot.key c.take_least_into.new.slot.event c.loop-moment-test.ensures.found).event
+step-requires-clause-event c = (c.loop-moment.invariant.ready.1.traffic.order.waits c.take_least_into.new.slot.key c.take_least_into.new.slot.event c.loop-moment-test.ensures.found).event
 
 pub step-requires-clause-own : goal.step-requires-clause-own
-step-requires-clause-own c = (c.loop-moment.invariant.ready.1.queues.order.waits c.take_least_into.new.slot.key c.take_least_into.new.slot.event c.loop-moment-test.ensures.found).own
+step-requires-clause-own c = (c.loop-moment.invariant.ready.1.traffic.order.waits c.take_least_into.new.slot.key c.take_least_into.new.slot.event c.loop-moment-test.ensures.found).own
 
 pub step-requires-clause-typed : goal.step-requires-clause-typed
-step-requires-clause-typed c = (c.loop-moment.invariant.ready.1.queues.order.waits c.take_least_into.new.slot.key c.take_least_into.new.slot.event c.loop-moment-test.ensures.found).typed
+step-requires-clause-typed c = (c.loop-moment.invariant.ready.1.traffic.order.waits c.take_least_into.new.slot.key c.take_least_into.new.slot.event c.loop-moment-test.ensures.found).typed
 
 pub step-requires-clause-named : goal.step-requires-clause-named
-step-requires-clause-named c = (c.loop-moment.invariant.ready.1.queues.order.waits c.take_least_into.new.slot.key c.take_least_into.new.slot.event c.loop-moment-test.ensures.found).resource
+step-requires-clause-named c = (c.loop-moment.invariant.ready.1.traffic.order.waits c.take_least_into.new.slot.key c.take_least_into.new.slot.event c.loop-moment-test.ensures.found).resource
 
 pub returns-in-Some-clause-spent : goal.returns-in-Some-clause-spent
 returns-in-Some-clause-spent c asked =
@@ -60,7 +60,7 @@ returns-in-Some-clause-spent c asked =
     let new = c.step.new.spent.items in
     let next = c.step.new.run in
     let spent = c.in_ok-stop.ensures.spent inv.at.state inv.at.agenda (at_left i k inv.at c.loop-moment.run _ inv.is found.left) in
-    are_spent i c.args.horizon c.args.limit m inv.at inv.taken inv.reaches c.args.spent.now.items old new inv.charged c.loop-moment.run.queues.agenda k e c.in-Some.field-0 next inv.is.agenda found.found found.least found.below
+    are_spent i c.args.horizon c.args.limit m inv.at inv.taken inv.reaches c.args.spent.now.items old new inv.charged c.loop-moment.run.traffic.agenda k e c.in-Some.field-0 next inv.is.agenda found.found found.least found.below
     (subst (λ (o : Option Reason). HasSpent i c.args.limit m inv.at.state inv.at.agenda k (event_of i e) o next old new) c.in-Some.is spent)
 
 pub loop-moment-smaller : goal.loop-moment-smaller
@@ -70,7 +70,7 @@ loop-moment-smaller c =
     let k = c.take_least_into.new.slot.key in
     let spent = c.in_ok-stop.ensures.less c.in_default.is in
     let past = ready.1.past k.resource spent.before spent.was in
-    let later = (ready.1.queues.order.waits k c.take_least_into.new.slot.event found.found).later in
+    let later = (ready.1.traffic.order.waits k c.take_least_into.new.slot.event found.found).later in
     all_falls c.args.horizon c.args.limit k c.loop-moment.run.meters.items c.step.new.run.meters.items spent (omega (arith, past, later)) found.below
 
 pub loop-moment-preserved : goal.loop-moment-preserved
@@ -87,7 +87,7 @@ loop-moment-preserved c =
     let spent = c.in_ok-stop.ensures.spent inv.at.state inv.at.agenda (at_left i k inv.at c.loop-moment.run _ inv.is found.left) in
     let h = subst (λ (o : Option Reason). HasSpent i c.args.limit m inv.at.state inv.at.agenda k (event_of i e) o next old new) c.in_default.is spent in
     let taken = h.taken in
-    let least = takes_least i c.args.limit inv.at k e _ c.loop-moment.run.queues.agenda h.from next inv.is.agenda found.found found.least taken in
+    let least = takes_least i c.args.limit inv.at k e _ c.loop-moment.run.traffic.agenda h.from next inv.is.agenda found.found found.least taken in
     let t : Taken = record { key = k; event = event_of i e; effect = taken.effect } in
     record {
       ready = (k.tick, c.in_ok-stop.ensures.ready);

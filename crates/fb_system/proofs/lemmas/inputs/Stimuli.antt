@@ -17,7 +17,7 @@ use Rattle.fb_types.specs.declared.library.Library.{Library}
 use Rattle.fb_types.specs.declared.library.Ports.{Ports}
 use Rattle.fb_system.specs.Layouts.{AreNumbers, path_of}
 use Rattle.fb_system.specs.Rows.{AreRows, IsRow, set_at}
-use Rattle.fb_types.specs.declared.run.SlotValue.{SlotValue}
+use Rattle.fb_types.specs.declared.run.InputValue.{InputValue}
 use Rattle.fb_system.specs.declared.rows.StimulusRow.{StimulusRow}
 use Rattle.fb_system.specs.Stimuli.{IsRowOf, IsStimulusAt, set_of}
 use Rattle.fb_system.specs.Systems.{inputs_of, AreTables}
@@ -86,14 +86,14 @@ row_stands i s row top n number is numbers found =
           event = subst (λ (p : Ports). row.event < length p.event_inputs) (sym its) within;
         };
         input = refl;
-        within = subst (λ (p : Ports). All (λ (x : SlotValue). x.index < length p.inputs) row.sets) (sym its) is.sets.within;
+        within = subst (λ (p : Ports). All (λ (x : InputValue). x.index < length p.inputs) row.sets) (sym its) is.sets.within;
       };
       port = λ j. record { at = path j; name = event j };
       sets = ap (λ (p : Ports). map (set_at p.inputs) row.sets) its ∙ is.sets.named;
     }
 
 pub stimulus_stands :
-    (i : Inputs) (rows : List StimulusRow) (k : ℕ) (row : StimulusRow) (top : List ℕ) (n : ℕ) (sets : Bor (List SlotValue)) → AreRows i.library i.stimuli rows
+    (i : Inputs) (rows : List StimulusRow) (k : ℕ) (row : StimulusRow) (top : List ℕ) (n : ℕ) (sets : Bor (List InputValue)) → AreRows i.library i.stimuli rows
     → slice_get rows k ≡ Some row → AreNumbers i.library [] i.library.application.network.instances top → slice_get top row.instance ≡ Some n → sets.now ≡ row.sets
     → IsStimulusAt i k (record { tick = row.tick; target = record { instance = n; event = row.event; is_output = false }; sets = sets })
 stimulus_stands i rows k row top n sets are there numbers number same =
@@ -108,5 +108,5 @@ stimulus_stands i rows k row top n sets are there numbers number same =
       is_port = of.row.is_port;
       input = refl;
       sets = ap (map (set_of sys n)) same ∙ of.sets;
-      within = subst (λ (xs : List SlotValue). All (λ (x : SlotValue). x.index < length (ports_at sys (path_at sys n)).inputs) xs) (sym same) of.row.within;
+      within = subst (λ (xs : List InputValue). All (λ (x : InputValue). x.index < length (ports_at sys (path_at sys n)).inputs) xs) (sym same) of.row.within;
     }

@@ -29,7 +29,7 @@ use Rattle.fb_system.specs.declared.interfaces.Interfaces.{Interfaces}
 use Rattle.fb_types.specs.EventPorts.{ArePortsOfKinds}
 use Rattle.fb_system.specs.Rows.{AreRows}
 use Rattle.fb_system.specs.declared.rows.StimulusRow.{StimulusRow}
-use Rattle.fb_system.specs.Linking.{AreHomes, IsLinked, Linked, link_at, receiver_at, sender_at}
+use Rattle.fb_system.specs.Linking.{AreInstanceResources, IsLinked, Linked, link_at, receiver_at, sender_at}
 use Rattle.fb_system.specs.Ports.{IsPort, IsSource, IsTarget, IsVariable, variable_of}
 use Rattle.fb_system.specs.Systems.{inputs_of, AreTables}
 use Rattle.fb_system.specs.declared.kept.Kept.{Kept}
@@ -225,8 +225,8 @@ latency_read v w i p links l d sent e s r q h =
 -- ---- Making
 
 abbrev whole_of : Plan → List Stimulus → Library → Linked → List Ports → Interfaces → List StimulusRow → List ℕ → Kept → Whole
-whole_of plan stimuli lib links blocks interfaces rows homes kept =
-    record { deploy = plan; stimuli = stimuli; netlist = lib; links = links; event_blocks = blocks; interfaces = interfaces; rows = rows; homes = homes; kept = kept }
+whole_of plan stimuli lib links blocks interfaces rows instance_resources kept =
+    record { deploy = plan; stimuli = stimuli; netlist = lib; links = links; event_blocks = blocks; interfaces = interfaces; rows = rows; instance_resources = instance_resources; kept = kept }
 
 -- what a result that is Ok guarantees
 pub ok_read : {A E : Type 0} (r : Result A E) (P : A → Type 0) (a : A) → IfOk r P → r ≡ Ok a → P a
@@ -243,8 +243,8 @@ pub made :
     (lib f : Library) (plan p : Plan) (stimuli xs : List Stimulus) (links : Linked) (blocks : List Ports) (interfaces its : Interfaces) (rows rs : List StimulusRow) (kept : Kept)
     → AreAccepted (inputs lib plan stimuli) → AreInterfaces lib interfaces → AreRows lib stimuli rows → IsLinked lib plan links → ArePortsOfKinds blocks
     → f ≡ lib → p ≡ plan → xs ≡ stimuli → its ≡ interfaces → rs ≡ rows
-    → (homes : List ℕ) → (IsLinked f p links → AreHomes f p homes) → AreTables (whole_of p xs f links blocks its rs homes kept)
-made lib f plan p stimuli xs links blocks interfaces its rows rs kept accepted of_types by_number linked of_kinds library deploy same types numbers homes at =
+    → (instance_resources : List ℕ) → (IsLinked f p links → AreInstanceResources f p instance_resources) → AreTables (whole_of p xs f links blocks its rs instance_resources kept)
+made lib f plan p stimuli xs links blocks interfaces its rows rs kept accepted of_types by_number linked of_kinds library deploy same types numbers instance_resources at =
     let view = view_made lib f plan p stimuli xs library deploy same in
     let joined : IsLinked f p links = subst (λ (i : Inputs). IsLinked i.library i.plan links) (sym view) linked in
     record {
@@ -253,5 +253,5 @@ made lib f plan p stimuli xs links blocks interfaces its rows rs kept accepted o
       event_blocks = of_kinds;
       interfaces = subst (λ (l : Library). AreInterfaces l its) (sym library) (subst (λ (t : Interfaces). AreInterfaces lib t) (sym types) of_types);
       rows = subst (λ (i : Inputs). AreRows i.library i.stimuli rs) (sym view) (subst (λ (s : List StimulusRow). AreRows lib stimuli s) (sym numbers) by_number);
-      homes = at joined;
+      instance_resources = at joined;
     }

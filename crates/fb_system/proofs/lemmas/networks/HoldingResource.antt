@@ -99,34 +99,34 @@ resource_by_index lib plan x k index linked h found =
 
 -- ---- In a system
 
-pub home_there : (v w : Whole) (i : Inputs) (k : ℕ) → AreTables w → v ≡ w → inputs_of w ≡ i → k < length (paths_of i.library) → k < length v.homes
-home_there v w i k is e s h =
+pub instance_resource_there : (v w : Whole) (i : Inputs) (k : ℕ) → AreTables w → v ≡ w → inputs_of w ≡ i → k < length (paths_of i.library) → k < length v.instance_resources
+instance_resource_there v w i k is e s h =
     let lt : k < length (paths_of w.netlist) = subst (λ (i : Inputs). k < length (paths_of i.library)) (sym s) h in
-    subst (λ (w : Whole). k < length w.homes) (sym e) (slice_get_within w.homes k (resource_of w.deploy (path_of w.netlist k)) (is.homes k lt))
+    subst (λ (w : Whole). k < length w.instance_resources) (sym e) (slice_get_within w.instance_resources k (resource_of w.deploy (path_of w.netlist k)) (is.instance_resources k lt))
 
-pub home_seen :
+pub instance_resource_seen :
     (v w : Whole) (i : Inputs) (k d : ℕ) → AreTables w → v ≡ w → inputs_of w ≡ i → k < length (paths_of i.library)
-    → get_or v.homes k d ≡ resource_of i.plan (path_of i.library k)
-home_seen v w i k d is e s h =
+    → get_or v.instance_resources k d ≡ resource_of i.plan (path_of i.library k)
+instance_resource_seen v w i k d is e s h =
     let lt : k < length (paths_of w.netlist) = subst (λ (i : Inputs). k < length (paths_of i.library)) (sym s) h in
-    ap (λ (w : Whole). get_or w.homes k d) e
-    ∙ get_or_from_slice_get w.homes k (resource_of w.deploy (path_of w.netlist k)) d (is.homes k lt)
+    ap (λ (w : Whole). get_or w.instance_resources k d) e
+    ∙ get_or_from_slice_get w.instance_resources k (resource_of w.deploy (path_of w.netlist k)) d (is.instance_resources k lt)
     ∙ ap (λ (i : Inputs). resource_of i.plan (path_of i.library k)) s
 
 -- ---- Making
 
 -- the first homes
-abbrev pub HomesSoFar : Library → Linked → ℕ → List ℕ → Type 0
-HomesSoFar lib x n homes =
-    (length homes ≡ n) × ((plan : Plan) → IsLinked lib plan x → (k : ℕ) → k < n → slice_get homes k ≡ Some (resource_of plan (path_of lib k)))
+abbrev pub InstanceResourcesSoFar : Library → Linked → ℕ → List ℕ → Type 0
+InstanceResourcesSoFar lib x n instance_resources =
+    (length instance_resources ≡ n) × ((plan : Plan) → IsLinked lib plan x → (k : ℕ) → k < n → slice_get instance_resources k ≡ Some (resource_of plan (path_of lib k)))
 
-pub homes_next :
-    (lib : Library) (x : Linked) (n home : ℕ) (homes : List ℕ) → HomesSoFar lib x n homes
-    → ((plan : Plan) → IsLinked lib plan x → home ≡ resource_of plan (path_of lib n)) → HomesSoFar lib x (n + 1) (homes ++ home ∷ [])
-homes_next lib x n home homes far is = (
-  length-append homes (home ∷ []) ∙ ap (λ m. m + 1) far.0,
-  λ plan linked. below_more _ _ (λ k lt. slice_get-append_left homes (home ∷ []) k (resource_of plan (path_of lib k)) (far.1 plan linked k lt))
-      (ap (slice_get (homes ++ home ∷ [])) (sym far.0) ∙ slice_get-append_here homes home ∙ ap (λ m. Some m) (is plan linked)),
+pub instance_resources_next :
+    (lib : Library) (x : Linked) (n instance_resource : ℕ) (instance_resources : List ℕ) → InstanceResourcesSoFar lib x n instance_resources
+    → ((plan : Plan) → IsLinked lib plan x → instance_resource ≡ resource_of plan (path_of lib n)) → InstanceResourcesSoFar lib x (n + 1) (instance_resources ++ instance_resource ∷ [])
+instance_resources_next lib x n instance_resource instance_resources far is = (
+  length-append instance_resources (instance_resource ∷ []) ∙ ap (λ m. m + 1) far.0,
+  λ plan linked. below_more _ _ (λ k lt. slice_get-append_left instance_resources (instance_resource ∷ []) k (resource_of plan (path_of lib k)) (far.1 plan linked k lt))
+      (ap (slice_get (instance_resources ++ instance_resource ∷ [])) (sym far.0) ∙ slice_get-append_here instance_resources instance_resource ∙ ap (λ m. Some m) (is plan linked)),
 )
 
 -- a path has a first index

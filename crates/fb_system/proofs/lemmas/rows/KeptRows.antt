@@ -33,7 +33,7 @@ with_rows u v w h i e f s is rows =
     subst (λ (x : Whole). HaveRows x) (sym (e ∙ ap (λ (w : Whole). record w { kept = h }) f))
     (let all : IsKept (inputs_of w) h = subst (λ (i : Inputs). IsKept i h) (sym s) rows in
     record {
-      tables = record { accepted = is.accepted; links = is.links; event_blocks = is.event_blocks; interfaces = is.interfaces; rows = is.rows; homes = is.homes };
+      tables = record { accepted = is.accepted; links = is.links; event_blocks = is.event_blocks; interfaces = is.interfaces; rows = is.rows; instance_resources = is.instance_resources };
       heads = all.heads;
       ports = all.ports;
       sources = all.sources;

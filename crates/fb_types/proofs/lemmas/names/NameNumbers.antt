@@ -2,7 +2,7 @@
 use Rattle.std.proofs.Common.{◌≡◌, ◌≤◌, ◌<◌, ◌+◌, ◌*◌, ◌^◌, ℕ, zero, suc, true, false, cond, List, [], ◌∷◌, length, refl, sym, ◌∙◌, arith}
 use Rattle.std.specs.Prelude.{nat_le}
 use Rattle.std.proofs.lemmas.Bool.Decides.{nat_tests}
-use Rattle.fb_types.specs.Words.{digit, packed, most, word_of}
+use Rattle.fb_types.specs.ShortNumbers.{digit, packed, most, short_number_of}
 
 -- ---- Digits
 
@@ -53,7 +53,7 @@ packed-once (b ∷ bs) (c ∷ cs) apart e =
     let first : digit b ≡ digit c = omega arith in
     λ i. digit-once b c one.0 first i ∷ packed-once bs cs one.1 rest i
 
-short : (bs : List ℕ) → ¬ (word_of bs ≡ 0) → word_of bs ≡ packed bs
+short : (bs : List ℕ) → ¬ (short_number_of bs ≡ 0) → short_number_of bs ≡ packed bs
 short bs apart =
     elim (nat_le (length bs) most) as (λ b. ¬ (cond b (packed bs) 0 ≡ 0) → cond b (packed bs) 0 ≡ packed bs) [
       | true ↦ λ e. refl
@@ -61,7 +61,7 @@ short bs apart =
     ] apart
 
 -- two names that one number represents are the same
-pub is_the_name : (bs cs : List ℕ) (w v : ℕ) → w ≡ word_of bs → v ≡ word_of cs → ¬ (w ≡ 0) → w ≡ v → bs ≡ cs
+pub is_the_name : (bs cs : List ℕ) (w v : ℕ) → w ≡ short_number_of bs → v ≡ short_number_of cs → ¬ (w ≡ 0) → w ≡ v → bs ≡ cs
 is_the_name bs cs w v is other apart same =
     let first = short bs (λ e. apart (is ∙ e)) in
     let second = short cs (λ e. apart (same ∙ other ∙ e)) in

@@ -10,7 +10,7 @@ use Rattle.std.proofs.lemmas.Map.Text.{is_eq-slice_cmp}
 use Rattle.std.proofs.lemmas.Slice.Eq.{bytes_eq-Decides}
 use Rattle.fb_types.specs.Names.{Name, same_name}
 use Rattle.fb_types.specs.NameOrder.{name_cmp, name_cmp_total}
-use Rattle.fb_types.specs.Words.{word_of}
+use Rattle.fb_types.specs.ShortNumbers.{short_number_of}
 use Rattle.fb_types.proofs.lemmas.names.NameLaws.{same_name-Decides}
 
 pub slice_cmp-Decides : (n m : Name) → Decides (is_eq (slice_cmp nat_cmp n m)) (n ≡ m)
@@ -24,7 +24,7 @@ last_of order.Greater s h = absurd (true≢false (sym h))
 -- names that are equal in this order are the same
 pub name_cmp-Decides : (n m : Name) → Decides (is_eq (name_cmp n m)) (n ≡ m)
 name_cmp-Decides n m = (
-  λ h. (slice_cmp-Decides n m).0 (last_of (nat_cmp (word_of n) (word_of m)) (slice_cmp nat_cmp n m) h),
+  λ h. (slice_cmp-Decides n m).0 (last_of (nat_cmp (short_number_of n) (short_number_of m)) (slice_cmp nat_cmp n m) h),
   λ e. subst (λ (k : Name). is_eq (name_cmp n k) ≡ true) e (ap is_eq (tied_itself name_cmp_total n)),
 )
 

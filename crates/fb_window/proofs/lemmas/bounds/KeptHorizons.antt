@@ -30,7 +30,7 @@ use Rattle.fb_window.specs.Leaving.{AreLegal, HasLeft}
 use Rattle.fb_window.specs.Reached.{IsAway, IsBrought, IsReached, KeepHorizon, MayGo}
 use Rattle.fb_window.specs.Reaching.{OfEachCore}
 use Rattle.fb_window.specs.Standing.{IsAt}
-use Rattle.fb_window.specs.Walking.{AreSingle, IsSingle, Leads, Single, Walks, after_walk, single_steps, walk_steps}
+use Rattle.fb_window.specs.ManyTurns.{AreSingle, IsSingle, Leads, Single, TakesTurns, after_series, single_steps, series_steps}
 use Rattle.fb_window.specs.declared.cores.AwayState.{AwayState}
 use Rattle.fb_window.specs.declared.cores.CoreState.{CoreState}
 use Rattle.fb_window.proofs.lemmas.bounds.BoundsAre.{home, may_leave}
@@ -109,7 +109,7 @@ module _ (i : Inputs) (good : AreGood i) (limit : ℕ) (xs : List Resource) wher
       → (r : ℕ) → count_of (system_of i) ≤ r → (core_of i limit to.steps r).clock ≡ 0
   idle_within horizon es to idle = subst (λ (c : Core M). (r : ℕ) → count_of (system_of i) ≤ r → (c r).clock ≡ 0) (sym to.same) idle
 
--- ---- A walk
+-- ---- A series of turns
 
 module _ (M : Machine) (count : ℕ) where
   -- turns move no member past the last one
@@ -120,7 +120,7 @@ module _ (M : Machine) (count : ℕ) where
       ap (λ (m : Member M). m.clock)
       (with_at_other t.resource (returned M (out t.resource) t.run) out r apart ∙ with_at_other t.resource (record (c t.resource) { out = Some (0, t.bound) }) c r apart)
 
-  singles_idle : (ts : List (Single M)) (c : Core M) → AreSingle M count c ts → (r : ℕ) → count ≤ r → (core_after M c (walk_steps M ts) r).clock ≡ (c r).clock
+  singles_idle : (ts : List (Single M)) (c : Core M) → AreSingle M count c ts → (r : ℕ) → count ≤ r → (core_after M c (series_steps M ts) r).clock ≡ (c r).clock
   singles_idle [] c all r b = refl
   singles_idle (t ∷ ts) c all r b = singles_idle ts (core_after M c (single_steps M t)) all.1 r b ∙ single_idle c t all.0 r b
 
@@ -128,11 +128,11 @@ pub brought_on : (i : Inputs) (limit horizon : ℕ) (es : List (CoreStep (machin
     → Leads i limit horizon es before after ts → ((r : ℕ) → count_of (system_of i) ≤ r → (core_of i limit es r).clock ≡ 0) → IsBrought i limit after.resources.items
 brought_on i limit horizon es before after ts leads idle = record {
   range = horizon;
-  steps = after_walk i limit es ts;
+  steps = after_series i limit es ts;
   schedule = leads.schedule;
   at = leads.at;
   idle = λ r b.
-      ap (λ (c : Core (machine (system_of i) limit)). (c r).clock) (after_append (machine (system_of i) limit) es (walk_steps (machine (system_of i) limit) ts) (opening_core (system_of i) (stimuli_of i) limit))
+      ap (λ (c : Core (machine (system_of i) limit)). (c r).clock) (after_append (machine (system_of i) limit) es (series_steps (machine (system_of i) limit) ts) (opening_core (system_of i) (stimuli_of i) limit))
       ∙ singles_idle (machine (system_of i) limit) (count_of (system_of i)) ts (core_of i limit es) leads.singles r b ∙ idle r b;
 }
 
@@ -184,11 +184,11 @@ module _ (s : CoreState) (good : AreGood s.system) (reached : IsReached s) where
             (subst (λ (ps : Vec (Vec Line)). All (λ (p : Vec Line). All (BelongsTo (system_of s.system)) p.items) ps.items) (sym pending) reached.belong);
       }
 
-    -- The core after a walk.
+    -- The core after a series of turns.
     pub is_reached : (most : ℕ) (d : CoreState) → d.system ≡ s.system → d.steps ≡ s.steps → length d.pending.items ≡ length d.resources.items
-        → All (λ (p : Vec Line). All (BelongsTo (system_of s.system)) p.items) d.pending.items → Walks s.system s.steps horizon most s d → IsReached d
-    is_reached most d system steps counted belong walks =
-        let on = walks led.steps led.schedule led_at in
+        → All (λ (p : Vec Line). All (BelongsTo (system_of s.system)) p.items) d.pending.items → TakesTurns s.system s.steps horizon most s d → IsReached d
+    is_reached most d system steps counted belong takes_turns =
+        let on = takes_turns led.steps led.schedule led_at in
         let way : IsBrought s.system s.steps d.resources.items =
         brought_on s.system s.steps horizon led.steps s d on.0 on.1 (idle_within s.system good s.steps s.resources.items horizon reached.way.steps led reached.way.idle) in
         record {

@@ -1,9 +1,9 @@
--- A walk goes on after a step of it, of the same system.
+-- A series of turns goes on after a step of it, of the same system.
 use Rattle.std.proofs.Common.{◌≡◌, ◌∙◌}
 use Rattle.fb_window.specs.Turning.{IsSame}
-use Rattle.fb_window.specs.declared.walk.Walk.{Walk}
+use Rattle.fb_window.specs.declared.turn_series.TurnSeries.{TurnSeries}
 
-pub same_then : (a b c : Walk) → IsSame a b → IsSame b c → IsSame a c
+pub same_then : (a b c : TurnSeries) → IsSame a b → IsSame b c → IsSame a c
 same_then a b c first next = record {
   system = next.system ∙ first.system;
   core = next.core ∙ first.core;
@@ -13,8 +13,8 @@ same_then a b c first next = record {
   steps = next.steps ∙ first.steps;
 }
 
--- The same, where the walk in between is read, so that its fact of the system is known anew.
-pub same_after : (a b m c : Walk) → IsSame m c → IsSame a b → m.system.now ≡ b.system.now → m.core.ghost_name ≡ b.core.ghost_name → m.nexts.ghost_name ≡ b.nexts.ghost_name
+-- The same, where the series of turns in between is read, so that its fact of the system is known anew.
+pub same_after : (a b m c : TurnSeries) → IsSame m c → IsSame a b → m.system.now ≡ b.system.now → m.core.ghost_name ≡ b.core.ghost_name → m.nexts.ghost_name ≡ b.nexts.ghost_name
     → m.nexts.now.horizon ≡ b.nexts.now.horizon → m.core.now.system ≡ b.core.now.system → m.core.now.steps ≡ b.core.now.steps → IsSame a c
 same_after a b m c next first system core nexts horizon inputs steps =
     same_then a m c

@@ -15,7 +15,7 @@ returns-in_default-clause-rising c = rest_rises c.args.self.now c.pop_below.new.
 pub returns-clause-popped : goal.returns-clause-popped
 returns-clause-popped c =
     let t = c.in-Some.first in
-    subst (λ (k : Key). IsPopped c.args.self.now c.pop_below.new.self (Some (k, Timer t.instance))) (sym c.key-slot.ensures)
+    subst (λ (k : Key). IsPopped c.args.self.now c.pop_below.new.self (Some (k, Timer t.instance))) (sym c.key-least_event.ensures)
     (front_popped c.args.self.now c.pop_below.new.self c.requires (Some (timer_event t)) c.in-Some.ensures.items)
 
 pub returns-clause-rising : goal.returns-clause-rising

@@ -3,29 +3,29 @@ use Rattle.std.specs.Prelude.{slice_set}
 use Rattle.std.proofs.lemmas.Result.{on_ok_weaker}
 use Rattle.fb_types.specs.declared.run.InstanceVariable.{InstanceVariable}
 use Rattle.fb_types.specs.declared.value.Value.{Value}
-use Rattle.fb_net.specs.HeldAt.{IsAdded, place_of}
-use Rattle.fb_net.specs.Worlds.{seat_in}
+use Rattle.fb_net.specs.HeldAt.{IsAdded, side_index_of}
+use Rattle.fb_net.specs.Worlds.{index_in}
 use Rattle.fb_net.specs.declared.held_copies.HeldCopies.{HeldCopies}
 use Rattle.fb_net.specs.declared.held_copies.HeldRow.{HeldRow}
 use Rattle.fb_net.proofs.lemmas.values.HeldRows.{is_added}
 use Rattle.fb_net.proofs.held_copies.HeldCopies.add.Goals as goal
 
 -- what the lists have become
-has_added : (h : HeldCopies) (x : InstanceVariable) (values : List Value) (room ks : List ℕ) (rs : List HeldRow) (place many : ℕ) → place ≡ place_of x → many ≡ length h.rows
-    → place < length room → ((other : ℕ) → seat_in room other ≡ seat_in h.indexes other) → ks ≡ slice_set room place many
-    → rs ≡ h.rows ++ record { place = place; values = values } ∷ [] → IsAdded h x values (record { indexes = ks; rows = rs })
-has_added h x values room ks rs place many is count long same indexes rows =
-    let now : HeldCopies = record { indexes = slice_set room (place_of x) (length h.rows); rows = h.rows ++ record { place = place_of x; values = values } ∷ [] } in
+has_added : (h : HeldCopies) (x : InstanceVariable) (values : List Value) (room ks : List ℕ) (rs : List HeldRow) (side_index many : ℕ) → side_index ≡ side_index_of x → many ≡ length h.rows
+    → side_index < length room → ((other : ℕ) → index_in room other ≡ index_in h.indexes other) → ks ≡ slice_set room side_index many
+    → rs ≡ h.rows ++ record { side_index = side_index; values = values } ∷ [] → IsAdded h x values (record { indexes = ks; rows = rs })
+has_added h x values room ks rs side_index many is count long same indexes rows =
+    let now : HeldCopies = record { indexes = slice_set room (side_index_of x) (length h.rows); rows = h.rows ++ record { side_index = side_index_of x; values = values } ∷ [] } in
     let after : IsAdded h x values now = is_added h x values room (subst (λ (p : ℕ). p < length room) is long) same in
-    let first : slice_set room (place_of x) (length h.rows) ≡ ks = sym (indexes ∙ ap (λ (p : ℕ). slice_set room p many) is ∙ ap (slice_set room (place_of x)) count) in
-    let second : (h.rows ++ record { place = place_of x; values = values } ∷ []) ≡ rs =
-    sym (rows ∙ ap (λ (p : ℕ). h.rows ++ record { place = p; values = values } ∷ []) is) in
+    let first : slice_set room (side_index_of x) (length h.rows) ≡ ks = sym (indexes ∙ ap (λ (p : ℕ). slice_set room p many) is ∙ ap (slice_set room (side_index_of x)) count) in
+    let second : (h.rows ++ record { side_index = side_index_of x; values = values } ∷ []) ≡ rs =
+    sym (rows ∙ ap (λ (p : ℕ). h.rows ++ record { side_index = p; values = values } ∷ []) is) in
     subst (λ (js : List ℕ). IsAdded h x values (record { indexes = js; rows = rs })) first
-    (subst (λ (qs : List HeldRow). IsAdded h x values (record { indexes = slice_set room (place_of x) (length h.rows); rows = qs })) second after)
+    (subst (λ (qs : List HeldRow). IsAdded h x values (record { indexes = slice_set room (side_index_of x) (length h.rows); rows = qs })) second after)
 
 pub returns : goal.returns
 returns c =
     on_ok_weaker c.push.result
-    (has_added c.args.self.now c.args.variable.now c.args.values c.make_room.new.indexes c.set.new.self c.push.new.self c.place_of-place.result c.len.result
-    c.place_of-place.ensures c.len.ensures c.in_ok-make_room.ensures.long c.in_ok-make_room.ensures.same c.set.ensures)
+    (has_added c.args.self.now c.args.variable.now c.args.values c.make_room.new.indexes c.set.new.self c.push.new.self c.side_index_of-side_index.result c.len.result
+    c.side_index_of-side_index.ensures c.len.ensures c.in_ok-make_room.ensures.long c.in_ok-make_room.ensures.same c.set.ensures)
     c.push.ensures.ok

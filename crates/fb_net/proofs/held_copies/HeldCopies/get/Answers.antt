@@ -1,7 +1,7 @@
 use Rattle.std.proofs.Common.{◌≡◌, None, Some, sym, ap, ◌∙◌}
 use Rattle.std.specs.Prelude.{slice_get}
-use Rattle.fb_net.specs.HeldAt.{place_of}
-use Rattle.fb_net.specs.Worlds.{seat_in}
+use Rattle.fb_net.specs.HeldAt.{side_index_of}
+use Rattle.fb_net.specs.Worlds.{index_in}
 use Rattle.fb_net.proofs.lemmas.values.HeldRows.{copy_elsewhere, copy_here, held_by}
 use Rattle.fb_net.proofs.held_copies.HeldCopies.get.Goals as goal
 
@@ -10,26 +10,26 @@ returns c =
     let h = c.args.self.now in
     let x = c.args.variable.now in
     let row = c.in_ok-row.row.now in
-    let at = ap (seat_in h.indexes) c.place_of-place.ensures in
-    let there : slice_get h.rows (seat_in h.indexes (place_of x)) ≡ Some row =
+    let at = ap (index_in h.indexes) c.side_index_of-side_index.ensures in
+    let there : slice_get h.rows (index_in h.indexes (side_index_of x)) ≡ Some row =
     ap (slice_get h.rows) (sym (c.index.ensures ∙ at)) ∙ sym c.in_ok-row.ensures.value in
-    c.get-2.ensures.value ∙ sym (held_by h x (Some row) there ∙ copy_here row x (c.if-row-place.false ∙ c.place_of-place.ensures))
+    c.get-2.ensures.value ∙ sym (held_by h x (Some row) there ∙ copy_here row x (c.if-row-side_index.false ∙ c.side_index_of-side_index.ensures))
 
-pub returns-then-row-place : goal.returns-then-row-place
-returns-then-row-place c =
+pub returns-then-row-side_index : goal.returns-then-row-side_index
+returns-then-row-side_index c =
     let h = c.args.self.now in
     let x = c.args.variable.now in
     let row = c.in_ok-row.row.now in
-    let at = ap (seat_in h.indexes) c.place_of-place.ensures in
-    let there : slice_get h.rows (seat_in h.indexes (place_of x)) ≡ Some row =
+    let at = ap (index_in h.indexes) c.side_index_of-side_index.ensures in
+    let there : slice_get h.rows (index_in h.indexes (side_index_of x)) ≡ Some row =
     ap (slice_get h.rows) (sym (c.index.ensures ∙ at)) ∙ sym c.in_ok-row.ensures.value in
-    sym (held_by h x (Some row) there ∙ copy_elsewhere row x (λ e. c.if-row-place.true (e ∙ sym c.place_of-place.ensures)))
+    sym (held_by h x (Some row) there ∙ copy_elsewhere row x (λ e. c.if-row-side_index.true (e ∙ sym c.side_index_of-side_index.ensures)))
 
 pub returns-in_err-row : goal.returns-in_err-row
 returns-in_err-row c =
     let h = c.args.self.now in
     let x = c.args.variable.now in
-    let at = ap (seat_in h.indexes) c.place_of-place.ensures in
-    let there : slice_get h.rows (seat_in h.indexes (place_of x)) ≡ None =
+    let at = ap (index_in h.indexes) c.side_index_of-side_index.ensures in
+    let there : slice_get h.rows (index_in h.indexes (side_index_of x)) ≡ None =
     ap (slice_get h.rows) (sym (c.index.ensures ∙ at)) ∙ sym c.in_err-row.ensures.value in
     rw c.from_residual.ensures (sym (held_by h x None there))

@@ -5,21 +5,21 @@ use Rattle.fb_types.specs.declared.value.Value.{Value}
 use Rattle.fb_net.specs.declared.held_copies.HeldRow.{HeldRow}
 use Rattle.fb_net.proofs.held_copies.HeldRow.set.Goals as goal
 
-same_place : (a b : ℕ) → a ≡ b → (a == b) ≡ true
-same_place a b e = grind (arith, nat_tests)
+same_side : (a b : ℕ) → a ≡ b → (a == b) ≡ true
+same_side a b e = grind (arith, nat_tests)
 
-other_place : (a b : ℕ) → a ≢ b → (a == b) ≡ false
-other_place a b e = grind (arith, nat_tests)
+other_side : (a b : ℕ) → a ≢ b → (a == b) ≡ false
+other_side a b e = grind (arith, nat_tests)
 
-pub returns-then-self-place : goal.returns-then-self-place
-returns-then-self-place c =
+pub returns-then-self-side_index : goal.returns-then-self-side_index
+returns-then-self-side_index c =
     let row : HeldRow = c.args.self.now in
     let new : HeldRow = record row { values = slice_set row.values c.args.variable c.args.value } in
     ap (λ (vs : List Value). record row { values = vs }) c.set.ensures
-    ∙ ap (λ (b : Bool). cond b new row) (sym (same_place row.place c.args.place c.if-self-place.true))
+    ∙ ap (λ (b : Bool). cond b new row) (sym (same_side row.side_index c.args.side_index c.if-self-side_index.true))
 
-pub returns-else-self-place : goal.returns-else-self-place
-returns-else-self-place c =
+pub returns-else-self-side_index : goal.returns-else-self-side_index
+returns-else-self-side_index c =
     let row : HeldRow = c.args.self.now in
     let new : HeldRow = record row { values = slice_set row.values c.args.variable c.args.value } in
-    ap (λ (b : Bool). cond b new row) (sym (other_place row.place c.args.place c.if-self-place.false))
+    ap (λ (b : Bool). cond b new row) (sym (other_side row.side_index c.args.side_index c.if-self-side_index.false))

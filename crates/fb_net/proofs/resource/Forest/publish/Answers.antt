@@ -1,11 +1,11 @@
 use Rattle.std.proofs.Common.{sym}
 use Rattle.fb_net.proofs.lemmas.blocks.EventBlockReactions.{no_shell}
-use Rattle.fb_net.proofs.lemmas.blocks.BlocksKept.{seat-there}
+use Rattle.fb_net.proofs.lemmas.blocks.BlocksKept.{shell_index-there}
 use Rattle.fb_net.proofs.lemmas.values.Writing.{output_changes}
 use Rattle.fb_net.proofs.resource.Forest.publish.Goals as goal
 
 pub shell_mut-requires : goal.shell_mut-requires
-shell_mut-requires c = seat-there c.args.system.now c.args.self.now c.args.output.instance c.requires.variable.instance c.requires.stands
+shell_mut-requires c = shell_index-there c.args.system.now c.args.self.now c.args.output.instance c.requires.variable.instance c.requires.stands
 
 pub unreachable-requires : goal.unreachable-requires
 unreachable-requires c =

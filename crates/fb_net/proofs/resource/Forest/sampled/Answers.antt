@@ -4,7 +4,7 @@ use Rattle.fb_types.specs.Headline.{system_of}
 use Rattle.fb_net.specs.Worlds.{value_in}
 use Rattle.fb_net.proofs.lemmas.emitting.PortRows.{near, source_of}
 use Rattle.fb_net.proofs.lemmas.values.Sampled.{slot_sampled, source_sampled}
-use Rattle.fb_net.proofs.lemmas.values.ShownValues.{seated_reads, slot_stands}
+use Rattle.fb_net.proofs.lemmas.values.ShownValues.{shell_there_reads, slot_stands}
 use Rattle.fb_net.proofs.resource.Forest.sampled.Goals as goal
 
 pub shown-requires-clause-variable : goal.shown-requires-clause-variable
@@ -27,6 +27,6 @@ returns-in-Some c =
 pub returns-in-None : goal.returns-in-None
 returns-in-None c =
     slot_sampled c.args.system.now c.args.self.now c.args.input _ (source_of (system_of c.args.system.now) c.args.input c.args.source.now None c.requires.source c.in-None.is).comes.comes
-    (seated_reads c.args.system.now c.args.self.now c.args.input (λ b. b.slots) c.shell-shell.result.now _ c.requires.variable.instance c.shell-shell.ensures
+    (shell_there_reads c.args.system.now c.args.self.now c.args.input (λ b. b.slots) c.shell-shell.result.now _ c.requires.variable.instance c.shell-shell.ensures
     (λ m s. c.value_of.ensures ∙ ap (λ vs. value_in vs c.args.input.variable) c.as_slice.ensures
     ∙ slot_stands _ _ _ m c.requires.variable s c.requires.input))

@@ -1,7 +1,7 @@
 use Rattle.std.proofs.Common.{ap, sym, ◌∙◌}
 use Rattle.std.proofs.lemmas.Bool.{true≢false}
 use Rattle.fb_net.specs.Worlds.{value_in}
-use Rattle.fb_net.proofs.lemmas.values.ShownValues.{seated_reads, copy_stands}
+use Rattle.fb_net.proofs.lemmas.values.ShownValues.{shell_there_reads, copy_stands}
 use Rattle.fb_net.proofs.lemmas.values.Sampled.{input_seen, output_seen, shown_away, shown_here}
 use Rattle.fb_net.proofs.resource.Forest.shown.Goals as goal
 
@@ -20,16 +20,16 @@ returns-then-source c =
     let i = c.args.system.now in
     let source = c.args.source.now.variable in
     shown_here i c.args.self.now source _ (c.requires.place.0 c.if-not-source.false)
-    (λ w tree within is_source. c.published.ensures w tree within ∙ output_seen i source c.requires.variable c.facts.ensures.accepted c.if-source.true w)
+    (λ w resource_blocks within is_source. c.published.ensures w resource_blocks within ∙ output_seen i source c.requires.variable c.facts.ensures.accepted c.if-source.true w)
 
 pub returns-else-source : goal.returns-else-source
 returns-else-source c =
     let i = c.args.system.now in
     let source = c.args.source.now.variable in
     shown_here i c.args.self.now source _ (c.requires.place.0 c.if-not-source.false)
-    (λ w tree within is_source.
+    (λ w resource_blocks within is_source.
     let composite = is_source.composite c.if-source.false in
-    seated_reads i c.args.self.now source (λ b. b.variables) c.shell-shell.result.now _ c.requires.variable.instance c.shell-shell.ensures
+    shell_there_reads i c.args.self.now source (λ b. b.variables) c.shell-shell.result.now _ c.requires.variable.instance c.shell-shell.ensures
     (λ m s. c.value_of.ensures ∙ ap (λ vs. value_in vs source.variable) c.as_slice.ensures
-    ∙ copy_stands _ _ _ m c.requires.variable s composite c.if-source.false) w tree within
+    ∙ copy_stands _ _ _ m c.requires.variable s composite c.if-source.false) w resource_blocks within
     ∙ input_seen i source c.requires.variable c.if-source.false composite w)

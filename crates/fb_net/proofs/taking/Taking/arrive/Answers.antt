@@ -33,13 +33,13 @@ returns-in-Event-clause-arrived c =
     let kind = c.in-Event.kind in
     let left = c.args.meter.now.left in
     let f = c.args.self.now.forest.now in
-    let x = c.args.self.now.outbox.now in
+    let x = c.args.self.now.effects.now in
     let done = c.arrive_event in
     let z = done.new.self in
     record {
-      reacted = reacted-ended i (Arrives i k at left) f z.forest.now x z.outbox.now left done.result done.ensures.only_memory
+      reacted = reacted-ended i (Arrives i k at left) f z.forest.now x z.effects.now left done.result done.ensures.only_memory
           (on_ok_weaker done.result
-          (λ did. done-reacted i (reacting i k kind at) (Arrives i k at left) f z.forest.now x z.outbox.now left
+          (λ did. done-reacted i (reacting i k kind at) (Arrives i k at left) f z.forest.now x z.effects.now left
           (event-arrives i k kind at (sym c.in-Event.ensures) left) (reacting-stop i k kind at left) (reacting-left i k kind at left) did.comes)
           done.ensures.reacted);
       outs = remembered-ended _ done.result done.ensures.only_memory (on_ok_weaker done.result (λ did. did.outs) done.ensures.reacted);
@@ -81,7 +81,7 @@ returns-in_ok-leave-in-Some-Composite-clause-arrived c =
     let is : (system_of i).kind (path_at (system_of i) at.instance) ≡ Some (Composite t) = sym c.in-Declared.ensures ∙ ap (option_map kind_of) declared in
     let did = c.in_ok-leave-in-Some-Composite.ensures.left in
     record {
-      reacted = done-reacted i (leaving i k at) (Arrives i k at left) c.args.self.now.forest.now c.leave.new.self.forest.now c.args.self.now.outbox.now c.leave.new.self.outbox.now left
+      reacted = done-reacted i (leaving i k at) (Arrives i k at left) c.args.self.now.forest.now c.leave.new.self.forest.now c.args.self.now.effects.now c.leave.new.self.effects.now left
           (composite-leaves i k at t is c.requires.target.port c.facts.ensures.accepted c.in-Declared.index declared c.if-at.true left) (λ w. refl) (λ w. refl) did.comes;
       outs = did.outs;
       fewer = omega arith;
@@ -99,7 +99,7 @@ returns-in_ok-enter-in-Some-Composite-clause-arrived c =
     let is : (system_of i).kind (path_at (system_of i) at.instance) ≡ Some (Composite t) = sym c.in-Declared.ensures ∙ ap (option_map kind_of) declared in
     let did = c.in_ok-enter-in-Some-Composite.ensures.entered in
     record {
-      reacted = done-reacted i (entering i k at) (Arrives i k at left) c.args.self.now.forest.now c.enter.new.self.forest.now c.args.self.now.outbox.now c.enter.new.self.outbox.now left
+      reacted = done-reacted i (entering i k at) (Arrives i k at left) c.args.self.now.forest.now c.enter.new.self.forest.now c.args.self.now.effects.now c.enter.new.self.effects.now left
           (composite-enters i k at t is c.requires.target.port c.if-at.false left) (λ w. refl) (λ w. refl) did.comes;
       outs = did.outs;
       fewer = omega arith;

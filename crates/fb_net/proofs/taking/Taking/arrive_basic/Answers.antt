@@ -6,7 +6,7 @@ use Rattle.fb_net.specs.Leaves.{ChartEnded}
 use Rattle.fb_net.specs.Outs.{StillAreOuts}
 use Rattle.fb_net.proofs.lemmas.taking.Arriving.{wrote-so}
 use Rattle.fb_net.proofs.lemmas.taking.Charting.{chart-reacts}
-use Rattle.fb_net.proofs.lemmas.emitting.OutboxKept.{blocks-changed, lines-put, remembered-always}
+use Rattle.fb_net.proofs.lemmas.emitting.EffectsKept.{blocks-changed, lines-put, remembered-always}
 use Rattle.fb_net.proofs.lemmas.blocks.BlocksKept.{kept-same, kept-then, kept-world}
 use Rattle.fb_net.proofs.lemmas.values.Sampling.{taken_line}
 use Rattle.fb_net.proofs.taking.Taking.arrive_basic.Goals as goal
@@ -33,10 +33,10 @@ returns-clause-arrived c =
     let k = c.args.self.now.key.now in
     let at = c.args.at in
     let f = c.args.self.now.forest.now in
-    let x = c.args.self.now.outbox.now in
+    let x = c.args.self.now.effects.now in
     let end = c.react_basic-end in
     let g = end.new.forest in
-    let y = c.write_taken.new.outbox in
+    let y = c.write_taken.new.effects in
     let z = c.emit_all.new.self in
     let arrives = c.requires.arrives in
     let ended = subst (λ (vs : List Value). ChartEnded i f at c.args.block.now vs c.args.meter.now.left end.result g end.new.meter.left end.new.emits)
@@ -44,13 +44,13 @@ returns-clause-arrived c =
     let well = c.in_ok-emit_all.ensures.emitted in
     let wrote = wrote-so i k at.instance (line_of (system_of i) (taken_line k at c.in_ok-values.values))
     (map (emission_of (ports_at (system_of i) (path_at (system_of i) at.instance))) end.new.emits)
-    g z.forest.now x y z.outbox.now
+    g z.forest.now x y z.effects.now
     c.in_ok-write_taken.ensures.written c.write_taken.ensures.outs c.write_taken.ensures.timer well.emitted in
     record {
       reacted = chart-reacts i k at c.args.block.now c.requires.of_kind c.requires.input f g z.forest.now
-          x z.outbox.now arrives.ready arrives.stands.here c.in_ok-values.values c.in_ok-values.ensures.sampled c.args.meter.now.left end.new.meter.left end.new.emits
+          x z.effects.now arrives.ready arrives.stands.here c.in_ok-values.values c.in_ok-values.ensures.sampled c.args.meter.now.left end.new.meter.left end.new.emits
           wrote end.result ended;
-      outs = remembered-always (StillAreOuts i f x z.forest.now z.outbox.now) end.result
+      outs = remembered-always (StillAreOuts i f x z.forest.now z.effects.now) end.result
           (λ were. well.outs (lines-put i g g x y refl c.write_taken.ensures.outs c.in_ok-write_taken.ensures.lines (blocks-changed i f g x end.ensures.resource were)));
       fewer = end.ensures.fewer;
     }
@@ -58,13 +58,13 @@ returns-clause-arrived c =
 -- ---- What is kept
 
 pub returns-in_err-values-clause-whole : goal.returns-in_err-values-clause-whole
-returns-in_err-values-clause-whole c = record { same = record { system = refl; key = refl; forest = refl; outbox = refl }; kept = kept-same c.args.self.now.system.now c.args.self.now.forest.now }
+returns-in_err-values-clause-whole c = record { same = record { system = refl; key = refl; forest = refl; effects = refl }; kept = kept-same c.args.self.now.system.now c.args.self.now.forest.now }
 
 pub returns-in_err-write_taken-clause-whole : goal.returns-in_err-write_taken-clause-whole
 returns-in_err-write_taken-clause-whole c =
     let end = c.react_basic-end in
     record {
-      same = record { system = refl; key = refl; forest = refl; outbox = refl };
+      same = record { system = refl; key = refl; forest = refl; effects = refl };
       kept = kept-world c.args.self.now.system.now c.args.self.now.forest.now end.new.forest end.ensures.resource end.ensures.whole;
     }
 
@@ -74,7 +74,7 @@ returns-in_err-emit_all-clause-whole c =
     let f = c.args.self.now.forest.now in
     let whole = c.emit_all.ensures.whole in
     record {
-      same = record { system = whole.same.system; key = whole.same.key; forest = whole.same.forest; outbox = whole.same.outbox };
+      same = record { system = whole.same.system; key = whole.same.key; forest = whole.same.forest; effects = whole.same.effects };
       kept = kept-then c.args.self.now.system.now f end.new.forest c.emit_all.new.self.forest.now (kept-world c.args.self.now.system.now f end.new.forest end.ensures.resource end.ensures.whole) whole.kept;
     }
 
@@ -84,6 +84,6 @@ returns-clause-whole c =
     let f = c.args.self.now.forest.now in
     let whole = c.emit_all.ensures.whole in
     record {
-      same = record { system = whole.same.system; key = whole.same.key; forest = whole.same.forest; outbox = whole.same.outbox };
+      same = record { system = whole.same.system; key = whole.same.key; forest = whole.same.forest; effects = whole.same.effects };
       kept = kept-then c.args.self.now.system.now f end.new.forest c.emit_all.new.self.forest.now (kept-world c.args.self.now.system.now f end.new.forest end.ensures.resource end.ensures.whole) whole.kept;
     }

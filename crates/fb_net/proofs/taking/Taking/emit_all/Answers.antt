@@ -17,7 +17,7 @@ pub loop-emission-init : goal.loop-emission-init
 loop-emission-init c = record {
   done = [];
   parts = refl;
-  emitted = nothing_emitted c.args.self.now.system.now c.args.self.now.key.now c.args.instance c.args.self.now.forest.now c.args.self.now.outbox.now;
+  emitted = nothing_emitted c.args.self.now.system.now c.args.self.now.key.now c.args.instance c.args.self.now.forest.now c.args.self.now.effects.now;
   whole = stays-whole c.args.self.now;
 }
 

@@ -15,7 +15,7 @@ use Rattle.fb_net.specs.declared.arrival.Arrival.{Arrival}
 use Rattle.fb_net.specs.declared.taking.Taking.{Taking}
 use Rattle.fb_net.proofs.lemmas.taking.ByEvent.{arrival-taken, arrival-typed, local-taken}
 use Rattle.fb_net.proofs.lemmas.emitting.PortRows.{path-of_port}
-use Rattle.fb_net.proofs.lemmas.emitting.OutboxKept.{blocks-changed, remembered-then}
+use Rattle.fb_net.proofs.lemmas.emitting.EffectsKept.{blocks-changed, remembered-then}
 use Rattle.fb_net.proofs.lemmas.blocks.BlocksKept.{kept-held, kept-then}
 use Rattle.fb_net.proofs.taking.Taking.take_event.Goals as goal
 use Rattle.fb_net.proofs.taking.Taking.take_event.Goals.{in-Message, in-Local}
@@ -43,7 +43,7 @@ returns-clause-taken c =
     let i = c.args.self.now.system.now in
     let k = c.args.self.now.key.now in
     let f = c.args.self.now.forest.now in
-    let x = c.args.self.now.outbox.now in
+    let x = c.args.self.now.effects.now in
     let left = c.args.meter.now.left in
     let done = c.arrive in
     let after = done.new.meter.left in
@@ -57,10 +57,10 @@ returns-clause-taken c =
           let kept : AreKept i mid z.forest.now = subst (λ (t : Taking). IsKept t z) w.self-is done.ensures.whole.kept in
           subst (λ (a : Arrival). WasTaken c.args.self.now (event_in a) left done.result z after) (sym w.in-Message.is)
           (record {
-            taken = arrival-taken i k w.in-Message.message.now f mid holds z.forest.now x z.outbox.now left after done.result
-                (subst (λ (at : Target). HasReacted i (Arrives i k at left) mid x done.result z.forest.now after z.outbox.now) w.at-is arrived.reacted);
+            taken = arrival-taken i k w.in-Message.message.now f mid holds z.forest.now x z.effects.now left after done.result
+                (subst (λ (at : Target). HasReacted i (Arrives i k at left) mid x done.result z.forest.now after z.effects.now) w.at-is arrived.reacted);
             outs =
-                remembered-then (StillAreOuts i mid x z.forest.now z.outbox.now) (StillAreOuts i f x z.forest.now z.outbox.now) done.result
+                remembered-then (StillAreOuts i mid x z.forest.now z.effects.now) (StillAreOuts i f x z.forest.now z.effects.now) done.result
                 (λ still were. still (blocks-changed i f mid x held.resource were)) arrived.outs;
             fewer = arrived.fewer;
             kept = kept-then i f mid z.forest.now held kept;
@@ -69,8 +69,8 @@ returns-clause-taken c =
           let arrived = subst (λ (t : Taking). HasArrived t c.match-arrival.at left done.result z after) w.self-is done.ensures.arrived in
           subst (λ (a : Arrival). WasTaken c.args.self.now (event_in a) left done.result z after) (sym w.in-Local.is)
           (record {
-            taken = local-taken i k w.in-Local.target f z.forest.now x z.outbox.now left after done.result
-                (subst (λ (at : Target). HasReacted i (Arrives i k at left) f x done.result z.forest.now after z.outbox.now) w.at-is arrived.reacted);
+            taken = local-taken i k w.in-Local.target f z.forest.now x z.effects.now left after done.result
+                (subst (λ (at : Target). HasReacted i (Arrives i k at left) f x done.result z.forest.now after z.effects.now) w.at-is arrived.reacted);
             outs = arrived.outs;
             fewer = arrived.fewer;
             kept = subst (λ (t : Taking). IsKept t z) w.self-is done.ensures.whole.kept;

@@ -1,7 +1,7 @@
 use Rattle.fb_types.specs.declared.run.Event.TheVariants.{Stimulus}
 use Rattle.fb_net.proofs.lemmas.taking.ByEvent.{stimulus-is, stimulus-kept, stimulus-lies, stimulus-taken, stimulus-typed}
 use Rattle.fb_net.specs.Outs.{StillAreOuts}
-use Rattle.fb_net.proofs.lemmas.emitting.OutboxKept.{blocks-changed, remembered-then}
+use Rattle.fb_net.proofs.lemmas.emitting.EffectsKept.{blocks-changed, remembered-then}
 use Rattle.fb_net.proofs.lemmas.blocks.BlocksKept.{kept-then}
 use Rattle.fb_net.proofs.taking.Taking.take_stimulus.Goals as goal
 
@@ -35,15 +35,15 @@ returns-clause-taken c =
     record {
       taken =
           stimulus-taken i e s.target s.sets.now is k f mid c.set_slots.ensures c.requires.event.here done.new.self.forest.now
-          c.args.self.now.outbox.now done.new.self.outbox.now c.args.meter.now.left done.new.meter.left done.result done.ensures.arrived.reacted;
+          c.args.self.now.effects.now done.new.self.effects.now c.args.meter.now.left done.new.meter.left done.result done.ensures.arrived.reacted;
       outs =
-          remembered-then (StillAreOuts i mid c.args.self.now.outbox.now done.new.self.forest.now done.new.self.outbox.now)
-          (StillAreOuts i f c.args.self.now.outbox.now done.new.self.forest.now done.new.self.outbox.now) done.result
-          (λ outs were. outs (blocks-changed i f mid c.args.self.now.outbox.now kept.resource were)) done.ensures.arrived.outs;
+          remembered-then (StillAreOuts i mid c.args.self.now.effects.now done.new.self.forest.now done.new.self.effects.now)
+          (StillAreOuts i f c.args.self.now.effects.now done.new.self.forest.now done.new.self.effects.now) done.result
+          (λ outs were. outs (blocks-changed i f mid c.args.self.now.effects.now kept.resource were)) done.ensures.arrived.outs;
       fewer = done.ensures.arrived.fewer;
       kept = kept-then i f mid done.new.self.forest.now kept done.ensures.whole.kept;
     }
 
 pub returns-clause-same : goal.returns-clause-same
 returns-clause-same c =
-    let same = c.arrive.ensures.whole.same in record { system = same.system; key = same.key; forest = same.forest; outbox = same.outbox }
+    let same = c.arrive.ensures.whole.same in record { system = same.system; key = same.key; forest = same.forest; effects = same.effects }

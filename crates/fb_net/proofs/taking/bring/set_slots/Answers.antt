@@ -8,15 +8,15 @@ use Rattle.fb_types.specs.declared.run.InstanceVariable.{InstanceVariable}
 use Rattle.fb_types.specs.declared.value.Value.{Value}
 use Rattle.fb_types.proofs.lemmas.lists.ByIndex.{all_at}
 use Rattle.fb_system.specs.Ports.{IsVariable}
-use Rattle.fb_types.specs.declared.run.SlotValue.{SlotValue}
+use Rattle.fb_types.specs.declared.run.InputValue.{InputValue}
 use Rattle.fb_net.specs.Changes.{Changes}
 use Rattle.fb_net.specs.Samples.{slots_set}
-use Rattle.fb_net.specs.Worlds.{seat_in, with_seated}
+use Rattle.fb_net.specs.Worlds.{index_in, with_shell_at}
 use Rattle.fb_net.specs.declared.resource.Forest.{Forest}
 use Rattle.fb_net.specs.declared.shell.Shell.{Shell}
 use Rattle.fb_net.proofs.lemmas.blocks.Changing.{changes_none, changes_as, changes_more, one_by_one, one_by_one-set, value_set}
 use Rattle.fb_net.proofs.lemmas.blocks.EventBlockReactions.{no_shell}
-use Rattle.fb_net.proofs.lemmas.blocks.BlocksKept.{seat-there, stands-changed}
+use Rattle.fb_net.proofs.lemmas.blocks.BlocksKept.{shell_index-there, stands-changed}
 use Rattle.fb_net.proofs.lemmas.values.Writing.{AreNumbered, slot_changes}
 use Rattle.fb_net.proofs.taking.bring.set_slots.Goals as goal
 
@@ -25,7 +25,7 @@ loop-set-init c = changes_none c.args.system.now c.args.forest.now c.args.instan
 
 pub shell_mut-requires : goal.shell_mut-requires
 shell_mut-requires c =
-    seat-there c.args.system.now c.loop-set.forest c.args.instance c.requires.instance
+    shell_index-there c.args.system.now c.loop-set.forest c.args.instance c.requires.instance
     (stands-changed c.args.system.now c.args.forest.now c.loop-set.forest c.args.instance _ c.requires.stands c.loop-set.invariant)
 
 pub unreachable-requires : goal.unreachable-requires
@@ -35,18 +35,18 @@ unreachable-requires c =
 
 -- one slot more
 set_more :
-    (d : SlotValue) (i : Inputs) (accepted : AreAccepted i) (numbered : AreNumbered i) (a b : Forest) (k : ℕ) (sets : List SlotValue) (n : ℕ) (s : Shell) (slots : List Value)
-    → k < length (system_of i).paths → All (λ (y : SlotValue). y.index < length (ports_at (system_of i) (path_at (system_of i) k)).inputs) sets
-    → slice_get b.shells (seat_in b.seats k) ≡ Some s → n < length sets → Changes i a k (one_by_one (value_set (system_of i) k) (take n sets)) b
+    (d : InputValue) (i : Inputs) (accepted : AreAccepted i) (numbered : AreNumbered i) (a b : Forest) (k : ℕ) (sets : List InputValue) (n : ℕ) (s : Shell) (slots : List Value)
+    → k < length (system_of i).paths → All (λ (y : InputValue). y.index < length (ports_at (system_of i) (path_at (system_of i) k)).inputs) sets
+    → slice_get b.shells (index_in b.shell_indexes k) ≡ Some s → n < length sets → Changes i a k (one_by_one (value_set (system_of i) k) (take n sets)) b
     → slots ≡ slice_set s.slots (get_or sets n d).index (get_or sets n d).value
-    → Changes i a k (one_by_one (value_set (system_of i) k) (take (n + 1) sets)) (with_seated b k (record s { slots = slots }))
+    → Changes i a k (one_by_one (value_set (system_of i) k) (take (n + 1) sets)) (with_shell_at b k (record s { slots = slots }))
 set_more d i accepted numbered a b k sets n s slots there within found in_range before is =
-    let y : SlotValue = get_or sets n d in
-    let own = all_at (λ (y : SlotValue). y.index < length (ports_at (system_of i) (path_at (system_of i) k)).inputs) sets n y within (slice_get-get_or sets n d in_range) in
+    let y : InputValue = get_or sets n d in
+    let own = all_at (λ (y : InputValue). y.index < length (ports_at (system_of i) (path_at (system_of i) k)).inputs) sets n y within (slice_get-get_or sets n d in_range) in
     let x : InstanceVariable = record { instance = k; variable = y.index; is_output = false } in
     let variable : IsVariable (system_of i) x = record { instance = there; variable = own } in
     changes_more (value_set (system_of i) k) sets n d before in_range
-    (subst (λ (vs : List Value). Changes i b k (value_set (system_of i) k y) (with_seated b k (record s { slots = vs }))) (sym is)
+    (subst (λ (vs : List Value). Changes i b k (value_set (system_of i) k y) (with_shell_at b k (record s { slots = vs }))) (sym is)
     (slot_changes i accepted numbered b x variable y.value s found refl))
 
 pub loop-set-preserved : goal.loop-set-preserved

@@ -1,8 +1,8 @@
 use Rattle.std.proofs.Common.{◌∷◌, [], ◌++◌, ◌∙◌, List, sym, ap}
 use Rattle.std.proofs.lemmas.Result.{on_ok_weaker}
 use Rattle.fb_net.specs.Emitting.{carried_by}
-use Rattle.fb_net.specs.declared.outbox.Out.{Out}
-use Rattle.fb_net.specs.declared.outbox.Out.TheVariants.{Local}
+use Rattle.fb_net.specs.declared.effects.Out.{Out}
+use Rattle.fb_net.specs.declared.effects.Out.TheVariants.{Local}
 use Rattle.fb_net.proofs.lemmas.taking.Targets.{kept_to, sent_to}
 use Rattle.fb_net.proofs.taking.emit.put_out.Goals as goal
 

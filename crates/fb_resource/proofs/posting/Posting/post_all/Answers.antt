@@ -2,7 +2,7 @@ use Rattle.std.proofs.Common.{◌≡◌, ◌++◌, ◌∷◌, [], All, List, len
 use Rattle.std.proofs.lemmas.Bool.{eqb-true}
 use Rattle.std.proofs.lemmas.List.{length_push, nil_from_length}
 use Rattle.std.specs.Vec.Iter.{drain_items}
-use Rattle.fb_net.specs.declared.outbox.Out.{Out}
+use Rattle.fb_net.specs.declared.effects.Out.{Out}
 use Rattle.fb_resource.specs.Posts.{IsPostable}
 use Rattle.fb_resource.specs.Postings.{HasGrown, HasPosted, system_in}
 use Rattle.fb_resource.proofs.lemmas.Lists.{slice_all}

@@ -21,8 +21,8 @@ instance-requires-clause-stands c =
     let r = c.resource-resource.result in
     let trees = c.deref.result.now in
     let look = c.in-Some.ensures.lookup in
-    let at : slice_get trees r ≡ Some c.in-Some.tree.now = slice_get_read trees (length trees) r c.in-Some.tree.now refl look.3.0 look.1 in
-    stands_here _ p stands going r c.args.instance c.in-Some.tree.now (subst (λ (ts : List Forest). slice_get ts r ≡ Some c.in-Some.tree.now) c.deref.ensures.value at)
+    let at : slice_get trees r ≡ Some c.in-Some.resource_blocks.now = slice_get_read trees (length trees) r c.in-Some.resource_blocks.now refl look.3.0 look.1 in
+    stands_here _ p stands going r c.args.instance c.in-Some.resource_blocks.now (subst (λ (ts : List Forest). slice_get ts r ≡ Some c.in-Some.resource_blocks.now) c.deref.ensures.value at)
     (sym c.resource-resource.ensures)
 
 pub ports-ports-requires : goal.ports-ports-requires
@@ -36,4 +36,4 @@ timer-due-requires-clause-timed c =
     let p = c.requires.stands.0 in
     let stands = subst (λ (t : Talk). StandsBy t p) (sym c.self.view_is) c.requires.stands.1 in
     let going = subst (λ (t : Talk). t.stage ≡ stage.Failed → ⊥) (sym c.self.view_is) c.requires.going in
-    (stands.goes going).2.queues.order.timed
+    (stands.goes going).2.traffic.order.timed

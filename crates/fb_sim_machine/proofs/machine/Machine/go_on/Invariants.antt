@@ -10,12 +10,12 @@ use Rattle.fb_sim_machine.specs.declared.pause.Pause.TheVariants.{Lines}
 use Rattle.fb_sim_machine.proofs.lemmas.Nexts.{on_agenda}
 use Rattle.fb_sim_machine.proofs.machine.Machine.go_on.Given as goal
 
--- `was` is the agenda from which the event in the slot was taken, if one was found
+-- `was` is the agenda from which the event in `Least` was taken, if one was found
 abbrev pub invariant-events : goal.invariant-events
 invariant-events l = record {
   was : Contents;
-  finds : Finds l.horizon was l.found l.least.key l.least.event l.self.queues.agenda;
-  due : l.self.queues.agenda.due ≡ was.due;
+  finds : Finds l.horizon was l.found l.least.key l.least.event l.self.traffic.agenda;
+  due : l.self.traffic.agenda.due ≡ was.due;
   ready : (tick : ℕ) × IsReady l.system l.limit tick (on_agenda was l.self);
   represents : (c : Config) × IsAt l.system c.state c.agenda (on_agenda was l.self);
   comes : (c : Config) → IsAt l.system c.state c.agenda l.fn.self → Pauses l.system l.horizon l.limit c l.fn.self (on_agenda was l.self) Lines;

@@ -10,7 +10,7 @@ returns-clause-taken c s a at =
     let i = c.args.system.now in
     let m = c.take.new.self in
     let z = c.take.new.least in
-    let next = with_next c.in_ok-taken.taken.raised z.key z.event m.queues.agenda in
+    let next = with_next c.in_ok-taken.taken.raised z.key z.event m.traffic.agenda in
     let t = c.in_ok-taken.ensures.taken s a at in
     record {
       effect = t.effect;
@@ -25,8 +25,8 @@ returns-clause-ready c =
     let m = c.take.new.self in
     let raised = c.in_ok-taken.taken.raised in
     let z = c.take.new.least in
-    machine_alike c.args.system.now m (with_next raised z.key z.event m.queues.agenda) c.put_next.new.agenda c.in_ok-put_next.ensures.put
-    c.args.limit c.args.least.now.key.tick (c.put_next.ensures.due ∙ sym (due_next raised z.key z.event m.queues.agenda)) c.in_ok-taken.ensures.ready
+    machine_alike c.args.system.now m (with_next raised z.key z.event m.traffic.agenda) c.put_next.new.agenda c.in_ok-put_next.ensures.put
+    c.args.limit c.args.least.now.key.tick (c.put_next.ensures.due ∙ sym (due_next raised z.key z.event m.traffic.agenda)) c.in_ok-taken.ensures.ready
 
 pub returns-clause-spent : goal.returns-clause-spent
 returns-clause-spent c going = c.in_ok-taken.ensures.spent going

@@ -1,5 +1,5 @@
 use Rattle.std.proofs.Common.{[]}
-use Rattle.fb_sim.proofs.lemmas.rounds.WindowIs.{walk_keeps}
+use Rattle.fb_sim.proofs.lemmas.rounds.WindowIs.{series_keeps}
 use Rattle.fb_tests.proofs.tests.jobs.expect_texts.Goals as goal
 
 pub first_round-finals-requires-clause-system : goal.first_round-finals-requires-clause-system
@@ -8,5 +8,5 @@ first_round-finals-requires-clause-system g c = (c.opened-core.ensures c.args.ru
 pub first_round-finals-requires-clause-clocks : goal.first_round-finals-requires-clause-clocks
 first_round-finals-requires-clause-clocks g c =
     let run = c.args.run.now in
-    walk_keeps c.system_of-system.result run.steps run.horizon c.opened-core.result [] (c.opened-core.ensures run.horizon)
+    series_keeps c.system_of-system.result run.steps run.horizon c.opened-core.result [] (c.opened-core.ensures run.horizon)
     (record { accepted = c.facts.ensures.accepted; limits = c.facts.ensures.limits })

@@ -1,5 +1,5 @@
 use Rattle.std.proofs.Common.{[], Some}
-use Rattle.fb_sim.proofs.lemmas.rounds.WindowIs.{walk_keeps}
+use Rattle.fb_sim.proofs.lemmas.rounds.WindowIs.{series_keeps}
 use Rattle.fb_tests.proofs.lemmas.Coming.{goes_on}
 use Rattle.fb_tests.proofs.tests.rounds.make_rounds.Goals as goal
 
@@ -21,11 +21,11 @@ round-requires-clause-steps g c κs w = c.loop-number.invariant.1.of.steps
 pub round-requires-clause-clocks : goal.round-requires-clause-clocks
 round-requires-clause-clocks g c κs w =
     let o = c.args.options in
-    walk_keeps c.args.system.now o.steps o.horizon c.loop-number.core c.loop-number.invariant.0 c.loop-number.invariant.1
+    series_keeps c.args.system.now o.steps o.horizon c.loop-number.core c.loop-number.invariant.0 c.loop-number.invariant.1
     (record { accepted = c.facts.ensures.accepted; limits = c.facts.ensures.limits })
 
 pub expect_bounds-requires-clause-clocks : goal.expect_bounds-requires-clause-clocks
 expect_bounds-requires-clause-clocks g c =
     let o = c.args.options in
-    walk_keeps c.args.system.now o.steps o.horizon c.loop-number.core c.loop-number.invariant.0 c.loop-number.invariant.1
+    series_keeps c.args.system.now o.steps o.horizon c.loop-number.core c.loop-number.invariant.0 c.loop-number.invariant.1
     (record { accepted = c.facts.ensures.accepted; limits = c.facts.ensures.limits })

@@ -1,0 +1,26 @@
+use Rattle.std.proofs.Common.{◌≡◌, arith, rules, subst, sym}
+use Rattle.std.proofs.lemmas.Grind.{common_steps}
+use Rattle.fb_net.specs.Events.{Remembered}
+use Rattle.fb_net.specs.Outs.{StillAreOuts}
+use Rattle.fb_net.specs.Worlds.{IsForest}
+use Rattle.fb_net.specs.declared.effects.Effects.{Effects}
+use Rattle.fb_net.specs.declared.resource.Forest.{Forest}
+use Rattle.fb_net.proofs.resource_blocks.ResourceBlocks.take.Goals as goal
+
+pub invariant_of-self : goal.invariant_of-self
+invariant_of-self c =
+    let w = c.requires.belongs.0 in
+    let whole = c.take_event.ensures.taken.kept.whole w (subst (λ (f : Forest). IsForest c.args.system.now f w) (sym c.self.view_is) c.requires.belongs.1) in
+    (first_of (omega arith, search rules, grind (arith, common_steps)), ∣ record { inputs = c.args.system.now; accepted = c.facts.ensures.accepted; world = whole.0; represents = whole.1 } ∣₁)
+
+pub returns-clause-whole : goal.returns-clause-whole
+returns-clause-whole c =
+    let w = c.requires.belongs.0 in
+    c.take_event.ensures.taken.kept.whole w (subst (λ (f : Forest). IsForest c.args.system.now f w) (sym c.self.view_is) c.requires.belongs.1)
+
+pub returns-clause-outs : goal.returns-clause-outs
+returns-clause-outs c =
+    let e : c.take_event.new.self.effects.now ≡ c.effects-1.given.0 = search rules in
+    subst (λ (x : Effects). Remembered c.take_event.result (StillAreOuts c.args.system.now c.args.self.now c.args.effects.now c.take_event.new.self.forest.now x)) e
+    (subst (λ (f : Forest). Remembered c.take_event.result (StillAreOuts c.args.system.now f c.args.effects.now c.take_event.new.self.forest.now c.take_event.new.self.effects.now))
+    c.self.view_is c.take_event.ensures.taken.outs)
