@@ -1,9 +1,10 @@
 //! Runs of statements, as `fb_st` has them, with the statement to blame for a reason.
 
-ghost use Rattle.std.specs.Prelude.{◌≡◌, ◌≤◌, ◌<◌, Some, true, false, OnOk, IfOk};
+ghost use Rattle.std.specs.Prelude.{◌≡◌, ◌<◌, Some, true, false, OnOk, IfOk};
 ghost use Rattle.fb_types.specs.Syntax.{expr_of, stmt_of, step_of, If, For, While, Repeat};
 ghost use Rattle.fb_types.specs.Values.{whole};
 ghost use Rattle.fb_types.specs.Bodies.{passed};
+ghost use Rattle.fb_st.specs.FrameRuns.{IsKept};
 ghost use Rattle.fb_st.specs.Frames.{declared_in, types_in, values_of, is_declared};
 ghost use Rattle.fb_st.specs.Flows.{point, before_step, all_of, choices_of, branches_of};
 ghost use Rattle.fb_st.specs.Known.{AssignsKnown, AllKnown, ChoicesKnown, BranchesKnown};
@@ -35,8 +36,7 @@ fn run(
 ) -> Result<Flow, Fault>
     requires known { AssignsKnown (declared_in frame.old) (stmt_of statement.now) }
     ensures run { Runs (types_in (declared_in frame.old)) around number (stmt_of statement.now) (point frame.old meter.old) (end_of result) (point frame.new meter.new) }
-    ensures declared { declared_in frame.new ≡ declared_in frame.old }
-    ensures fewer { meter.new.left ≤ meter.old.left }
+    ensures kept { IsKept frame.old meter.old frame.new meter.new }
 {
     begin(meter, blamed(around, number))?;
     match statement {
@@ -96,8 +96,7 @@ pub(crate) fn run_each(
 ) -> Result<Flow, Fault>
     requires known { AllKnown (declared_in frame.old) (all_of statements.now) }
     ensures run { RunsAll (types_in (declared_in frame.old)) around first (all_of statements.now) (point frame.old meter.old) (end_of result) (point frame.new meter.new) }
-    ensures declared { declared_in frame.new ≡ declared_in frame.old }
-    ensures fewer { meter.new.left ≤ meter.old.left }
+    ensures kept { IsKept frame.old meter.old frame.new meter.new }
 {
     let mut number = first;
     for statement in statements {
@@ -124,8 +123,7 @@ fn run_choice(
     requires known { ChoicesKnown (declared_in frame.old) (choices_of choices.now) }
     requires others_known { AllKnown (declared_in frame.old) (all_of others.now) }
     ensures run { Runs (types_in (declared_in frame.old)) around number (If (choices_of choices.now) (all_of others.now)) (before_step frame.old meter.old) (end_of result) (point frame.new meter.new) }
-    ensures declared { declared_in frame.new ≡ declared_in frame.old }
-    ensures fewer { meter.new.left ≤ meter.old.left }
+    ensures kept { IsKept frame.old meter.old frame.new meter.new }
 {
     let mut inside = next(number);
     for choice in choices {
@@ -151,8 +149,7 @@ fn run_branch(
     requires known { BranchesKnown (declared_in frame.old) (branches_of branches.now) }
     requires others_known { AllKnown (declared_in frame.old) (all_of others.now) }
     ensures run { RunsBranch (types_in (declared_in frame.old)) around first (branches_of branches.now) (whole value) (RunsAll (types_in (declared_in frame.old)) around (after_branches (branches_of branches.now) first) (all_of others.now)) (point frame.old meter.old) (end_of result) (point frame.new meter.new) }
-    ensures declared { declared_in frame.new ≡ declared_in frame.old }
-    ensures fewer { meter.new.left ≤ meter.old.left }
+    ensures kept { IsKept frame.old meter.old frame.new meter.new }
 {
     let mut inside = first;
     for branch in branches {
@@ -169,8 +166,7 @@ fn run_branch(
 fn turn(body: &[Stmt], number: usize, frame: &mut Frame, meter: &mut Meter) -> Result<Flow, Fault>
     requires known { AllKnown (declared_in frame.old) (all_of body.now) }
     ensures run { Step number (RunsAll (types_in (declared_in frame.old)) (Some number) (number_after number) (all_of body.now)) (point frame.old meter.old) (end_of result) (point frame.new meter.new) }
-    ensures declared { declared_in frame.new ≡ declared_in frame.old }
-    ensures fewer { meter.new.left ≤ meter.old.left }
+    ensures kept { IsKept frame.old meter.old frame.new meter.new }
     ensures less { OnOk result (meter.new.left < meter.old.left) }
 {
     begin(meter, number)?;
@@ -189,8 +185,7 @@ fn run_while(
 ) -> Result<Flow, Fault>
     requires known { AllKnown (declared_in frame.old) (all_of body.now) }
     ensures run { Runs (types_in (declared_in frame.old)) around number (While (expr_of condition.now) (all_of body.now)) (before_step frame.old meter.old) (end_of result) (point frame.new meter.new) }
-    ensures declared { declared_in frame.new ≡ declared_in frame.old }
-    ensures fewer { meter.new.left ≤ meter.old.left }
+    ensures kept { IsKept frame.old meter.old frame.new meter.new }
 {
     while holds(condition, frame, number)? {
         match turn(body, number, frame, meter)? {
@@ -214,8 +209,7 @@ fn run_repeat(
 ) -> Result<Flow, Fault>
     requires known { AllKnown (declared_in frame.old) (all_of body.now) }
     ensures run { Runs (types_in (declared_in frame.old)) around number (Repeat (all_of body.now) (expr_of condition.now)) (before_step frame.old meter.old) (end_of result) (point frame.new meter.new) }
-    ensures declared { declared_in frame.new ≡ declared_in frame.old }
-    ensures fewer { meter.new.left ≤ meter.old.left }
+    ensures kept { IsKept frame.old meter.old frame.new meter.new }
 {
     loop {
         match turn(body, number, frame, meter)? {
@@ -245,8 +239,7 @@ fn run_for(
     requires known { AllKnown (declared_in frame.old) (all_of body.now) }
     requires variable_known { is_declared (declared_in frame.old) variable.now ≡ true }
     ensures run { Runs (types_in (declared_in frame.old)) around number (For variable.now (expr_of start.now) (expr_of end.now) (step_of step.now) (all_of body.now)) (before_step frame.old meter.old) (end_of result) (point frame.new meter.new) }
-    ensures declared { declared_in frame.new ≡ declared_in frame.old }
-    ensures fewer { meter.new.left ≤ meter.old.left }
+    ensures kept { IsKept frame.old meter.old frame.new meter.new }
 {
     let count = begin_for(variable, start, end, step, frame, number)?;
     run_counts(body, variable, count, number, frame, meter)
@@ -266,8 +259,7 @@ fn turn_of_for(
     requires known { AllKnown (declared_in frame.old) (all_of body.now) }
     requires variable_known { is_declared (declared_in frame.old) variable.now ≡ true }
     ensures run { Step number (Then (RunsAll (types_in (declared_in frame.old)) (Some number) (number_after number) (all_of body.now)) (Advances (types_in (declared_in frame.old)) number variable.now (whole count.end) (whole count.step))) (point frame.old meter.old) (end_of result) (point frame.new meter.new) }
-    ensures declared { declared_in frame.new ≡ declared_in frame.old }
-    ensures fewer { meter.new.left ≤ meter.old.left }
+    ensures kept { IsKept frame.old meter.old frame.new meter.new }
     ensures less { OnOk result (meter.new.left < meter.old.left) }
     ensures within { IfOk result (λ flow. flow ≡ Flow.Went → passed (whole count.end) (whole count.step) (whole (values_of frame.new variable.now)) ≡ false) }
 {
@@ -292,8 +284,7 @@ fn run_counts(
     requires known { AllKnown (declared_in frame.old) (all_of body.now) }
     requires variable_known { is_declared (declared_in frame.old) variable.now ≡ true }
     ensures run { Counts (types_in (declared_in frame.old)) number variable.now (whole count.end) (whole count.step) (RunsAll (types_in (declared_in frame.old)) (Some number) (number_after number) (all_of body.now)) (point frame.old meter.old) (end_of result) (point frame.new meter.new) }
-    ensures declared { declared_in frame.new ≡ declared_in frame.old }
-    ensures fewer { meter.new.left ≤ meter.old.left }
+    ensures kept { IsKept frame.old meter.old frame.new meter.new }
 {
     if has_passed(count, frame.value(variable)) {
         return Ok(Flow::Went);

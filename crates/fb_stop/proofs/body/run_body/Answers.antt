@@ -26,7 +26,7 @@ returns-clause-run c =
     subst (λ (ss : List Stmt). RunsAll T None 0 (all_of ss) p (end_of c.run_each.result) q) c.as_slice.ensures c.run_each.ensures.run
 
 pub returns-clause-declared : goal.returns-clause-declared
-returns-clause-declared c = c.run_each.ensures.declared
+returns-clause-declared c = c.run_each.ensures.kept.declared
 
 pub returns-clause-fewer : goal.returns-clause-fewer
-returns-clause-fewer c = c.run_each.ensures.fewer
+returns-clause-fewer c = c.run_each.ensures.kept.fewer

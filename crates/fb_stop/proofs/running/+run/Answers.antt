@@ -169,8 +169,8 @@ run_repeat-loop-frame-preserved t c =
     let fails = sym c.holds.ensures ∙ ok_by c.holds.result c.in_ok-holds.field-0 false c.in_ok-holds.was c.if-branch.false in
     record {
       run = λ e q rest. c.loop-frame.invariant.run e q (repeat_goes_on c.args.number (expr_of c.args.condition.now) turn p m ran fails e q rest);
-      declared = c.turn.ensures.declared ∙ c.loop-frame.invariant.declared;
-      fewer = let a = c.turn.ensures.fewer in let b = c.loop-frame.invariant.fewer in omega arith;
+      declared = c.turn.ensures.kept.declared ∙ c.loop-frame.invariant.declared;
+      fewer = let a = c.turn.ensures.kept.fewer in let b = c.loop-frame.invariant.fewer in omega arith;
     }
 
 -- ---- WHILE
@@ -187,8 +187,8 @@ run_while-loop-frame-preserved t c =
     let holds = sym c.holds.ensures ∙ ok_by c.holds.result c.in_ok-holds.field-0 true c.in_ok-holds.was c.if-branch.true in
     record {
       run = λ e q rest. c.loop-frame.invariant.run e q (loop_goes_on test turn p m holds ran e q rest);
-      declared = c.turn.ensures.declared ∙ c.loop-frame.invariant.declared;
-      fewer = let a = c.turn.ensures.fewer in let b = c.loop-frame.invariant.fewer in omega arith;
+      declared = c.turn.ensures.kept.declared ∙ c.loop-frame.invariant.declared;
+      fewer = let a = c.turn.ensures.kept.fewer in let b = c.loop-frame.invariant.fewer in omega arith;
     }
 
 pub run_while-returns-in_err-holds-clause-run : goal.run_while-returns-in_err-holds-clause-run
@@ -287,8 +287,8 @@ run_counts-loop-preserved t c =
     let here : passed end step (whole (values_of c.loop.frame n)) ≡ false = c.loop.invariant.within in
     record {
       run = λ e q rest. c.loop.invariant.run e q (loop_goes_on test turn p m (ap (λ b. Ok (not b)) here) ran e q rest);
-      declared = c.turn_of_for.ensures.declared ∙ c.loop.invariant.declared;
-      fewer = let a = c.turn_of_for.ensures.fewer in let b = c.loop.invariant.fewer in omega arith;
+      declared = c.turn_of_for.ensures.kept.declared ∙ c.loop.invariant.declared;
+      fewer = let a = c.turn_of_for.ensures.kept.fewer in let b = c.loop.invariant.fewer in omega arith;
       within = c.in_ok-turn_of_for.ensures.within c.in-Went.is;
     }
 
@@ -356,8 +356,8 @@ run_each-loop-statement-preserved t c =
       run = λ e q rest. c.loop-statement.invariant.run e q
           (all_goes_on T c.args.around c.args.statements.now c.loop-statement.statement-index c.loop-statement.number c.after-number.result s p m c.loop-statement-test.true c.statement-item.is c.after-number.ensures ran e q rest);
       known = (all_known (declared_in c.args.frame.now) c.args.statements.now c.loop-statement.statement-index s c.loop-statement-test.true c.statement-item.is c.loop-statement.invariant.known).1;
-      declared = c.run.ensures.declared ∙ c.loop-statement.invariant.declared;
-      fewer = let a = c.run.ensures.fewer in let b = c.loop-statement.invariant.fewer in omega arith;
+      declared = c.run.ensures.kept.declared ∙ c.loop-statement.invariant.declared;
+      fewer = let a = c.run.ensures.kept.fewer in let b = c.loop-statement.invariant.fewer in omega arith;
     }
 
 pub run_each-returns-in_err-run-clause-run : goal.run_each-returns-in_err-run-clause-run
@@ -562,6 +562,6 @@ turn_of_for-returns-in-Went-clause-run t c =
     subst (λ (e : End). RunsAll T (Some c.args.number) c.next.result (all_of c.args.body.now) (point c.args.frame.now c.begin.new.meter) e m)
     (ended_by c.run_each.result c.in_ok-run_each.field-0 flow.Went c.in_ok-run_each.was c.in-Went.is) c.run_each.ensures.run in
     let advanced : Advances T c.args.number n end step m (end_of c.advance.result) q =
-    subst (λ (ds : List Declared). Advances (types_in ds) c.args.number n end step m (end_of c.advance.result) q) c.run_each.ensures.declared (c.advance.ensures.run c.run_each.new.meter.left) in
+    subst (λ (ds : List Declared). Advances (types_in ds) c.args.number n end step m (end_of c.advance.result) q) c.run_each.ensures.kept.declared (c.advance.ensures.run c.run_each.new.meter.left) in
     counted_on T c.args.number c.next.result n end step (all_of c.args.body.now) (values_of c.args.frame.now) c.args.meter.now.left c.begin.new.meter.left m (end_of c.advance.result) q
     c.in_ok-begin.ensures.ok c.next.ensures went advanced
