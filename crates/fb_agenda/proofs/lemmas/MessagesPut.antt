@@ -16,8 +16,7 @@ use Rattle.fb_agenda.specs.Arrivals.{AreNew, HasKeys, KeepsOthers, LacksKeys, ar
 use Rattle.fb_types.specs.declared.run.Event.{Event}
 use Rattle.fb_agenda.specs.Lists.{Sets}
 use Rattle.fb_agenda.proofs.lemmas.QueueAndOthers.{queue_class}
-use Rattle.fb_agenda.proofs.lemmas.Orders.{either_some, first_some}
-use Rattle.fb_agenda.proofs.lemmas.Orders.{not_none}
+use Rattle.fb_agenda.proofs.lemmas.Orders.{either_some, first_some, not_none}
 
 -- ---- One key more
 

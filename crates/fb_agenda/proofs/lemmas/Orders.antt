@@ -10,9 +10,8 @@ use Rattle.std.specs.Cmp.{Some-then}
 use Rattle.std.specs.declared.cmp.Ordering.{Ordering}
 use Rattle.std.specs.declared.cmp.Ordering.TheVariants.{Less, Equal, Greater}
 use Rattle.std.proofs.lemmas.Cmp.{alike_right, eq_by_cmp_equiv, tied_back}
-use Rattle.fb_types.specs.Keys.{Precedes, key_cmp, same_key}
+use Rattle.fb_types.specs.Keys.{Precedes, key_cmp, same_key, or_else}
 use Rattle.fb_types.specs.declared.key.Key.{Key}
-use Rattle.fb_types.specs.Keys.{or_else}
 use Rattle.fb_types.specs.declared.run.Event.{Event}
 use Rattle.fb_types.proofs.lemmas.events.KeyLaws.{earlier_precedes, key_cmp_total, same_key_from, same_key_is, same_key_itself}
 use Rattle.fb_agenda.specs.Agendas.{AreRising, IsFirst}

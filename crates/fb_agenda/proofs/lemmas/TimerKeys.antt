@@ -16,9 +16,8 @@ use Rattle.fb_agenda.specs.Agendas.{AreRising, IsFirst}
 use Rattle.fb_agenda.specs.Lists.{Sets}
 use Rattle.fb_agenda.specs.Timing.{timer_event, timer_events}
 use Rattle.fb_agenda.specs.declared.timer_row.Timed.{Timed}
-use Rattle.fb_agenda.proofs.lemmas.Orders.{first_is}
+use Rattle.fb_agenda.proofs.lemmas.Orders.{first_is, AllBefore, all_before, put_between, put_last, put_over, searchable}
 use Rattle.fb_agenda.proofs.lemmas.Lists.{absent_before, absent_between, index_here, removed_rises, removed_sets}
-use Rattle.fb_agenda.proofs.lemmas.Orders.{AllBefore, all_before, put_between, put_last, put_over, searchable}
 
 -- ---- Lists of timers and of events
 

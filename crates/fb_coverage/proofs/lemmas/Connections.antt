@@ -1,5 +1,5 @@
 -- Where the event connections of an instance are.
-use Rattle.std.proofs.Common.{◌≡◌, ◌<◌, List, [], ◌∷◌, length, Option, Some, None, refl, arith}
+use Rattle.std.proofs.Common.{◌≡◌, ◌<◌, [], ◌∷◌, length, Option, Some, None, refl, arith}
 use Rattle.std.specs.Prelude.{option_and_then}
 use Rattle.fb_types.specs.Flat.{first_of, inside, instance_at, kind_at, kind_of_instance, network_at, network_of}
 use Rattle.fb_types.specs.Names.{Path}

@@ -1,9 +1,9 @@
 -- What a block of each kind does at an event, by what the calls of its arm return.
-use Rattle.std.proofs.Common.{◌≡◌, ℕ, Bool, true, false, not, ◌&&◌, List, [], ◌∷◌, map, All, nat_eq, refl, sym, ap, ◌∙◌, subst, arith}
+use Rattle.std.proofs.Common.{◌≡◌, ℕ, Bool, true, false, List, [], ◌∷◌, map, All, refl, sym, ap, ◌∙◌, subst, arith}
 use Rattle.std.specs.Prelude.{if◌then◌else◌, codes}
 use Rattle.std.proofs.lemmas.List.Elements.{All-cons, All-nil}
 use Rattle.fb_types.specs.Blocks.{ports_of_event_block}
-use Rattle.fb_types.specs.EventBlocks.{Flag, Reaction, differ, emits, emits_if, flag, latched, stays}
+use Rattle.fb_types.specs.EventBlocks.{Reaction, emits, emits_if, stays}
 use Rattle.fb_types.specs.Names.{Name}
 use Rattle.fb_types.specs.Numbers.{event_at}
 use Rattle.fb_types.specs.Values.{truth}
@@ -17,9 +17,7 @@ use Rattle.fb_event.specs.Reactions.{IsEventOutput}
 use Rattle.fb_event.specs.Seen.{seen_memory}
 use Rattle.fb_event.specs.Step.{IsTimerAfter, Performs, reaction_with, timed_with}
 use Rattle.fb_event.specs.declared.memory.EventMemory.{EventMemory}
-use Rattle.fb_event.specs.declared.memory.EventMemory.TheVariants as seen
 use Rattle.fb_event.specs.declared.step.Step.{Step}
-use Rattle.fb_event.proofs.lemmas.EventIndexes.{latch-set, select-low}
 
 -- what a block of this kind does at an event
 abbrev pub Does : EventKind → EventMemory → (event tick : ℕ) → Value → EventMemory → Step → Type 0
@@ -102,66 +100,4 @@ cycle_does m after event tick input step asked timer are ask =
     emitting kind.Cycle m after (timed_with (seen_memory m) event tick (as_time input)) step [] timer.memory
     (record { time = timer.in_range; values = refl }) (sym timer.emits) (All-nil (IsEventOutput kind.Cycle)) are (ask ∙ timer.ask)
 
--- E_SELECT
-pub select_does :
-    (m : EventMemory) (event tick : ℕ) (input : Value) (b : Bool) (step : Step) → IsInRange kind.Select m → b ≡ truth input
-    → step.emits.now ≡ (if differ (nat_eq event 0) b then 0 ∷ [] else []) → step.ask ≡ Keep → Does kind.Select m event tick input m step
-select_does m event tick input b step range is are ask =
-    subst (λ (r : Reaction). Performs (state_of kind.Select m) r m step) (λ i. emits_if (differ (sym (select-low event) i) (is i)) (seen_memory m) (codes "EO"))
-    (choosing kind.Select m m (differ (nat_eq event 0) b) (codes "EO") step range refl (omega arith) are ask)
-
--- E_SWITCH
-pub switch_does :
-    (m : EventMemory) (event tick : ℕ) (input : Value) (b : Bool) (step : Step) → IsInRange kind.Switch m → b ≡ truth input
-    → step.emits.now ≡ (if b then 1 ∷ [] else 0 ∷ []) → step.ask ≡ Keep → Does kind.Switch m event tick input m step
-switch_does m event tick input b step range is are ask =
-    subst (λ (b : Bool). Performs (state_of kind.Switch m) (emits (seen_memory m) ((if b then codes "EO1" else codes "EO0") ∷ [])) m step) is (by b are) where
-      by : (b : Bool) → step.emits.now ≡ (if b then 1 ∷ [] else 0 ∷ []) → Performs (state_of kind.Switch m) (emits (seen_memory m) ((if b then codes "EO1" else codes "EO0") ∷ [])) m step
-      by true are =
-          emitting kind.Switch m m (emits (seen_memory m) (codes "EO1" ∷ [])) step (1 ∷ []) refl range refl
-          (All-cons (IsEventOutput kind.Switch) 1 [] (omega arith) (All-nil (IsEventOutput kind.Switch))) are ask
-      by false are =
-          emitting kind.Switch m m (emits (seen_memory m) (codes "EO0" ∷ [])) step (0 ∷ []) refl range refl
-          (All-cons (IsEventOutput kind.Switch) 0 [] (omega arith) (All-nil (IsEventOutput kind.Switch))) are ask
-
 -- ---- Kinds that remember a flag
-
-flagged :
-    (k : EventKind) (m : EventMemory) (q new : Bool) (step : Step) → IsInRange k (seen.Flag new) → event_at (ports_of_event_block k).event_outputs 0 ≡ codes "EO"
-    → IsEventOutput k 0 → q ≡ flag (seen_memory m) → step.emits.now ≡ (if differ q new then 0 ∷ [] else []) → step.ask ≡ Keep
-    → Performs (state_of k m) (latched (seen_memory m) new) (seen.Flag new) step
-flagged k m q new step range first within is are ask =
-    subst (λ (q : Bool). Performs (state_of k m) (emits_if (differ q new) (Flag new) (codes "EO")) (seen.Flag new) step) is
-    (choosing k m (seen.Flag new) (differ q new) (codes "EO") step range first within are ask)
-
--- E_SR
-pub set_reset_does :
-    (m : EventMemory) (event tick : ℕ) (input : Value) (q : Bool) (step : Step) → q ≡ flag (seen_memory m)
-    → step.emits.now ≡ (if differ q (nat_eq event 0) then 0 ∷ [] else []) → step.ask ≡ Keep → Does kind.SetReset m event tick input (seen.Flag (nat_eq event 0)) step
-set_reset_does m event tick input q step is are ask =
-    subst (λ (b : Bool). Performs (state_of kind.SetReset m) (latched (seen_memory m) b) (seen.Flag (nat_eq event 0)) step) (sym (latch-set event))
-    (flagged kind.SetReset m q (nat_eq event 0) step (record { time = tt; values = refl }) refl (omega arith) is are ask)
-
--- E_D_FF
-pub latch_does :
-    (m : EventMemory) (event tick : ℕ) (input : Value) (q d : Bool) (step : Step) → q ≡ flag (seen_memory m) → d ≡ truth input
-    → step.emits.now ≡ (if differ q d then 0 ∷ [] else []) → step.ask ≡ Keep → Does kind.DataLatch m event tick input (seen.Flag d) step
-latch_does m event tick input q d step is now are ask =
-    subst (λ (b : Bool). Performs (state_of kind.DataLatch m) (latched (seen_memory m) b) (seen.Flag d) step) now
-    (flagged kind.DataLatch m q d step (record { time = tt; values = refl }) refl (omega arith) is are ask)
-
--- E_R_TRIG
-pub rising_does :
-    (m : EventMemory) (event tick : ℕ) (input : Value) (before now : Bool) (step : Step) → before ≡ flag (seen_memory m) → now ≡ truth input
-    → step.emits.now ≡ (if not before && now then 0 ∷ [] else []) → step.ask ≡ Keep → Does kind.RisingEdge m event tick input (seen.Flag now) step
-rising_does m event tick input before now step was is are ask =
-    subst (λ (r : Reaction). Performs (state_of kind.RisingEdge m) r (seen.Flag now) step) (λ i. emits_if (not (was i) && is i) (Flag (is i)) (codes "EO"))
-    (choosing kind.RisingEdge m (seen.Flag now) (not before && now) (codes "EO") step (record { time = tt; values = refl }) refl (omega arith) are ask)
-
--- E_F_TRIG
-pub falling_does :
-    (m : EventMemory) (event tick : ℕ) (input : Value) (before now : Bool) (step : Step) → before ≡ flag (seen_memory m) → now ≡ truth input
-    → step.emits.now ≡ (if before && not now then 0 ∷ [] else []) → step.ask ≡ Keep → Does kind.FallingEdge m event tick input (seen.Flag now) step
-falling_does m event tick input before now step was is are ask =
-    subst (λ (r : Reaction). Performs (state_of kind.FallingEdge m) r (seen.Flag now) step) (λ i. emits_if (was i && not (is i)) (Flag (is i)) (codes "EO"))
-    (choosing kind.FallingEdge m (seen.Flag now) (before && not now) (codes "EO") step (record { time = tt; values = refl }) refl (omega arith) are ask)

@@ -8,7 +8,7 @@ use Rattle.fb_types.specs.Names.{Name}
 use Rattle.fb_types.specs.Blocks.{ports_of}
 use Rattle.fb_types.specs.Flat.{first_of, kind_of, type_name, type_named}
 use Rattle.fb_types.specs.Repeated.{OwnedNetwork}
-use Rattle.fb_types.specs.Syntax.{body_of}
+use Rattle.fb_types.specs.Syntax.{body_of, Stmt}
 use Rattle.fb_types.specs.Unknown.{mentions_body}
 use Rattle.fb_types.specs.declared.deploy.Plan.{Plan}
 use Rattle.fb_types.specs.declared.deploy.Stimulus.{Stimulus}
@@ -17,7 +17,6 @@ use Rattle.fb_types.specs.declared.library.BlockType.{BlockType}
 use Rattle.fb_types.specs.declared.library.BlockType.TheVariants as block
 use Rattle.fb_types.specs.declared.library.CompositeType.{CompositeType}
 use Rattle.fb_types.specs.declared.library.Library.{Library}
-use Rattle.fb_types.specs.Syntax.{Stmt}
 use Rattle.fb_types.specs.declared.library.EventPort.{EventPort}
 use Rattle.fb_types.specs.declared.library.Instance.{Instance}
 use Rattle.fb_types.specs.declared.library.Ports.{Ports}

@@ -4,7 +4,6 @@ pub mod AddedItems
 pub mod Reading
 pub mod ItemLoops
 pub mod Pairs
-pub mod Options
 pub mod Steps
 pub mod Chained
 pub mod Lists

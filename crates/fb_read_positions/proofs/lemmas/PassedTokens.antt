@@ -7,7 +7,7 @@ use Rattle.fb_types.specs.declared.library.Action.{Action}
 use Rattle.fb_read.specs.Charts.{action}
 use Rattle.fb_read.specs.Network.{application}
 use Rattle.fb_read.specs.Nodes.{action_of}
-use Rattle.fb_read.specs.Parser.{Outcome, Reads, ◌>>=◌, ◌>>◌, and_then, pure, refuse, eat, expect, name, name_if, sees, sees_name, rest_of, after, syntax}
+use Rattle.fb_read.specs.Parser.{Outcome, Reads, ◌>>=◌, ◌>>◌, and_then, pure, refuse, eat, expect, name, name_if, sees, sees_name, after, syntax}
 use Rattle.fb_read.specs.Tokens.{Tokens}
 use Rattle.fb_read.specs.declared.fault.ParseFault.{ParseFault}
 use Rattle.fb_read.specs.declared.token.Mark.TheVariants as mark

@@ -1,5 +1,5 @@
 -- A row more, while the session goes on.
-use Rattle.std.proofs.Common.{◌≡◌, ℕ, ◌+◌, ◌<◌, ◌≤◌, List, [], ◌∷◌, ◌++◌, length, map, All, refl, sym, ap, ◌∙◌, subst, arith, append_assoc, length-append, get_or, inl, inr, Result, Ok, Err}
+use Rattle.std.proofs.Common.{◌≡◌, ℕ, ◌+◌, ◌≤◌, List, [], ◌∷◌, ◌++◌, length, map, refl, sym, ap, ◌∙◌, subst, arith, append_assoc, length-append, get_or, inl, inr, Result, Ok, Err}
 use Rattle.std.proofs.lemmas.List.{length-map, map-append}
 use Rattle.std.proofs.lemmas.List.Elements.{All-push}
 use Rattle.fb_types.specs.Accepted.{IsGood}
@@ -7,16 +7,16 @@ use Rattle.fb_types.specs.Headline.{AreAccepted, Inputs, system_of, stimuli_of}
 use Rattle.fb_types.specs.Keys.{Precedes, stimulus_key, with_all}
 use Rattle.fb_types.specs.Machines.{Each}
 use Rattle.fb_types.specs.Names.{Port}
-use Rattle.fb_types.specs.Numbers.{path_at, port_of}
+use Rattle.fb_types.specs.Numbers.{path_at}
 use Rattle.fb_types.specs.Simulation as model
 use Rattle.fb_types.specs.Simulation.{Chain, Taken, last, opening, stimulus_of}
-use Rattle.fb_types.specs.States.{Agenda, Config, Event, State, Stimulated}
+use Rattle.fb_types.specs.States.{Agenda, Event, State, Stimulated}
 use Rattle.fb_types.specs.declared.deploy.Stimulus.{Stimulus}
 use Rattle.fb_types.specs.declared.key.Key.{Key}
 use Rattle.fb_types.specs.declared.run.Event.TheVariants.{Given}
 use Rattle.fb_types.specs.declared.run.GivenRow.{GivenRow}
 use Rattle.fb_types.proofs.lemmas.events.KeyLaws.{earlier_precedes}
-use Rattle.fb_system.specs.Stimuli.{IsRowOf, sets_of}
+use Rattle.fb_system.specs.Stimuli.{IsRowOf}
 use Rattle.fb_check.proofs.lemmas.GoodStimuli.{Known}
 use Rattle.fb_laws.specs.GivenRows.{row_event}
 use Rattle.fb_laws.proofs.lemmas.machine.Bridge.{all_each}
@@ -26,8 +26,8 @@ use Rattle.fb_resource.proofs.lemmas.PostLaws.{port_path}
 use Rattle.fb_sim_machine.specs.Machines.{IsAt, IsReady}
 use Rattle.fb_sim_machine.specs.declared.machine.Machine.{Machine}
 use Rattle.fb_inputs.specs.Words.{Text}
-use Rattle.fb_session.specs.Giving.{Gives, HasGiven, IsRead, IsReadOr, Puts, row_text}
-use Rattle.fb_session.specs.Pasts.{IsRow, Past, StandsBy, Talk, now, with_rows}
+use Rattle.fb_session.specs.Giving.{Gives, HasGiven, IsRead, Puts, row_text}
+use Rattle.fb_session.specs.Pasts.{IsRow, Past, StandsBy, Talk, with_rows}
 use Rattle.fb_session.specs.declared.fault.GiveFault.{GiveFault}
 use Rattle.fb_session.specs.declared.fault.GiveFault.TheVariants as fault
 use Rattle.fb_session.specs.declared.give.GivenAnswer.{GivenAnswer}
@@ -122,15 +122,6 @@ known_names i accepted = record { plan = i.plan; once = λ twice. accepted 20 (i
 -- ---- What is answered
 
 module _ (tick event values : Text) (old : Talk) where
-  -- the row can't be read
-  pub read_fails : (e : GiveFault) → IsReadOr tick event values (Err e) → Gives tick event values old old (Err e)
-  read_fails fault.NotGoing h = absurd h
-  read_fails (fault.Unread f) h = (h, refl)
-  read_fails (fault.Unfit s f) h = absurd h
-  read_fails (fault.Late t) h = absurd h
-  read_fails fault.Full h = absurd h
-  read_fails fault.Memory h = refl
-
   -- it was put, or it was not
   pub put_gives : (new : Talk) (s : Stimulus) (text : Text) (r : Result GivenAnswer GiveFault) → IsRead tick event values s → IsGood old.inputs.library s → old.reached ≤ s.tick
       → old.stage ≡ stage.Running → text ≡ row_text s → Puts s text old new r → Gives tick event values old new r

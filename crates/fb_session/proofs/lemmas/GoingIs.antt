@@ -1,14 +1,12 @@
 -- Where a session stands after it has taken events.
 use Rattle.std.proofs.Common.{◌≡◌, ℕ, ◌+◌, ◌^◌, ◌<◌, ◌≤◌, List, [], ◌∷◌, ◌++◌, length, All, Option, Some, None, refl, sym, ap, ◌∙◌, subst, arith, append-nil}
 use Rattle.std.specs.Io.KnownBytes.{Appends}
-use Rattle.std.proofs.KnownBytes.{Appends-trans}
 use Rattle.std.proofs.lemmas.List.Elements.{All-append}
-use Rattle.fb_types.specs.Headline.{Inputs, IsTrace, system_of, stimuli_of}
-use Rattle.fb_types.specs.Keys.{NoneBelow}
+use Rattle.fb_types.specs.Headline.{Inputs, system_of}
 use Rattle.fb_types.specs.Machines.{Each}
-use Rattle.fb_types.specs.Simulation.{AtHorizon, AtStop, Chain, Ending, RestsAt, Taken, ending_by, ending_of, last, lines_of}
+use Rattle.fb_types.specs.Simulation.{AtStop, Chain, Taken, ending_by, ending_of, last, lines_of}
 use Rattle.fb_types.specs.States.{Config}
-use Rattle.fb_types.specs.Text.{last_line, lines_text}
+use Rattle.fb_types.specs.Text.{lines_text}
 use Rattle.fb_types.specs.declared.run.StopMark.{StopMark}
 use Rattle.fb_types.specs.declared.value.Reason.{Reason}
 use Rattle.fb_sim_machine.specs.Machines.{IsAt, IsReady}
@@ -16,7 +14,7 @@ use Rattle.fb_sim_machine.specs.Pauses.{IsLater}
 use Rattle.fb_sim_machine.specs.declared.machine.Machine.{Machine}
 use Rattle.fb_sim_machine.proofs.lemmas.JoinedRuns.{chain_append, each_append, ending_append, last_append}
 use Rattle.fb_trace.specs.Progress.{IsPartWritten, bounded}
-use Rattle.fb_session.specs.Going.{HasTaken, IsBeginning}
+use Rattle.fb_session.specs.Going.{IsBeginning}
 use Rattle.fb_session.specs.Pasts.{EndsBy, Past, StandsBy, Talk, now, opening_with}
 use Rattle.fb_session.specs.Running.{FailsRun, IsWriteAfter, text_of}
 use Rattle.fb_session.specs.declared.breaks.Break.{Break}
@@ -25,7 +23,7 @@ use Rattle.fb_session.specs.declared.fault.SessionFault.TheVariants as fault
 use Rattle.fb_session.specs.declared.run.Reach.{Reach}
 use Rattle.fb_session.specs.declared.stage.Stage.{Stage}
 use Rattle.fb_session.specs.declared.stage.Stage.TheVariants as stage
-use Rattle.fb_session.proofs.lemmas.Texts.{part-after, text-append}
+use Rattle.fb_session.proofs.lemmas.Texts.{part-after}
 
 -- a stop is one with any horizon
 pub ending_any : (ts : List Taken) (h k tick r : ℕ) (reason : Reason) → ending_of h ts ≡ AtStop tick r reason → ending_of k ts ≡ AtStop tick r reason
@@ -143,7 +141,3 @@ module _ (old : Talk) (p : Past) where
     subst (λ z. IsPartWritten written now' (lines_text old.form (system_of old.inputs) (lines_of more) ++ text) z) (sym h.2)
         (part-after (text_of old.inputs old.form more) got counted h.1),
   )
-
-  -- nothing more was taken or written
-  pub nothing_more : (written : Option (List ℕ)) → Appends written written [] → IsBeginning old p fault.Memory written written
-  nothing_more written got = ([], tt, got)

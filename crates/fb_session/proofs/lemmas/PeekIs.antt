@@ -5,7 +5,7 @@ use Rattle.fb_types.specs.States.{Event}
 use Rattle.fb_types.specs.declared.key.Key.{Key}
 use Rattle.fb_agenda.specs.Agendas.{IsLeast, waiting}
 use Rattle.fb_net.specs.Events.{event_of}
-use Rattle.fb_session.specs.Going.{IsLeastOf, Peeks, now_of}
+use Rattle.fb_session.specs.Going.{Peeks}
 use Rattle.fb_session.specs.Pasts.{Talk}
 use Rattle.fb_session.specs.declared.stage.Stage.TheVariants as stage
 

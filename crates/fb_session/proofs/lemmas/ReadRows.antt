@@ -1,5 +1,5 @@
 -- What is known of a row that was read.
-use Rattle.std.proofs.Common.{◌≡◌, ℕ, ◌^◌, ◌≤◌, Bool, true, false, cond, refl, Result, Ok, Err, subst}
+use Rattle.std.proofs.Common.{◌≡◌, ◌^◌, ◌≤◌, Bool, true, false, cond, refl, Result, Ok, Err, subst}
 use Rattle.std.proofs.lemmas.Bool.{leb-true}
 use Rattle.fb_types.specs.declared.deploy.Stimulus.{Stimulus}
 use Rattle.fb_inputs.specs.declared.location.RowFault as fault

@@ -1,5 +1,5 @@
 -- A run piece by piece, from where a machine is.
-use Rattle.std.proofs.Common.{◌≡◌, ℕ, ◌+◌, ◌<◌, ◌≤◌, List, [], ◌∷◌, ◌++◌, length, map, All, Contains, Option, None, refl, sym, ap, ◌∙◌, subst, arith, append_assoc, append-nil, inl, inr}
+use Rattle.std.proofs.Common.{◌≡◌, ℕ, ◌+◌, ◌<◌, ◌≤◌, List, [], ◌∷◌, ◌++◌, length, map, All, Contains, Option, None, sym, ap, ◌∙◌, subst, arith, append_assoc, append-nil, inl, inr}
 use Rattle.std.specs.Prelude.{IsTrue}
 use Rattle.std.specs.Io.KnownBytes.{Appends}
 use Rattle.std.proofs.KnownBytes.{Appends-nil, Appends-trans}
@@ -21,7 +21,7 @@ use Rattle.fb_sim_machine.specs.declared.machine.Machine.{Machine}
 use Rattle.fb_sim_machine.proofs.lemmas.JoinedRuns.{chain_append, each_append, ending_append, last_append, lines_of-append}
 use Rattle.fb_sim_machine.proofs.lemmas.RisingTicks.{later_none}
 use Rattle.fb_trace.specs.Progress.{IsPartWritten, bounded}
-use Rattle.fb_session.specs.Running.{EndsRun, FailsRun, HasRun, RunsOn, text_of}
+use Rattle.fb_session.specs.Running.{EndsRun, FailsRun, HasRun, text_of}
 use Rattle.fb_session.specs.declared.fault.SessionFault.TheVariants as fault
 use Rattle.fb_session.specs.declared.going.Until.TheVariants as until
 use Rattle.fb_session.specs.declared.run.Reach.{Reach}
@@ -88,9 +88,6 @@ module _ (i : Inputs) (o : Reach) where
     -- the lines that are there are those of the piece
     piece_is : map (line_of (system_of i)) new.traffic.effects.lines.items ≡ lines_of taken
     piece_is = x.lines ∙ ap (λ z. map (line_of (system_of i)) z ++ lines_of taken) g.run.none
-
-    piece : List ℕ
-    piece = lines_text o.form (system_of i) (map (line_of (system_of i)) new.traffic.effects.lines.items)
 
     piece_text : lines_text o.form (system_of i) (map (line_of (system_of i)) new.traffic.effects.lines.items) ≡ text_of i o.form taken
     piece_text = ap (lines_text o.form (system_of i)) piece_is

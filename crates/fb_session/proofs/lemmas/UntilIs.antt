@@ -1,5 +1,5 @@
 -- What comes of taking events up to a tick, a break or a stop.
-use Rattle.std.proofs.Common.{◌≡◌, ℕ, ◌+◌, ◌^◌, ◌<◌, ◌≤◌, Bool, List, [], ◌∷◌, ◌++◌, All, Option, Ok, refl, sym, ap, ◌∙◌, subst, arith, append-nil}
+use Rattle.std.proofs.Common.{◌≡◌, ℕ, ◌+◌, ◌^◌, ◌<◌, ◌≤◌, Bool, List, ◌++◌, Option, Ok, refl, sym, subst, arith, append-nil}
 use Rattle.std.specs.Io.KnownBytes.{Appends}
 use Rattle.std.proofs.KnownBytes.{Appends-trans}
 use Rattle.std.proofs.lemmas.List.Elements.{All-append}
@@ -12,7 +12,7 @@ use Rattle.fb_types.specs.declared.run.StopMark.{StopMark}
 use Rattle.fb_sim_machine.specs.Machines.{IsReady}
 use Rattle.fb_sim_machine.specs.declared.machine.Machine.{Machine}
 use Rattle.fb_session.specs.Going.{HasTaken, IsBeginning, Reaches}
-use Rattle.fb_session.specs.Pasts.{Past, StandsBy, Talk, now, opening_with, stop_text, told, with_rows}
+use Rattle.fb_session.specs.Pasts.{Past, StandsBy, Talk, now, stop_text, told, with_rows}
 use Rattle.fb_session.specs.Running.{IsWriteAfter, RunsOn, text_of}
 use Rattle.fb_session.specs.declared.breaks.Break.{Break}
 use Rattle.fb_session.specs.declared.fault.SessionFault.{SessionFault}
@@ -21,7 +21,7 @@ use Rattle.fb_session.specs.declared.run.Reach.{Reach}
 use Rattle.fb_session.specs.declared.stage.Stage.{Stage}
 use Rattle.fb_session.specs.declared.stage.Stage.TheVariants as stage
 use Rattle.fb_session.proofs.lemmas.EndingIs.{ending_none, whole_on}
-use Rattle.fb_session.proofs.lemmas.GoingIs.{alive, at_event, at_tick, before_all, chain_all, ends_on, ends_stopped, fails_end, going, leads}
+use Rattle.fb_session.proofs.lemmas.GoingIs.{alive, at_event, at_tick, before_all, chain_all, ends_on, ends_stopped, fails_end, leads}
 
 abbrev pub reach_of : Talk → (to : ℕ) → Bool → Reach
 reach_of v to watch = record { to = to; steps = v.steps; form = v.form; is_watched = watch }

@@ -1,5 +1,5 @@
 -- Messages that go to the one agenda.
-use Rattle.std.proofs.Common.{◌≡◌, ◌∷◌, ◌++◌, ℕ, ◌<◌, ◌≤◌, ◌^◌, Bool, true, false, cond, List, [], length, map, refl, sym, ap, subst, ◌∙◌, Option, Some, None, arith}
+use Rattle.std.proofs.Common.{◌≡◌, ◌∷◌, ◌++◌, ℕ, ◌<◌, ◌≤◌, ◌^◌, Bool, true, false, cond, List, [], length, map, refl, sym, ap, ◌∙◌, Option, Some, arith}
 use Rattle.std.proofs.lemmas.List.{length-map}
 use Rattle.fb_types.specs.Headline.{Inputs, AreAccepted, system_of}
 use Rattle.fb_types.specs.Keys.{or_else, found, same_key}

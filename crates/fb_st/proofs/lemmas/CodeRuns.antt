@@ -21,7 +21,7 @@ use Rattle.fb_st.specs.declared.compiled.CompiledStmt.TheVariants as variants
 use Rattle.fb_st.specs.declared.compiled.CompiledChoice.{CompiledChoice, out-CompiledChoice, fold_out-CompiledChoice}
 use Rattle.fb_st.specs.declared.compiled.CompiledBranch.{CompiledBranch, out-CompiledBranch, fold_out-CompiledBranch}
 use Rattle.fb_st.specs.Compiled.{number_said, truth_said, truth_at, fits_truth, fits_number}
-use Rattle.fb_st.specs.Fitting.{spot, values_at, name_at, all_right, code_said, codes_said, arm_said, arms_said, fork_said, forks_said, expr_of_number, expr_of_truth, value_of_word, kinds_truth, kinds_number, right_truth, right_number, is_within_type, count_right, code_right, codes_right, arm_right, arms_right, forks_right}
+use Rattle.fb_st.specs.Fitting.{spot, values_at, name_at, all_right, code_said, codes_said, arm_said, arms_said, fork_said, forks_said, expr_of_number, expr_of_truth, value_of_word, kinds_truth, kinds_number, right_truth, right_number, is_within_type, count_right, code_right, codes_right, arm_right, forks_right}
 use Rattle.fb_st.proofs.lemmas.Comes.{both_true, condition_comes}
 use Rattle.fb_st.proofs.lemmas.Runs.{Leads, cut_at, written}
 use Rattle.fb_st.proofs.lemmas.Words.{word_written}
@@ -155,11 +155,6 @@ arm_parts ds c right =
     let parts = both_true (right_truth ds (truth_said (out-CompiledChoice c).condition)) (codes_right ds (out-CompiledChoice c).body) (sym says ∙ right) in
     let condition = both_true (fits_truth (length ds) (truth_said (out-CompiledChoice c).condition)) (kinds_truth ds (truth_said (out-CompiledChoice c).condition)) parts.0 in
     (condition.0, condition.1, parts.1)
-
-pub if_right : (ds : List Declared) (cs : List CompiledChoice) (others : List CompiledStmt) → code_right ds (variants.If cs others) ≡ true → (arms_right ds cs ≡ true) × (codes_right ds others ≡ true)
-if_right ds cs others right =
-    let says : code_right ds (variants.If cs others) ≡ (arms_right ds cs && codes_right ds others) = rw (← variants.rolls-If cs others) (rw fold-roll-CompiledStmt refl) in
-    both_true (arms_right ds cs) (codes_right ds others) (sym says ∙ right)
 
 pub for_right : (ds : List Declared) (k : CountExpr) (body : List CompiledStmt) → code_right ds (variants.For k body) ≡ true → (count_right ds k ≡ true) × (codes_right ds body ≡ true)
 for_right ds k body right =

@@ -1,15 +1,14 @@
 -- The findings of a number, from the locations of a library and a plan to the bytes that were read.
-use Rattle.std.proofs.Common.{◌≡◌, ℕ, suc, false, List, [], ◌∷◌, map, take, length, Option, Some, None, Result, Ok, Err, refl, sym, ◌∙◌, ap, subst, inl, inr}
-use Rattle.std.specs.Prelude.{All, IfOk, IfSome, MatchOption, nat_lt}
+use Rattle.std.proofs.Common.{◌≡◌, ℕ, suc, false, List, [], ◌∷◌, map, take, Option, Some, None, Result, Ok, Err, refl, sym, ◌∙◌, ap, subst, inl, inr}
+use Rattle.std.specs.Prelude.{All, IfOk, IfSome, MatchOption}
 use Rattle.std.specs.Option.{option_to_list}
 use Rattle.std.proofs.lemmas.List.Elements.{All-cons, All-map, All-nil, All-take, All-weaker}
-use Rattle.fb_read.specs.Whole.{IsLibraryText}
 use Rattle.fb_types.specs.declared.deploy.Plan.{Plan}
 use Rattle.fb_types.specs.declared.deploy.Stimulus.{Stimulus}
 use Rattle.fb_types.specs.declared.library.Library.{Library}
 use Rattle.fb_why.specs.Causes.{IsCause}
-use Rattle.fb_why.specs.Findings.{AppliesAt, AppliesNowhere, AreFed, Finds, FindsOf, IsPlan, IsSilent, IsSilentOf, IsUnread}
-use Rattle.fb_why.specs.Listings.{AreAll, AreFlaws, AreFound, AreFoundBy, AreLocations, AreOne, AreShown, locations_of, most_findings}
+use Rattle.fb_why.specs.Findings.{AppliesAt, AppliesNowhere, Finds, FindsOf, IsSilent, IsSilentOf, IsUnread}
+use Rattle.fb_why.specs.Listings.{AreAll, AreFlaws, AreFound, AreFoundBy, AreLocations, AreOne, locations_of, most_findings}
 use Rattle.fb_why.specs.Places.{IsPlacedFinding}
 use Rattle.fb_why.specs.declared.cause.Cause.{Cause}
 use Rattle.fb_why.specs.declared.cause.Cause.TheVariants as cause
@@ -35,29 +34,6 @@ list_locations f lib plan stimuli at xs ls e each none all = record {
 }
 
 -- ---- What is read
-
-pub shown_of :
-    {E : Type 0} (f : Fault) (text : List ℕ) (bytes rows : Option (List ℕ)) (lib : Library) (plan : Plan) (stimuli : List Stimulus) (locations given : List Location) (made : Result Findings E)
-    → IsLibraryText text lib → IsPlan bytes plan → AreFed f rows stimuli → AreLocations f lib plan stimuli locations → given ≡ locations
-    → IfOk made (λ s. locations_of s ≡ map (λ p. found.Check p) (take most_findings given)) → IfOk made (λ s. s.more ≡ nat_lt most_findings (length given)) → IfOk made (AreShown f text bytes rows)
-shown_of f text bytes rows lib plan stimuli locations given (Err e) read planned fed are same shown more = tt
-shown_of f text bytes rows lib plan stimuli locations given (Ok s) read planned fed are same shown more = record {
-  library = lib;
-  plan = plan;
-  list = stimuli;
-  locations = locations;
-  read = read;
-  planned = planned;
-  fed = fed;
-  are = are;
-  shown = shown ∙ ap (λ (ls : List Location). map (λ (p : Location). found.Check p) (take most_findings ls)) same;
-  more = more ∙ ap (λ (ls : List Location). nat_lt most_findings (length ls)) same;
-}
-
-pub shown_flaws :
-    {E : Type 0} (f : Fault) (text : List ℕ) (bytes rows : Option (List ℕ)) (made : Result Findings E) → IfOk made (AreShown f text bytes rows) → IfOk made (AreFlaws f text bytes rows)
-shown_flaws f text bytes rows (Err e) h = tt
-shown_flaws f text bytes rows (Ok s) h = inl h
 
 -- nothing is shown of what can't be read
 pub unread_inputs :

@@ -1,28 +1,17 @@
 -- The stimuli that a refusal is about, and refusals of a text.
-use Rattle.std.proofs.Common.{◌≡◌, ℕ, Bool, true, false, List, [], Option, Some, None, Result, Ok, Err, Vec, Global, refl, sym, subst, ◌∙◌, inl, inr}
+use Rattle.std.proofs.Common.{◌≡◌, ℕ, List, Option, Some, None, Result, Ok, Err, refl, sym, subst, ◌∙◌, inl, inr}
 use Rattle.std.specs.Prelude.{IfOk, IfSome, MatchOption}
 use Rattle.std.proofs.lemmas.Option.{MatchOption-at_none, MatchOption-at_some}
-use Rattle.fb_types.specs.declared.deploy.Stimulus.{Stimulus}
 use Rattle.fb_read.specs.Errors.{fault_number}
 use Rattle.fb_why.proofs.lemmas.TextReadings.{finds-numbered}
 use Rattle.fb_why.specs.Faults.{IsTextRefusal}
 use Rattle.fb_why.specs.declared.find.TextRefusal.{TextRefusal}
-use Rattle.fb_why.specs.Findings.{AreFedIf, AreNoStimuli, AreNotFedIf, AreStimuli, IsFoundAt, IsSilentOfBytes, IsSilentOfDeployment, IsSilentOfStimuli, IsSilentOfText, FindsInBytes, FindsInDeployment, FindsInStimuli, FindsInText}
+use Rattle.fb_why.specs.Findings.{IsFoundAt, IsSilentOfBytes, IsSilentOfDeployment, IsSilentOfStimuli, IsSilentOfText, FindsInBytes, FindsInDeployment, FindsInStimuli, FindsInText}
 use Rattle.fb_why.specs.Places.{IsPlaceOf, IsPlacedFinding}
 use Rattle.fb_why.specs.declared.place.PlacedFinding.{PlacedFinding}
 use Rattle.fb_read_positions.specs.declared.places.Place.{Place}
 use Rattle.fb_why.specs.declared.location.FindingLocation.{FindingLocation}
 use Rattle.fb_why.specs.declared.location.FindingLocation.TheVariants as found
-
--- the stimuli that a refusal is about
-pub fed_if :
-    {E : Type 0} (of_them b : Bool) (given : Option (List ℕ)) (made : Result (Option (Vec Stimulus Global)) E) → b ≡ of_them → b ≡ true
-    → IfOk made (λ o. MatchOption o (AreNoStimuli given) (λ v. AreStimuli given v.items)) → IfOk made (λ o. MatchOption o (AreNotFedIf of_them given) (λ v. AreFedIf of_them given v.items))
-fed_if of_them b given made is met holds =
-    subst (λ (x : Bool). IfOk made (λ o. MatchOption o (AreNotFedIf x given) (λ v. AreFedIf x given v.items))) (sym met ∙ is) holds
-
-pub not_fed_if : (of_them b : Bool) (given : Option (List ℕ)) (stimuli : List Stimulus) → b ≡ of_them → b ≡ false → stimuli ≡ [] → AreFedIf of_them given stimuli
-not_fed_if of_them b given stimuli is unmet none = subst (λ (x : Bool). AreFedIf x given stimuli) (sym unmet ∙ is) none
 
 abbrev some_number : ℕ → Option ℕ
 some_number n = Some n

@@ -1,9 +1,9 @@
 -- The warnings that are left out, and the lines of the others, one after another.
-use Rattle.std.proofs.Common.{◌≡◌, ◌⊎◌, ℕ, zero, suc, ◌+◌, ◌<◌, ◌≤◌, ◌&&◌, ◌||◌, nat_le, nat_lt, Bool, true, false, List, [], ◌∷◌, ◌++◌, append-nil, get_or, length, take, sum, Option, Some, None, if◌then◌else◌, inl, inr, refl, sym, ◌∙◌, ap, ap₂, subst, arith}
+use Rattle.std.proofs.Common.{◌≡◌, ◌⊎◌, ℕ, zero, suc, ◌+◌, ◌<◌, ◌≤◌, ◌&&◌, ◌||◌, nat_le, nat_lt, Bool, true, false, List, [], ◌∷◌, ◌++◌, append-nil, get_or, length, take, sum, Option, if◌then◌else◌, inl, inr, refl, sym, ◌∙◌, ap, ap₂, subst, arith}
 use Rattle.std.proofs.lemmas.Bool.{cases_lt, le-leb, le-ltb, lt-leb, lt-ltb}
 use Rattle.std.proofs.lemmas.List.{take_more, take_all}
 use Rattle.std.proofs.lemmas.List.Folds.{list_any-append}
-use Rattle.std.proofs.lemmas.List.Sums.{sum_by-cons, sum_by-take-le, sum_by_more}
+use Rattle.std.proofs.lemmas.List.Sums.{sum_by-cons, sum_by_more}
 use Rattle.std.specs.List.{list_any}
 use Rattle.fb_types.specs.declared.deploy.Stimulus.{Stimulus}
 use Rattle.fb_types.specs.declared.library.Library.{Library}
@@ -61,12 +61,6 @@ in-types lines t whole file own is = go (cases_lt file t)
         le-ltb file t beyond
         ∙ sym (ap₂ (λ (a b : Bool). a && b) (lt-ltb 0 whole some) (lt-leb whole (sum (take t lines)) (past lines t whole file own is beyond)))
 
-pub in-none : (lines : List ℕ) (t whole : ℕ) → ((whole ≡ 0) ⊎ (sum lines < whole)) → false ≡ (nat_lt 0 whole && nat_le whole (sum (take t lines)))
-in-none lines t whole (inl none) = sym (ap (λ (k : ℕ). nat_lt 0 k && nat_le k (sum (take t lines))) none)
-in-none lines t whole (inr beyond) =
-    let few : sum (take t lines) ≤ sum lines = sum_by-take-le (λ x. x) lines t in
-    sym (ap₂ (λ (a b : Bool). a && b) (lt-ltb 0 whole (omega arith)) (lt-leb whole (sum (take t lines)) (omega arith)))
-
 -- ---- Warnings
 
 or-false : (b : Bool) → (b || false) ≡ b
@@ -95,9 +89,6 @@ module _ (n : Naming) (given : Given) (s : Sorting) (library : Library) (stimuli
 
   abbrev pub Sorted : List Warning → List ℕ → Bool → Type 0
   Sorted ws text denied = AreSorted n given s library stimuli ws text denied
-
-  pub sorted-none : (text : List ℕ) (denied : Bool) → text ≡ [] → denied ≡ false → Sorted [] text denied
-  sorted-none text denied none not_denied = record { kept = []; are_kept = refl; lines = none; is_denied = not_denied }
 
   pub sorted-left :
       (ws : List Warning) (i : ℕ) (d : Warning) (at : Option Place) (text : List ℕ) (denied : Bool) → i < length ws → IsPlaceFor given.declaration library (position_of (get_or ws i d)) at

@@ -1,5 +1,5 @@
 -- The type of the first variable with a name.
-use Rattle.std.proofs.Common.{◌≡◌, ℕ, ◌+◌, ◌<◌, ◌≤◌, Bool, true, false, cond, List, [], get_or, length, drop, Option, Some, None, option_map, refl, sym, ◌∙◌, ap}
+use Rattle.std.proofs.Common.{◌≡◌, ℕ, ◌+◌, ◌<◌, ◌≤◌, Bool, true, false, cond, List, get_or, length, drop, Option, Some, None, option_map, sym, ◌∙◌, ap}
 use Rattle.std.specs.List.{find}
 use Rattle.std.proofs.lemmas.List.{drop_all, drop_more}
 use Rattle.fb_types.specs.Names.{Name, same_name}

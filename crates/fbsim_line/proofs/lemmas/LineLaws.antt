@@ -1,5 +1,5 @@
 -- Where the words name no call.
-use Rattle.std.proofs.Common.{◌≡◌, ◌&&◌, ℕ, Bool, Bor, Option, Some, None, Result, Ok, Err, List, false, true, not, map, option_map, refl, sym, ap, ◌∙◌, subst, inl, inr, codes}
+use Rattle.std.proofs.Common.{◌≡◌, ℕ, Bool, Bor, Option, Some, None, Result, Ok, Err, List, false, true, map, option_map, refl, sym, ap, ◌∙◌, subst, inl, inr, codes}
 use Rattle.std.specs.Global.{Vec}
 use Rattle.std.specs.Str.{bytes_eq}
 use Rattle.std.proofs.lemmas.Slice.Eq.{bytes_eq-Decides}
@@ -11,7 +11,7 @@ use Rattle.clap.specs.declared.error.kind.ErrorKind.TheVariants.{DisplayHelp, Di
 use Rattle.fb_types.specs.declared.run.Form.{Form}
 use Rattle.fb_types.specs.declared.run.Form.TheVariants.{One, Two}
 use Rattle.clap.specs.declared.builder.value_parser.ValueParser.{ValueParser}
-use Rattle.fbsim_line.specs.Line.{AreCall, AreLevels, AreNoCall, IsNoTask, MayBeNumber, has_any, warns, AskHelp, IsTaken, NameNoCall, IsForm, AsksCoverage, AsksDiff, AsksDraw, AsksExpect, AsksInspect, AsksSession, AsksWave, IsNumber, IsAction, IsTask, IsCall, IsCallOf, IsFault, IsFlag, IsText, command_name, call_name, declares_nothing, or_none, AreForms, simulator, simulator_with}
+use Rattle.fbsim_line.specs.Line.{AreCall, AreLevels, AreNoCall, IsNoTask, MayBeNumber, warns, AskHelp, IsTaken, NameNoCall, IsForm, AsksCoverage, AsksDiff, AsksDraw, AsksExpect, AsksInspect, AsksSession, AsksWave, IsNumber, IsAction, IsCall, IsCallOf, IsFault, IsFlag, IsText, command_name, call_name, declares_nothing, or_none, AreForms, simulator, simulator_with}
 use Rattle.fbsim_line.proofs.lemmas.FormLaws.{same_fault, same_subcommand, same_takes}
 use Rattle.fbsim_line.specs.declared.levels.Levels.{Levels}
 use Rattle.fbsim_line.specs.declared.line.LineFault.{LineFault}
@@ -123,18 +123,6 @@ pub no_levels :
     (rows : List Row) (name : Text) (a : Action) → name ≡ command_name a → IsAction rows a → ((l : Levels) → AreLevels rows (warns a) l → ⊥) → IsNoTask rows name
 no_levels rows name a named is none c l other given levels =
     none l (subst (λ (b : Bool). AreLevels rows b l) (same_warnings rows c.action a (sym other ∙ named) given.action is) levels)
-
--- what is said of warnings that are not asked for
-pub levels_alone :
-    (rows : List Row) (warned : Bool) (allow deny : List Text) → or_none (all_of (codes "allow") rows) ≡ allow → or_none (all_of (codes "deny") rows) ≡ deny
-    → (has_any allow deny && not warned) ≡ true → (l : Levels) → AreLevels rows warned l → ⊥
-levels_alone rows warned allow deny are-allowed are-denied on l is =
-    let allowed : allow ≡ map (λ (t : Bor Text). t.now) l.allow.items = sym are-allowed ∙ is.allow in
-    let denied : deny ≡ map (λ (t : Bor Text). t.now) l.deny.items = sym are-denied ∙ is.deny in
-    let same : (has_any allow deny && not warned) ≡ (has_any (map (λ (t : Bor Text). t.now) l.allow.items) (map (λ (t : Bor Text). t.now) l.deny.items) && not warned) =
-    λ k. has_any (allowed k) (denied k) && not warned in
-    let bad : true ≡ false = sym on ∙ same ∙ is.of_warnings in
-    cc
 
 -- ---- A command by its name
 

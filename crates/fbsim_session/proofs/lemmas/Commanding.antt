@@ -1,13 +1,12 @@
 -- Words of a line, and what they ask for.
-use Rattle.std.proofs.Common.{◌≡◌, ◌≢◌, ℕ, ◌+◌, ◌-◌, ◌^◌, ◌<◌, ◌≤◌, Bool, true, false, List, [], ◌∷◌, ◌++◌, length, take, drop, get_or, Option, Some, None, refl, sym, ap, ◌∙◌, subst, arith, suc, drop_of_length-le}
+use Rattle.std.proofs.Common.{◌≡◌, ℕ, ◌+◌, ◌-◌, ◌^◌, ◌<◌, ◌≤◌, Bool, true, false, [], ◌∷◌, ◌++◌, length, take, drop, get_or, Option, Some, None, refl, sym, ap, ◌∙◌, subst, arith}
 use Rattle.std.proofs.lemmas.Bool.{eqb-true}
 use Rattle.std.proofs.lemmas.List.{take_more}
 use Rattle.std.proofs.Math.Seq.{drop-cons}
 use Rattle.std.proofs.Math.Numerals.{add-one}
-use Rattle.std.specs.Prelude.{◌==◌, if◌then◌else◌}
+use Rattle.std.specs.Prelude.{◌==◌, if◌then◌else◌, min, nat_lt, nat_le, option_map, ◌&&◌}
 use Rattle.fb_inputs.specs.Words.{Text}
 use Rattle.std.proofs.lemmas.Bool.Decides.{nat_tests}
-use Rattle.std.specs.Prelude.{min, nat_lt, nat_le, option_map, ◌&&◌}
 use Rattle.fbsim_session.specs.Commands.{after_blanks, before_blanks, before_text, Clear, clear_by, tick_by, Wrong}
 use Rattle.fbsim_session.specs.declared.command.Usage.TheVariants as usage
 
@@ -16,22 +15,10 @@ use Rattle.fbsim_session.specs.declared.command.Usage.TheVariants as usage
 after_blank : (b : ℕ) (bs : Text) → b ≡ 32 → after_blanks (b ∷ bs) ≡ after_blanks bs
 after_blank b bs e = subst (λ (x : ℕ). after_blanks (x ∷ bs) ≡ after_blanks bs) (sym e) refl
 
-after_other : (b : ℕ) (bs : Text) → (b ≡ 32 → ⊥) → after_blanks (b ∷ bs) ≡ b ∷ bs
-after_other b bs other = by (b == 32) refl
-  where
-    by : (t : Bool) → (b == 32) ≡ t → (if t then after_blanks bs else b ∷ bs) ≡ b ∷ bs
-    by true e = absurd (other (eqb-true b 32 e))
-    by false e = refl
-
 pub after_next : (xs : Text) (i : ℕ) → i < length xs → get_or xs i 0 ≡ 32 → after_blanks (drop (i + 1) xs) ≡ after_blanks (drop i xs)
 after_next xs i lt e =
     let d : drop i xs ≡ get_or xs i 0 ∷ drop (i + 1) xs = (rw add-one (drop-cons xs i 0 lt)) in
     sym (ap after_blanks d ∙ after_blank (get_or xs i 0) (drop (i + 1) xs) e)
-
-pub after_here : (xs : Text) (i : ℕ) → i < length xs → (get_or xs i 0 ≡ 32 → ⊥) → drop i xs ≡ after_blanks (drop i xs)
-after_here xs i lt other =
-    let d : drop i xs ≡ get_or xs i 0 ∷ drop (i + 1) xs = (rw add-one (drop-cons xs i 0 lt)) in
-    d ∙ sym (ap after_blanks d ∙ after_other (get_or xs i 0) (drop (i + 1) xs) other)
 
 -- ---- Blanks at the end
 

@@ -1,5 +1,5 @@
 -- Pieces one after another, and the bytes that a writer got of them.
-use Rattle.std.proofs.Common.{◌≡◌, ◌⊎◌, ℕ, ◌+◌, ◌<◌, ◌≤◌, All, List, [], ◌∷◌, ◌++◌, length, take, Option, Some, None, Result, Ok, Err, refl, sym, ap, ◌∙◌, subst, arith, append_assoc, append-nil, suc}
+use Rattle.std.proofs.Common.{◌≡◌, ◌⊎◌, ℕ, ◌+◌, List, [], ◌∷◌, ◌++◌, length, take, Option, Some, None, Err, refl, sym, ap, ◌∙◌, subst, arith, append_assoc, append-nil, suc}
 use Rattle.std.specs.Io.KnownBytes.{Appends, Keeps}
 use Rattle.std.proofs.KnownBytes.{Appends-trans}
 use Rattle.std.proofs.lemmas.List.Elements.{All-nil, All-push}
@@ -9,7 +9,7 @@ use Rattle.fb_trace.specs.End.{ending_of}
 use Rattle.fb_trace.specs.declared.last.Outcome.{Outcome}
 use Rattle.fb_session.specs.Pasts.{with_rows}
 use Rattle.fb_sim_machine.proofs.lemmas.JoinedRuns.{each_append}
-use Rattle.fbsim_session.specs.Talks.{all_of, Answer, AreFront, AreWhole, Ends, Fails, Flushes, IsAnswer, IsBegun, IsWell, Opening, Piece, Sends, Text, Trace, text_in, told_in, told_of}
+use Rattle.fbsim_session.specs.Talks.{all_of, Answer, AreFront, AreWhole, Ends, Fails, Flushes, IsAnswer, IsBegun, IsWell, Opening, Piece, Sends, Text, text_in, told_in, told_of}
 use Rattle.fbsim_session.specs.declared.talking.TalkFault.{TalkFault}
 use Rattle.fbsim_session.specs.declared.talking.TalkFault.TheVariants.{Memory, Read, Write}
 
@@ -86,15 +86,6 @@ front_answered g ps a is f = record {
   trace = subst (λ (x : Text). IsTrace (with_rows g.inputs f.given) g.form f.horizon g.steps (x ++ f.rest) f.end) (sym (told_answer ps a)) f.trace;
 }
 
-pub whole_answered : (g : Opening) (ps : List Piece) (o : Outcome) (a : Text) → IsAnswer a → AreWhole g ps o → AreWhole g (ps ++ Answer a ∷ []) o
-whole_answered g ps o a is f = record {
-  well = well_more ps (Answer a) f.well is;
-  given = f.given;
-  rows = f.rows;
-  horizon = f.horizon;
-  trace = subst (λ (x : Text). IsTrace (with_rows g.inputs f.given) g.form f.horizon g.steps x (ending_of o)) (sym (told_answer ps a)) f.trace;
-}
-
 -- the whole is a beginning of itself
 pub front_whole : (g : Opening) (ps : List Piece) (o : Outcome) → AreWhole g ps o → AreFront g ps
 front_whole g ps o f = record {
@@ -135,27 +126,13 @@ fails_sent g now new ps f got (Write n) x = (
   got_part g.start now new ps (Answer x.0) [] x.1 got (subst (λ (z : Text). Appends now new (take x.1 z)) (sym (append-nil x.0)) x.3),
 )
 
--- an answer that was written is flushed
-pub sends_flushed : (old mid new : Option Text) (a : Text) (n : ℕ) → IsAnswer a → length a ≤ n → n ≤ length a → Appends old mid (take n a) → (r : Result (Unit {0}) TalkFault) → Flushes mid new r → Sends old new r
-sends_flushed old mid new a n is low high got (Ok u) k =
-    (a, is, kept_more old mid new a (subst (λ (x : Text). Appends old mid x) (ap (λ m. take m a) (let e : n ≡ length a = omega arith in e) ∙ take_whole a) got) k)
-sends_flushed old mid new a n is low high got (Err Memory) k = absurd k
-sends_flushed old mid new a n is low high got (Err Read) k = absurd k
-sends_flushed old mid new a n is low high got (Err (Write m)) k = (a, n, is, kept_more old mid new (take n a) got k)
-
 -- ---- After the end
 
 pub ends_flushed : (g : Opening) (now new : Option Text) (o : Outcome) → Ends g now o → Keeps now new → Ends g new o
 ends_flushed g now new o e k = (e.0, e.1, kept_more g.start now new (all_of e.0) e.2 k)
 
-pub ends_answered : (g : Opening) (now new : Option Text) (o : Outcome) → Ends g now o → (a : Text) → IsAnswer a → Appends now new a → Ends g new o
-ends_answered g now new o e a is more = (e.0 ++ Answer a ∷ [], whole_answered g e.0 o a is e.1, got_more g.start now new e.0 (Answer a) e.2 more)
-
 pub ends_failed : (g : Opening) (now new : Option Text) (o : Outcome) → Ends g now o → (e : TalkFault) → Flushes now new (Err e) → Fails g new e
 ends_failed g now new o x e f = fails_flush g now new x.0 (front_whole g x.0 o x.1) x.2 e f
-
-pub ends_unsent : (g : Opening) (now new : Option Text) (o : Outcome) → Ends g now o → (e : TalkFault) → Sends now new (Err e) → Fails g new e
-ends_unsent g now new o x e f = fails_sent g now new x.0 (front_whole g x.0 o x.1) x.2 e f
 
 -- ---- The line of an answer
 

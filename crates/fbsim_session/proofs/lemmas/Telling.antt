@@ -1,15 +1,14 @@
 -- What a session has told after each call.
-use Rattle.std.proofs.Common.{◌≡◌, ℕ, ◌+◌, ◌<◌, ◌≤◌, List, [], ◌∷◌, ◌++◌, length, take, All, Option, Some, None, Result, Ok, Err, refl, sym, ap, ◌∙◌, subst, arith, append_assoc, append-nil}
+use Rattle.std.proofs.Common.{◌≡◌, ℕ, ◌+◌, ◌<◌, ◌≤◌, List, [], ◌∷◌, ◌++◌, length, All, Option, Result, Ok, Err, refl, sym, ap, ◌∙◌, subst, arith, append_assoc, append-nil}
 use Rattle.std.specs.Io.KnownBytes.{Appends, Keeps}
 use Rattle.std.specs.Result.{IsErrAnd}
 use Rattle.std.proofs.KnownBytes.{Appends-nil, Keeps-refl}
 use Rattle.std.proofs.lemmas.List.Elements.{All-nil}
-use Rattle.fb_types.specs.Headline.{Inputs, IsTrace, system_of, stimuli_of}
+use Rattle.fb_types.specs.Headline.{IsTrace, system_of, stimuli_of}
 use Rattle.fb_types.specs.Machines.{Each}
-use Rattle.fb_types.specs.Simulation.{AtStop, Chain, Ending, Taken, ending_of, lines_of}
+use Rattle.fb_types.specs.Simulation.{AtStop, Chain, Taken, ending_of, lines_of}
 use Rattle.fb_types.specs.Text.{last_line, lines_text}
 use Rattle.fb_types.specs.declared.deploy.Stimulus.{Stimulus}
-use Rattle.fb_types.specs.declared.run.Form.{Form}
 use Rattle.fb_types.specs.declared.run.StopMark.{StopMark}
 use Rattle.fb_laws.specs.Sound.{AreGood}
 use Rattle.fb_laws.proofs.lemmas.soundness.Accepting.{sound_of}
@@ -37,7 +36,7 @@ use Rattle.fb_session.specs.declared.stage.Stage.{Stage}
 use Rattle.fb_session.specs.declared.stage.Stage.TheVariants as stage
 use Rattle.fb_session.proofs.lemmas.EndingIs.{told_is_front, whole_stopped}
 use Rattle.fb_session.proofs.lemmas.Texts.{text-append}
-use Rattle.fbsim_session.specs.Talks.{all_of, Answer, AreFront, AreWhole, Arrives, Concludes, Ends, Fails, Flushes, HasTold, IsAnswer, IsFaultOf, IsWell, Leads, Opening, Piece, Sends, Stays, Text, Trace, of_talk, text_in, told_of}
+use Rattle.fbsim_session.specs.Talks.{all_of, Answer, AreFront, AreWhole, Arrives, Concludes, Ends, Fails, Flushes, HasTold, IsAnswer, IsFaultOf, IsWell, Leads, Opening, Piece, Sends, Stays, Text, Trace, of_talk, told_of}
 use Rattle.fbsim_session.specs.declared.talking.TalkFault.{TalkFault}
 use Rattle.fbsim_session.specs.declared.talking.TalkFault.TheVariants.{Memory, Read, Write}
 use Rattle.fbsim_session.proofs.lemmas.Pieces.{fails_flush, fails_sent, fails_still, got_more, got_part, kept_more, told_answered, told_more, well_more}

@@ -13,7 +13,6 @@ use Rattle.fb_types.proofs.lemmas.names.NameLaws.{contains_from_any}
 use Rattle.fb_types.proofs.lemmas.lists.Options.{none_from_is_some}
 use Rattle.fb_types.proofs.lemmas.lists.Positions.{position-cons}
 use Rattle.fb_types.proofs.lemmas.lists.TwiceLaws.{Twice-append_right, Twice-both}
-use Rattle.fb_check_names.specs.Indexes.{index_in}
 use Rattle.fb_check_names.specs.Listed.{each_at, each_from, unless}
 use Rattle.fb_check_names.specs.Repeats.{further, last_index, later}
 use Rattle.fb_check_names.specs.declared.location.NotMappedAt.TheVariants.{Unlisted}

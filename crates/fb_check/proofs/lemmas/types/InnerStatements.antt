@@ -1,5 +1,5 @@
 -- The statements inside statements, each by its parts.
-use Rattle.std.proofs.Common.{◌≡◌, Bool, true, List, Option, ◌++◌, sym, ◌∙◌, ap, inl, inr}
+use Rattle.std.proofs.Common.{◌≡◌, Bool, true, List, Option, ◌++◌, ◌∙◌, ap, inl, inr}
 use Rattle.std.specs.Prelude.{◌⊎◌}
 use Rattle.fb_types.specs.Names.{Name}
 use Rattle.fb_types.specs.Syntax.{stmt_of}

@@ -24,6 +24,3 @@ pub inside_numbers :
     (lib : Library) (t : CompositeType) (o : Option NetworkNumbers) (x : NetworkNumbers) → o ≡ Some x → AreInside lib (block.Composite t) o
     → (n : OwnedNetwork) × (n.1 ≡ t.network) × IsNetwork lib n x
 inside_numbers lib t o x is inside = ((Some t, t.network), refl, subst (λ (q : Option NetworkNumbers). AreInside lib (block.Composite t) q) is inside)
-
-pub inside_none : (lib : Library) (t : CompositeType) (o : Option NetworkNumbers) → o ≡ None → AreInside lib (block.Composite t) o → ⊥
-inside_none lib t o is inside = subst (λ (q : Option NetworkNumbers). AreInside lib (block.Composite t) q) is inside

@@ -1,4 +1,4 @@
-use Rattle.std.proofs.Common.{◌≡◌, Bool, true, false, not, ◌&&◌, Option, None, sym, ◌∙◌, ap}
+use Rattle.std.proofs.Common.{◌≡◌, true, false, not, ◌&&◌, Option, None, sym, ◌∙◌}
 use Rattle.std.specs.Prelude.{if◌then◌else◌}
 use Rattle.fb_types.specs.declared.run.InputValue.{InputValue}
 use Rattle.fb_check.specs.Directory.{has_pair, held_slot, input_in}

@@ -5,10 +5,9 @@ use Rattle.std.specs.BTreeMap.{BTreeMap}
 use Rattle.std.proofs.lemmas.List.{length-map}
 use Rattle.std.proofs.lemmas.Option.{slice_get_read, same_Some}
 use Rattle.fb_types.specs.Names.{Name, same_name}
-use Rattle.fb_types.specs.Blocks.{Kind, Event, named, event_blocks, event_block_named, ports_of}
+use Rattle.fb_types.specs.Blocks.{Kind, Event, named, event_blocks, event_block_named, ports_of, variable_names}
 use Rattle.fb_types.specs.Flat.{kind_of, type_name, type_named, kind_of_instance}
 use Rattle.fb_types.specs.Repeated.{internals_of}
-use Rattle.fb_types.specs.Blocks.{variable_names}
 use Rattle.fb_types.specs.Unknown.{event_ins, event_outs, data_ins, data_outs}
 use Rattle.fb_types.specs.declared.library.BlockType.{BlockType}
 use Rattle.fb_types.specs.declared.library.Instance.{Instance}

@@ -1,5 +1,5 @@
 -- What is unknown in a declaration and a deployment, by its parts (E21).
-use Rattle.std.proofs.Common.{true, false, List, ◌++◌, Contains, sym, ◌∙◌, inl, inr}
+use Rattle.std.proofs.Common.{List, ◌++◌, Contains, sym, ◌∙◌, inl, inr}
 use Rattle.std.specs.Prelude.{flat_map}
 use Rattle.std.proofs.lemmas.Bool.{true≢false}
 use Rattle.std.proofs.lemmas.List.Elements.{Contains-append_left, Contains-append_right, Contains-append_cases}

@@ -1,4 +1,4 @@
-use Rattle.std.proofs.Common.{◌≡◌, ◌∙◌, List, length, ap, subst, sym}
+use Rattle.std.proofs.Common.{◌∙◌, List, length, ap, subst, sym}
 use Rattle.fb_expect.specs.Judging.{IsFollowed, rules_of}
 use Rattle.fb_expect.specs.declared.judging.Watcher.{Watcher}
 use Rattle.fb_expect.proofs.lemmas.traces.Gathering.{judges_all}

@@ -1,14 +1,11 @@
 -- Where a document is refused, its bytes are.
-use Rattle.std.proofs.Common.{◌≡◌, Bool, true, false, Option, Some, None, Result, Ok, Err, refl, sym, ap, subst}
-use Rattle.std.proofs.lemmas.Bool.{true≢false}
+use Rattle.std.proofs.Common.{◌≡◌, Option, Some, None, Result, Ok, Err, sym, subst}
 use Rattle.std.specs.Option.{option_or}
-use Rattle.std.specs.Prelude.{IfOk, IfSome, is_some, not}
+use Rattle.std.specs.Prelude.{IfOk, IfSome}
 use Rattle.toml.specs.Data.{Members}
-use Rattle.fb_expect.specs.Lists.{◌>>=◌, may}
-use Rattle.fb_expect.specs.Locations.{IsDocumentFault, IsLocation, is_bad}
+use Rattle.fb_expect.specs.Locations.{IsDocumentFault, IsLocation}
 use Rattle.fb_expect.specs.Reading.{document}
 use Rattle.fb_expect.specs.Words.{Text}
-use Rattle.fb_expect.specs.Written.{pattern_of}
 use Rattle.fb_expect.specs.declared.location.RulesLocation.{RulesLocation}
 use Rattle.fb_expect.specs.declared.location.RulesLocation.TheVariants as location
 use Rattle.fb_expect.specs.declared.pattern.Pattern.{Pattern}
@@ -36,12 +33,3 @@ one_of {A} P (Some a) y z is first second = subst (λ (o : Option A). IfSome o P
 
 pub the_one : {A : Type 0} (P : A → Type 0) (x y z : Option A) (a : A) → z ≡ Some a → z ≡ option_or x y → IfSome x P → IfSome y P → P a
 the_one {A} P x y z a found is first second = subst (λ (o : Option A). IfSome o P) found (one_of P x y z is first second)
-
--- a text that is there and no pattern
-none_read : (p : Option Pattern) → is_some (p >>= λ q. Some (Some q)) ≡ false → not (is_some p) ≡ true
-none_read None off = refl
-none_read (Some p) off = absurd (true≢false off)
-
-pub bad : (o : Option Text) → is_some (may pattern_of o) ≡ false → is_bad o ≡ true
-bad None off = absurd (true≢false off)
-bad (Some t) off = none_read (pattern_of t) off

@@ -1,6 +1,6 @@
 -- Rules that pair lines: which line answers which, with one more line.
 use Rattle.std.proofs.Common.{◌≡◌, ℕ, zero, suc, ◌+◌, ◌<◌, ◌≤◌, Bool, true, false, cond, List, [], ◌∷◌, ◌++◌, length, get_or, Some, None, refl, sym, ap, ap₂, subst, ◌∙◌, arith, inl, inr, filter}
-use Rattle.std.specs.Prelude.{◌⊎◌, Option, is_some, option_map, not, ◌&&◌, ◌||◌, ◌==◌, nat_lt, if◌then◌else◌, position, remove, unwrap_or}
+use Rattle.std.specs.Prelude.{Option, is_some, option_map, not, ◌&&◌, ◌||◌, nat_lt, if◌then◌else◌, position, remove, unwrap_or}
 use Rattle.std.specs.List.{list_any}
 use Rattle.std.proofs.Math.Seq.{get_or-append_seam}
 use Rattle.std.proofs.lemmas.Bool.{cases_lt, eq-eqb, le-ltb, lt-ltb, ne_eqb, true≢false}
@@ -27,18 +27,6 @@ below-same f g (suc n) same = ap₂ (λ (x y : Bool). x || y) (below-same f g n 
 pub first-same : (f g : ℕ → Bool) (n : ℕ) → ((i : ℕ) → i < n → f i ≡ g i) → first_below f n ≡ first_below g n
 first-same f g zero same = refl
 first-same f g (suc n) same = ap₂ (λ (o : Option ℕ) (b : Bool). or_last o b n) (first-same f g n (λ i lt. same i (omega arith))) (same n (omega arith))
-
-either : (x y : Bool) → (x || y) ≡ true → (x ≡ true) ⊎ (y ≡ true)
-either true y is = inl refl
-either false y is = inr is
-
-pub below-found : (f : ℕ → Bool) (n : ℕ) → some_below f n ≡ true → (i : ℕ) × (i < n) × (f i ≡ true)
-below-found f zero is = never false is refl
-below-found f (suc n) is =
-    elim (either (some_below f n) (f n) is) as (λ _. (i : ℕ) × (i < suc n) × (f i ≡ true)) [
-      | inl before ↦ (let r = below-found f n before in (r.0, (let lt = r.1 in omega arith), r.2))
-      | inr here ↦ (n, omega arith, here)
-    ]
 
 pub below-off : (f : ℕ → Bool) (n : ℕ) → ((i : ℕ) → i < n → f i ≡ false) → some_below f n ≡ false
 below-off f zero off = refl

@@ -1,13 +1,13 @@
 -- Ports that are marked by the remainders of their prints.
-use Rattle.std.proofs.Common.{◌≡◌, ◌≢◌, ℕ, ◌%◌, ◌<◌, Bool, true, false, List, length, get_or, replicate, set, take, refl, sym, ap, ◌∙◌, subst, arith, inl, inr}
-use Rattle.std.specs.Prelude.{Option, Some, None, ◌&&◌}
+use Rattle.std.proofs.Common.{◌≡◌, ◌≢◌, ℕ, ◌%◌, Bool, true, false, List, length, get_or, replicate, set, refl, sym, ap, ◌∙◌, arith, inl, inr}
+use Rattle.std.specs.Prelude.{◌&&◌}
 use Rattle.std.specs.Str.{bytes_eq}
 use Rattle.std.proofs.lemmas.Bool.{cases_Bool, cases_eq, cases_lt, false≢true}
 use Rattle.std.proofs.Math.ListN.{length-set}
 use Rattle.std.proofs.lemmas.List.{get_or-replicate, get_or-set_other, get_or-set_same, get_or_past}
 use Rattle.std.proofs.lemmas.Slice.Eq.{bytes_eq-Decides}
 use Rattle.fb_expect.specs.Events.{Event}
-use Rattle.fb_expect.specs.Passing.{Adds, AddsOptional, Covers, IsElsewhere, IsTimeless, PassesOver, is_marked}
+use Rattle.fb_expect.specs.Passing.{Adds, AddsOptional, Covers, IsElsewhere, IsTimeless, is_marked}
 use Rattle.fb_expect.specs.Patterns.{is_at, is_in, is_of, is_of_form, is_way}
 use Rattle.fb_expect.specs.Fingerprints.{fingerprint}
 use Rattle.fb_expect.specs.Words.{Text}

@@ -10,12 +10,10 @@ use Rattle.fb_expect.specs.Deciding.{Decides, Tallies}
 use Rattle.fb_expect.specs.Hits.{hit_of, hits_of}
 use Rattle.fb_expect.specs.Passing.{Covers}
 use Rattle.fb_expect.specs.Judging.{AllFollow, AreJudged, Concludes, Follows, IsJudged, IsVerdictBy, KnowsState, KnowsStateBy, Moves, StateOn, rules_of}
-use Rattle.fb_expect.specs.Paired.{KnowsPairs, PairHit, PairsEnd, PairsOn, pair_hit_of, pair_hits_of, within_of}
-use Rattle.fb_expect.specs.Paired.{AreBelow as ArePairsBelow}
+use Rattle.fb_expect.specs.Paired.{KnowsPairs, PairHit, PairsEnd, PairsOn, pair_hit_of, pair_hits_of, within_of, AreBelow as ArePairsBelow}
 use Rattle.fb_expect.specs.Sights.{sights_of}
 use Rattle.fb_expect.specs.Traces.{AreBelow, RiseFrom, last_tick, tick_of}
-use Rattle.fb_expect.specs.Watching.{IsBelow, Knows, Steps}
-use Rattle.fb_expect.specs.Watching.{Concludes as WatchConcludes}
+use Rattle.fb_expect.specs.Watching.{IsBelow, Knows, Steps, Concludes as WatchConcludes}
 use Rattle.fb_expect.specs.declared.ending.End.{End}
 use Rattle.fb_expect.specs.declared.hit.Hit.{Hit}
 use Rattle.fb_expect.specs.declared.judging.Judged.{Judged}

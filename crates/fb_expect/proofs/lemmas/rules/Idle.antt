@@ -1,17 +1,15 @@
 -- Lines that do not matter to a rule.
-use Rattle.std.proofs.Common.{◌≡◌, ℕ, ◌+◌, ◌<◌, Bool, true, false, List, [], ◌∷◌, ◌++◌, length, refl, sym, ap, ap₂, subst, ◌∙◌, arith, inl, inr}
-use Rattle.std.specs.Prelude.{◌⊎◌, Option, Some, None, not, ◌&&◌, ◌||◌, if◌then◌else◌}
+use Rattle.std.proofs.Common.{◌≡◌, ℕ, ◌+◌, Bool, true, false, List, [], ◌∷◌, ◌++◌, refl, sym, ap₂, subst, ◌∙◌, arith, inl, inr}
+use Rattle.std.specs.Prelude.{◌⊎◌, Option, Some, None, not, ◌&&◌, ◌||◌}
 use Rattle.std.specs.List.{list_all, list_any}
 use Rattle.fb_expect.specs.Events.{Event}
 use Rattle.fb_expect.specs.Hits.{hit_of, may_meet}
-use Rattle.fb_expect.specs.Judging.{Follows, Moves, StateOn}
+use Rattle.fb_expect.specs.Judging.{Moves, StateOn}
 use Rattle.fb_expect.specs.Paired.{pair_hit_of, within_of}
-use Rattle.fb_expect.specs.Passing.{Covers, IsElsewhere, IsElsewhereOf, IsTimeless, PassesOver, is_marked}
+use Rattle.fb_expect.specs.Passing.{IsElsewhere, IsElsewhereOf, IsTimeless, PassesOver, is_marked}
 use Rattle.fb_expect.specs.Patterns.{has_all, has_kinds, is_at, is_met, meets}
-use Rattle.fb_expect.specs.Rules.{window_of}
 use Rattle.fb_expect.specs.Sights.{may_sight, sight_of, sights_of}
-use Rattle.fb_expect.specs.Traces.{AreBelow}
-use Rattle.fb_expect.specs.Watching.{Knows, KnowsCount, Lacks, Steps}
+use Rattle.fb_expect.specs.Watching.{Knows, KnowsCount, Steps}
 use Rattle.fb_expect.specs.declared.hit.Hit.{Hit}
 use Rattle.fb_expect.specs.declared.judging.State.{State}
 use Rattle.fb_expect.specs.declared.judging.State.TheVariants.{Alone, Paired}

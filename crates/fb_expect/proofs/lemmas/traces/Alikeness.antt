@@ -1,5 +1,5 @@
 -- The values of variables of a line, word by word.
-use Rattle.std.proofs.Common.{◌≡◌, List, [], ◌∷◌, Some, None, nat_eq, refl, ap, ◌∙◌}
+use Rattle.std.proofs.Common.{◌≡◌, Some, None, nat_eq, refl, ap, ◌∙◌}
 use Rattle.std.specs.Prelude.{Option}
 use Rattle.std.specs.List.{slice_split}
 use Rattle.fb_types.specs.Names.{Name}

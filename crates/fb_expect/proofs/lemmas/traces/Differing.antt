@@ -1,5 +1,5 @@
 -- What is reported of two lines that differ.
-use Rattle.std.proofs.Common.{◌≡◌, ℕ, Bool, List, [], ◌∷◌, Result, Ok, Err, ◌∙◌}
+use Rattle.std.proofs.Common.{◌≡◌, ℕ, Bool, [], ◌∷◌, Result, Ok, Err, ◌∙◌}
 use Rattle.std.specs.Prelude.{IfOk}
 use Rattle.std.specs.Global.{Vec}
 use Rattle.fb_expect.specs.DifferenceReport.{IsKind, ShowsDifference, difference_line, difference_text, shown_line}

@@ -1,4 +1,4 @@
-use Rattle.std.proofs.Common.{List, ℕ, ◌≡◌, Bor, option_map, subst}
+use Rattle.std.proofs.Common.{List, ℕ, ◌≡◌, option_map, subst}
 use Rattle.toml.specs.Data.{get_member}
 use Rattle.toml.specs.View.{table_view, view}
 use Rattle.toml.proofs.Views.{table_get}

@@ -1,4 +1,4 @@
-use Rattle.std.proofs.Common.{rules, ◌≡◌, ℕ, ◌+◌, ◌-◌, Bool, length, ap₂, subst, sym, ◌∙◌, arith}
+use Rattle.std.proofs.Common.{rules, ◌≡◌, ℕ, ◌+◌, ◌-◌, length, ap₂, subst, sym, ◌∙◌, arith}
 use Rattle.fb_expect.specs.Parting.{AreAlike, HasPassed, are_alike}
 use Rattle.fb_expect.proofs.lemmas.texts.LinesOfTwo.{alike, ended, nothing, parted, passed-one, unlike}
 use Rattle.fb_expect.proofs.parting.parting.Goals as goal

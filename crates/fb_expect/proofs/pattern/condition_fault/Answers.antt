@@ -1,4 +1,4 @@
-use Rattle.std.proofs.Common.{◌≡◌, ℕ, zero, suc, ◌<◌, Bor, List, [], ◌∷◌, length, map, None, inl, inr, sym, ap, ◌∙◌, arith}
+use Rattle.std.proofs.Common.{◌≡◌, ℕ, zero, suc, ◌<◌, Bor, List, [], ◌∷◌, length, map, None, inl, inr, sym, ap, arith}
 use Rattle.std.specs.Prelude.{option_map}
 use Rattle.fb_expect.specs.PatternFaults.{IsConditionFault}
 use Rattle.fb_expect.specs.Words.{Text}

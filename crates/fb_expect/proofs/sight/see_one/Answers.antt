@@ -1,5 +1,5 @@
 use Rattle.std.specs.Prelude.{◌||◌}
-use Rattle.std.proofs.Common.{◌≡◌, ◌++◌, [], ◌∷◌, Bool, List, true, false, sym, ◌∙◌}
+use Rattle.std.proofs.Common.{◌≡◌, ◌++◌, [], ◌∷◌, List, true, false, sym, ◌∙◌}
 use Rattle.std.specs.List.{list_any}
 use Rattle.fb_expect.specs.Events.{Event, event_of}
 use Rattle.fb_expect.specs.Patterns.{has_all, has_kinds, is_at, meets}

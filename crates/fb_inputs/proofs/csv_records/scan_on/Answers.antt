@@ -1,4 +1,4 @@
-use Rattle.std.proofs.Common.{refl, arith}
+use Rattle.std.proofs.Common.{refl}
 use Rattle.fb_inputs.specs.Records.{begins_record, is_quote}
 use Rattle.fb_inputs.proofs.lemmas.positions.Counting.{counts, fits}
 use Rattle.fb_inputs.proofs.csv_records.scan_on.Goals as goal

@@ -1,10 +1,9 @@
 -- The stimulus of a row, by what is read of its fields.
 use Rattle.std.proofs.Common.{◌≡◌, Bool, true, false, not, ◌+◌, ◌<◌, ◌≤◌, ◌^◌, ℕ, min, List, [], ◌∷◌, Option, Some, None, Ok, Err, refl, sym, ◌∙◌, arith}
-use Rattle.std.specs.Prelude.{option_map, nat_le, nat_lt}
+use Rattle.std.specs.Prelude.{option_map, nat_le}
 use Rattle.std.proofs.lemmas.Bool.{le-leb, leb-false, leb-true, le-ltb, lt-leb, lt-ltb, not-false, not-true}
 use Rattle.std.proofs.lemmas.Option.{same_Some}
 use Rattle.fb_types.specs.declared.deploy.Setting.{Setting}
-use Rattle.fb_types.specs.declared.deploy.Stimulus.{Stimulus}
 use Rattle.fb_inputs.specs.declared.location.RowFault.{RowFault}
 use Rattle.fb_inputs.specs.declared.location.RowFault.TheVariants as fault
 use Rattle.fb_inputs.specs.declared.row.Draft.{Draft}

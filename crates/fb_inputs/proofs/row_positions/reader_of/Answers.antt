@@ -1,4 +1,4 @@
-use Rattle.std.proofs.Common.{◌≡◌, ℕ, ◌+◌, List, refl, sym, ◌∙◌, ap, zero-add}
+use Rattle.std.proofs.Common.{ℕ, List, refl, sym, ◌∙◌, ap, zero-add}
 use Rattle.std.specs.Prelude.{slice_get}
 use Rattle.csv.specs.Reading.{default_config, records, strip_bom}
 use Rattle.fb_inputs.specs.Readers.{rows_from}

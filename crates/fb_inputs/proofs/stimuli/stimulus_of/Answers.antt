@@ -1,4 +1,3 @@
-use Rattle.std.proofs.Common.{◌≡◌, None, Some}
 use Rattle.std.proofs.lemmas.Result.{err_from_is_err_and}
 use Rattle.fb_inputs.specs.StimuliLocations.{fault_of}
 use Rattle.fb_inputs.specs.declared.location.RowFault.{RowFault}

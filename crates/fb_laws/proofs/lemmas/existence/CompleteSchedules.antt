@@ -1,25 +1,19 @@
 -- If a schedule is complete there is a simulation.
-use Rattle.std.proofs.Common.{◌≡◌, ℕ, ◌<◌, None, List, ap}
-use Rattle.fb_types.specs.Machines.{Machine, Item}
+use Rattle.std.proofs.Common.{◌≡◌, ℕ, ◌<◌, None, List, ap, ◌+◌, ◌≤◌, ⊎_elim, arith}
+use Rattle.fb_types.specs.Machines.{Machine, Item, cut, at}
 use Rattle.fb_laws.specs.Facts.{IsLawful}
-use Rattle.fb_laws.specs.Worlds.{World, last, Simulation, IsOpening}
+use Rattle.fb_laws.specs.Worlds.{World, last, Simulation, IsOpening, IsCounted}
 use Rattle.fb_types.specs.Cores.{Core, CoreStep}
-use Rattle.fb_types.specs.Schedules.{IsSchedule}
+use Rattle.fb_types.specs.Schedules.{IsSchedule, IsLeastStop, IsAtHorizon}
 use Rattle.fb_laws.proofs.lemmas.schedules.Start.{opening}
-use Rattle.fb_laws.specs.Worlds.{IsCounted}
-use Rattle.fb_types.specs.Schedules.{IsLeastStop, IsAtHorizon}
-use Rattle.std.proofs.Common.{◌+◌, ◌≤◌, ⊎_elim, arith}
-use Rattle.fb_types.specs.Machines.{cut}
-use Rattle.fb_types.specs.Machines.{at}
 use Rattle.fb_types.proofs.lemmas.lists.Lookups.{none_some, option_cases}
 use Rattle.fb_laws.proofs.lemmas.resources.Chains.{cut_all}
 use Rattle.fb_types.proofs.lemmas.lists.EachLaws.{each_map}
 use Rattle.fb_laws.proofs.lemmas.resources.FamilyEnds.{story, Story, stop_stops}
 use Rattle.fb_laws.proofs.lemmas.schedules.Keeps.{passed, limit, done_of, passed_limit, known, Known, Inv}
-use Rattle.fb_laws.proofs.lemmas.resources.Stops.{HasStop}
+use Rattle.fb_laws.proofs.lemmas.resources.Stops.{HasStop, has_cut, has_whole, sim_stops}
 use Rattle.fb_laws.proofs.lemmas.existence.FamilyRuns.{from_family}
 use Rattle.fb_laws.proofs.lemmas.schedules.Reached.{both_take, passed_live, inv_after, reached_by, runs_after}
-use Rattle.fb_laws.proofs.lemmas.resources.Stops.{has_cut, has_whole, sim_stops}
 
 module _ (M : Machine) where
   -- there is a simulation if a schedule is complete

@@ -7,8 +7,7 @@ use Rattle.fb_types.specs.Keys.{Precedes, same_key, or_else, found, without, cha
 use Rattle.fb_types.specs.Machines.{Machine, Item, Local, Each, waiting, TakesAlone, after, Chain, end, Rests, Run, sent_by, cut}
 use Rattle.fb_laws.specs.Facts.{IsLawful}
 use Rattle.fb_types.specs.Takes.{with_at}
-use Rattle.fb_laws.specs.Worlds.{World, TakesLeast, next, Simulation, IsOpening, view}
-use Rattle.fb_laws.specs.Worlds.{IsCounted}
+use Rattle.fb_laws.specs.Worlds.{World, TakesLeast, next, Simulation, IsOpening, view, IsCounted}
 use Rattle.fb_types.proofs.lemmas.events.KeyLaws.{same_key_is}
 use Rattle.fb_types.proofs.lemmas.lists.Lookups.{before_cases, before_irrefl, key_cases, before_tick, tick_before, before_trans, same_cases, none_some, none_since, option_cases, or_else_none, or_else_nones, or_else_parts, found-append, without_other}
 use Rattle.fb_laws.proofs.lemmas.resources.Chains.{cut_run}

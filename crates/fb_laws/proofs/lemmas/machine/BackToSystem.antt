@@ -4,13 +4,12 @@ use Rattle.std.specs.Prelude.{All}
 use Rattle.std.proofs.lemmas.List.Elements.{All-nil, All-cons}
 use Rattle.fb_types.specs.Keys.{timer_key}
 use Rattle.fb_types.specs.Systems.{System}
-use Rattle.fb_types.specs.States.{State, Config, Meter, Event}
+use Rattle.fb_types.specs.States.{State, Config, Meter, Event, Line}
 use Rattle.fb_types.specs.Takes.{Effect, Takes, TakesWith, begun, world_of as reacting, effect_of, out_of_steps, with_at}
 use Rattle.fb_types.specs.Simulation as sim
-use Rattle.fb_types.specs.Simulation.{Stimulus, Taken, IsSimulation, opening, NothingAfter, Ending, AtHorizon, AtStop, ending_of, RestsAt}
+use Rattle.fb_types.specs.Simulation.{Stimulus, Taken, IsSimulation, opening, NothingAfter, Ending, RestsAt}
 use Rattle.fb_types.specs.Machines.{Item, Each, Outcome}
 use Rattle.fb_types.specs.Parts.{Part, part_of, outcome_of, machine, item_of, items_of, IsAtResource}
-use Rattle.fb_types.specs.States.{Line}
 use Rattle.fb_types.specs.declared.key.Key.{Key}
 use Rattle.fb_types.specs.declared.value.Reason.{Reason}
 use Rattle.fb_laws.specs.Sound.{IsSound}

@@ -7,7 +7,7 @@ use Rattle.fb_types.specs.Systems.{System}
 use Rattle.fb_types.specs.States.{Config, Agenda}
 use Rattle.fb_types.specs.Takes.{Takes, with_at, agenda_after}
 use Rattle.fb_types.specs.Simulation as sim
-use Rattle.fb_types.specs.Simulation.{Stimulus, Taken, IsSimulation, opening, opening_events, opening_agenda, NothingAfter, Ending, AtHorizon, AtStop, ending_by, ending_of, RestsAt}
+use Rattle.fb_types.specs.Simulation.{Taken, NothingAfter, AtHorizon, AtStop, ending_by, ending_of}
 use Rattle.fb_types.specs.Machines.{Machine, Each, cut}
 use Rattle.fb_types.specs.Parts.{Part, part_of, machine, item_of, items_of, IsAtResource}
 use Rattle.fb_types.specs.Histories.{takings_below, stop_of}

@@ -1,29 +1,20 @@
 -- Where the simulation stops, seen from one resource.
-use Rattle.fb_types.specs.Machines.{lines_of}
-use Rattle.fb_types.specs.Merges.{IsMerge}
-use Rattle.fb_laws.specs.Worlds.{IsCounted, taken_at, reach}
-use Rattle.fb_laws.proofs.lemmas.resources.ResourceAlone.{agree_run, at_cut}
-use Rattle.fb_laws.proofs.lemmas.schedules.Lines.{sim_merge, merge_same}
+use Rattle.fb_types.specs.Machines.{lines_of, Machine, Item, Local, Each, after, Chain, end, Run, cut, at}
+use Rattle.fb_types.specs.Merges.{IsMerge, lines_before}
+use Rattle.fb_laws.specs.Worlds.{IsCounted, taken_at, reach, NotBefore, World, Simulation, IsOpening, view, StopsAt, apart, Simulates, next}
+use Rattle.fb_laws.proofs.lemmas.resources.ResourceAlone.{agree_run, at_cut, sim_cut}
+use Rattle.fb_laws.proofs.lemmas.schedules.Lines.{sim_merge, merge_same, Rises, lines_of_cut, sim_here}
 use Rattle.std.proofs.Common.{◌≡◌, ℕ, ◌+◌, ◌<◌, ◌≤◌, Some, None, List, [], ◌∷◌, refl, sym, ap, ◌∙◌, subst, inl, inr, ⊎_elim, arith}
 use Rattle.std.proofs.lemmas.Bool.{cond-true, lt-ltb}
 use Rattle.fb_types.specs.declared.key.Key.{Key}
-use Rattle.fb_types.specs.Machines.{Machine, Item, Local, Each, after, Chain, end, Run, cut}
 use Rattle.fb_laws.specs.Facts.{IsLawful}
-use Rattle.fb_laws.specs.Worlds.{NotBefore, World, Simulation, IsOpening, view, StopsAt}
-use Rattle.fb_types.specs.Machines.{at}
-use Rattle.fb_laws.specs.Worlds.{apart}
-use Rattle.fb_types.proofs.lemmas.lists.Lookups.{none_some, option_cases}
+use Rattle.fb_types.proofs.lemmas.lists.Lookups.{none_some, option_cases, tick_before}
 use Rattle.fb_laws.proofs.lemmas.resources.Chains.{Agree, run_unique, cut_run, cut_all}
 use Rattle.fb_types.proofs.lemmas.lists.EachLaws.{each_map}
 use Rattle.fb_laws.proofs.lemmas.resources.Families.{start}
 use Rattle.fb_laws.proofs.lemmas.resources.FamilyEnds.{Story, story, stop_stops, reach_high, reach_least}
 use Rattle.fb_laws.proofs.lemmas.resources.Stops.{HasStop, has_cut, has_at, has_whole, has_each, chain_stops, sim_one, sim_stops, stop_has}
-use Rattle.fb_laws.specs.Worlds.{Simulates, next}
-use Rattle.fb_types.specs.Merges.{lines_before}
-use Rattle.fb_types.proofs.lemmas.lists.Lookups.{tick_before}
 use Rattle.fb_laws.proofs.lemmas.resources.Global.{sim_late, next_late, least_fair}
-use Rattle.fb_laws.proofs.lemmas.resources.ResourceAlone.{sim_cut}
-use Rattle.fb_laws.proofs.lemmas.schedules.Lines.{Rises, lines_of_cut, sim_here}
 
 module _ (M : Machine) where
   -- it stops at (m, r) exactly if the takes of r alone below m + 1 end with a reason, which is then the simulation's

@@ -2,15 +2,12 @@
 use Rattle.std.proofs.Common.{◌≡◌, ℕ, ◌+◌, ◌<◌, ◌≤◌, Some, None, List, sym, ap, ◌∙◌, subst, ⊎_elim, arith}
 use Rattle.std.proofs.lemmas.Bool.{cases_lt}
 use Rattle.fb_types.specs.declared.key.Key.{Key}
-use Rattle.fb_types.specs.Machines.{Machine, Item, Each, cut}
+use Rattle.fb_types.specs.Machines.{Machine, Item, Each, cut, at}
 use Rattle.fb_laws.specs.Facts.{IsLawful}
-use Rattle.fb_laws.specs.Worlds.{World, last, Simulation, IsOpening, reach, StopsAt}
-use Rattle.fb_types.specs.Machines.{at}
+use Rattle.fb_laws.specs.Worlds.{World, last, Simulation, IsOpening, reach, StopsAt, IsCounted}
 use Rattle.fb_types.specs.Cores.{CoreStep, Core}
-use Rattle.fb_types.specs.Schedules.{IsSchedule}
+use Rattle.fb_types.specs.Schedules.{IsSchedule, IsLeastStop, IsAtHorizon}
 use Rattle.fb_laws.proofs.lemmas.schedules.Start.{opening}
-use Rattle.fb_laws.specs.Worlds.{IsCounted}
-use Rattle.fb_types.specs.Schedules.{IsLeastStop, IsAtHorizon}
 use Rattle.fb_types.proofs.lemmas.lists.Lookups.{none_some, option_cases}
 use Rattle.fb_laws.proofs.lemmas.resources.Chains.{cut_all}
 use Rattle.fb_types.proofs.lemmas.lists.EachLaws.{each_map}

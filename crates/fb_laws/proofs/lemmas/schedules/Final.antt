@@ -1,23 +1,20 @@
 -- The final lines of a core are lines of the simulation.
 use Rattle.std.proofs.Common.{◌≡◌, ℕ, ◌+◌, ◌<◌, ◌≤◌, max, Option, Some, None, List, sym, ap, ◌∙◌, subst, ⊎_elim, arith}
 use Rattle.std.proofs.lemmas.Bool.{cases_lt}
-use Rattle.fb_types.specs.Machines.{Machine, Item, Each, Chain, lines_of, cut}
+use Rattle.fb_types.specs.Machines.{Machine, Item, Each, Chain, lines_of, cut, at}
 use Rattle.fb_laws.specs.Facts.{IsLawful}
-use Rattle.fb_laws.specs.Worlds.{World, Simulation, IsOpening, view, reach, StopsAt}
-use Rattle.fb_types.specs.Machines.{at}
+use Rattle.fb_laws.specs.Worlds.{World, Simulation, IsOpening, view, reach, StopsAt, IsCounted}
 use Rattle.fb_types.specs.Cores.{CoreStep, Core, IsFloor, floor, floor_of}
 use Rattle.fb_types.specs.Schedules.{IsFinal, IsSchedule}
 use Rattle.fb_laws.proofs.lemmas.schedules.Start.{opening}
-use Rattle.fb_laws.specs.Worlds.{IsCounted}
 use Rattle.fb_types.specs.Merges.{lines_at, lines_before}
 use Rattle.fb_laws.proofs.lemmas.resources.Chains.{cut_all}
 use Rattle.fb_types.proofs.lemmas.lists.EachLaws.{each_map}
 use Rattle.fb_laws.proofs.lemmas.resources.Families.{start}
 use Rattle.fb_laws.proofs.lemmas.resources.FamilyEnds.{Story, story, reach_high, reach_least}
-use Rattle.fb_laws.proofs.lemmas.resources.Stops.{HasStop}
+use Rattle.fb_laws.proofs.lemmas.resources.Stops.{HasStop, has_cut, has_at, has_each, chain_stops, chain_one, stop_has, sim_counted}
 use Rattle.fb_laws.proofs.lemmas.schedules.Keeps.{passed, done_of, floor_max, Inv}
 use Rattle.fb_laws.proofs.lemmas.schedules.Reached.{both_take, reached_by, runs_after, inv_after}
-use Rattle.fb_laws.proofs.lemmas.resources.Stops.{has_cut, has_at, has_each, chain_stops, chain_one, stop_has, sim_counted}
 use Rattle.fb_laws.proofs.lemmas.schedules.Lines.{sim_here, chain_here, lines_of_at, lines_of_cut, chain_rises}
 
 floor_done : {R : Type 0} (stop : Option R) (clock m n : ℕ) → m ≤ n → floor_of stop clock m ≤ max (done_of stop clock) n

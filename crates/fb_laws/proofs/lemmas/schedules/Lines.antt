@@ -3,16 +3,13 @@ use Rattle.std.proofs.Common.{◌≡◌, ℕ, ◌<◌, ◌≤◌, ◌⊎◌, Boo
 use Rattle.std.specs.Prelude.{nat_lt, ◌==◌, filter}
 use Rattle.std.proofs.lemmas.Bool.{cases_lt, cases_eq, cond-true, cond-false, lt-ltb, le-ltb, eq-eqb, ne_eqb}
 use Rattle.fb_types.specs.declared.key.Key.{Key}
-use Rattle.fb_laws.specs.Worlds.{IndexUpTo}
-use Rattle.fb_types.specs.Machines.{Machine, Item, Local, Each, after, Chain, lines_of, cut}
+use Rattle.fb_laws.specs.Worlds.{IndexUpTo, World, next, Simulates, IsCounted}
+use Rattle.fb_types.specs.Machines.{Machine, Item, Local, Each, after, Chain, lines_of, cut, at}
 use Rattle.fb_laws.specs.Facts.{IsLawful}
-use Rattle.fb_laws.specs.Worlds.{World, next, Simulates}
-use Rattle.fb_types.specs.Machines.{at}
 use Rattle.fb_types.specs.Merges.{NotAfter, IsInOrder, lines_at, lines_before, IsMerge}
 use Rattle.fb_laws.proofs.lemmas.resources.Chains.{cut_in, cut_out}
 use Rattle.fb_types.proofs.lemmas.lists.EachLaws.{each_map, each_append}
 use Rattle.fb_laws.proofs.lemmas.takings.NoLesserTick.{chain_late, late_after, takes_fair, takes_late}
-use Rattle.fb_laws.specs.Worlds.{IsCounted}
 use Rattle.fb_laws.proofs.lemmas.resources.FamilyEnds.{sim_after}
 use Rattle.fb_laws.proofs.lemmas.resources.Stops.{sim_counted}
 use Rattle.fb_laws.proofs.lemmas.resources.Global.{at_mine, at_other}

@@ -4,13 +4,11 @@ use Rattle.std.specs.Prelude.{if◌then◌else◌, nat_lt}
 use Rattle.fb_types.specs.declared.key.Key.{Key}
 use Rattle.fb_types.specs.Machines.{Machine, Item, lines_of}
 use Rattle.fb_laws.specs.Facts.{IsLawful}
-use Rattle.fb_laws.specs.Worlds.{World, Simulation, IsOpening, reach}
+use Rattle.fb_laws.specs.Worlds.{World, Simulation, IsOpening, reach, IsCounted}
 use Rattle.fb_types.specs.Merges.{lines_before, IsMerge}
 use Rattle.fb_types.specs.Cores.{CoreStep}
-use Rattle.fb_types.specs.Schedules.{IsSchedule}
+use Rattle.fb_types.specs.Schedules.{IsSchedule, IsLeastStop, IsAtHorizon}
 use Rattle.fb_laws.proofs.lemmas.schedules.Start.{opening}
-use Rattle.fb_laws.specs.Worlds.{IsCounted}
-use Rattle.fb_types.specs.Schedules.{IsLeastStop, IsAtHorizon}
 use Rattle.fb_laws.proofs.lemmas.schedules.Reached.{reached_by, runs_after, inv_after}
 use Rattle.fb_laws.proofs.lemmas.schedules.Complete.{ends_alike, stops_alike}
 use Rattle.fb_laws.proofs.lemmas.schedules.Lines.{merge_same, sim_merge, lines_of_cut, chain_here, chain_rises}

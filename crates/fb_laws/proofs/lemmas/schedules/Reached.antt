@@ -1,13 +1,11 @@
 -- Each resource by itself is at its history, whatever the schedule.
 use Rattle.std.proofs.Common.{◌≡◌, ℕ, ◌+◌, ◌<◌, ◌≤◌, min, max, None, List, [], sym, ap, ◌∙◌, arith}
-use Rattle.fb_types.specs.Machines.{Machine, Item, end, lines_of, cut}
+use Rattle.fb_types.specs.Machines.{Machine, Item, end, lines_of, cut, at}
 use Rattle.fb_laws.specs.Facts.{IsLawful}
-use Rattle.fb_laws.specs.Worlds.{World, Simulation, IsOpening, view}
-use Rattle.fb_types.specs.Machines.{at}
+use Rattle.fb_laws.specs.Worlds.{World, Simulation, IsOpening, view, IsCovered, taken_at, left_at}
 use Rattle.fb_types.specs.Cores.{Member, CoreStep, Core}
 use Rattle.fb_types.specs.Schedules.{IsSchedule, core_after, taken_after}
 use Rattle.fb_laws.proofs.lemmas.schedules.Start.{opening}
-use Rattle.fb_laws.specs.Worlds.{IsCovered, taken_at, left_at}
 use Rattle.fb_types.specs.Histories.{IsSameAt}
 use Rattle.fb_laws.proofs.lemmas.resources.Chains.{cut_all, cut_cut}
 use Rattle.fb_types.proofs.lemmas.lists.EachLaws.{each_map}

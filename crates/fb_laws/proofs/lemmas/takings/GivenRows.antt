@@ -20,7 +20,7 @@ use Rattle.fb_types.proofs.lemmas.lists.Lookups.{before_irrefl, before_trans, fo
 use Rattle.fb_types.proofs.lemmas.lists.TakeLaws.{found-put}
 use Rattle.fb_laws.proofs.lemmas.takings.KeysRise.{raised_numbered}
 use Rattle.fb_laws.proofs.lemmas.takings.Posting.{each_found}
-use Rattle.fb_laws.specs.GivenRows.{Follows, HasMore, RowsMayFollow, row_event}
+use Rattle.fb_laws.specs.GivenRows.{HasMore, RowsMayFollow, row_event}
 use Rattle.fb_laws.proofs.lemmas.takings.RowsAndTimers.{stimuli_push, timer_class}
 
 -- ---- What a taking does not touch

@@ -1,5 +1,5 @@
 -- What an event block remembers gives its data outputs values of their types.
-use Rattle.std.proofs.Common.{◌≡◌, ◌≤◌, ◌<◌, ◌+◌, ℕ, refl, sym, subst, ap, ltb, leb, nat_le, Bool, true, false, cond, List, [], ◌∷◌, Some, codes, arith}
+use Rattle.std.proofs.Common.{◌≡◌, ◌≤◌, ◌<◌, ◌+◌, ℕ, refl, subst, ltb, leb, nat_le, Bool, true, false, cond, List, [], ◌∷◌, Some, codes, arith}
 use Rattle.std.proofs.lemmas.Bool.{ltb-true, lt-ltb, le-leb, and_from}
 use Rattle.fb_types.specs.Names.{Name, same_name}
 use Rattle.fb_types.specs.Values.{Values, fits, whole}

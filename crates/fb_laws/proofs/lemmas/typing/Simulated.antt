@@ -1,5 +1,5 @@
 -- In a simulation each variable holds a value of its type.
-use Rattle.std.proofs.Common.{ℕ, zero, suc, ◌+◌, refl, sym, subst, eqb, Bool, true, false, cond, List, [], ◌∷◌, Option, Some, None, All}
+use Rattle.std.proofs.Common.{ℕ, zero, suc, ◌+◌, sym, subst, eqb, Bool, true, false, cond, List, [], ◌∷◌, Option, Some, None, All}
 use Rattle.std.specs.Prelude.{flat_map}
 use Rattle.std.proofs.lemmas.List.Elements.{All-nil, All-cons, All-head, All-tail, All-append, All-push}
 use Rattle.fb_types.specs.Names.{Path, Port}

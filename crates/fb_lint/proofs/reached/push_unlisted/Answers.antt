@@ -1,7 +1,6 @@
 use Rattle.std.proofs.Common.{◌++◌, Bool, not, ◌∙◌, ap}
-use Rattle.fb_lint.specs.Findings.{when}
+use Rattle.fb_lint.specs.Findings.{when, names_are}
 use Rattle.fb_lint.specs.declared.warning.Warning.TheVariants.{UnreachedState}
-use Rattle.fb_lint.specs.Findings.{names_are}
 use Rattle.fb_lint.specs.Reached as spec
 use Rattle.fb_lint.proofs.lemmas.WarningLists.{all_found, next_found}
 use Rattle.fb_lint.proofs.reached.push_unlisted.Goals as goal

@@ -2,10 +2,9 @@ use Rattle.std.proofs.Common.{◌++◌, List, refl, sym, ◌∙◌, ap}
 use Rattle.fb_types.specs.Syntax.{Expr, Stmts}
 use Rattle.fb_types.specs.Unknown.{mentions}
 use Rattle.fb_types.specs.declared.text.Choice.{Choice}
-use Rattle.fb_check.specs.types.Trees.{choice_of}
+use Rattle.fb_check.specs.types.Trees.{choice_of, choices_of}
 use Rattle.fb_check.proofs.lemmas.types.Meanings.{choice_says}
 use Rattle.fb_check.specs.types.Mentions.{meant_all}
-use Rattle.fb_check.specs.types.Trees.{choices_of}
 use Rattle.fb_lint.specs.Statements.{read_by_conditions}
 use Rattle.fb_check.proofs.lemmas.types.GrowingLists.{list_added, one_added}
 use Rattle.fb_lint.proofs.statements.push_conditions.Goals as goal

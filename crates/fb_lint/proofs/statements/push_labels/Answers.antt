@@ -2,9 +2,8 @@ use Rattle.std.proofs.Common.{◌++◌, List, refl, sym, ◌∙◌, ap}
 use Rattle.fb_types.specs.Syntax.{Stmts}
 use Rattle.fb_types.specs.declared.text.Branch.{Branch}
 use Rattle.fb_types.specs.declared.text.Label.{Label}
-use Rattle.fb_check.specs.types.Trees.{branch_of}
+use Rattle.fb_check.specs.types.Trees.{branch_of, branches_of}
 use Rattle.fb_check.proofs.lemmas.types.Meanings.{branch_says}
-use Rattle.fb_check.specs.types.Trees.{branches_of}
 use Rattle.fb_lint.specs.Statements.{labels_in}
 use Rattle.fb_check.proofs.lemmas.types.GrowingLists.{list_added, one_added}
 use Rattle.fb_lint.proofs.statements.push_labels.Goals as goal

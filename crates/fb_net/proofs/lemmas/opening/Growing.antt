@@ -1,8 +1,7 @@
 -- The blocks of a resource grow, one instance after the other, each with its components.
-use Rattle.std.proofs.Common.{◌≡◌, ℕ, ◌<◌, ◌≤◌, ◌+◌, ◌-◌, zero, suc, Bool, true, List, [], ◌∷◌, ◌++◌, map, length, take, get_or, nat_eq, Option, Some, None, refl, sym, ◌∙◌, ap, subst, inl, inr, arith}
+use Rattle.std.proofs.Common.{◌≡◌, ℕ, ◌<◌, ◌≤◌, ◌+◌, ◌-◌, zero, suc, List, [], ◌∷◌, ◌++◌, length, take, get_or, Option, Some, None, refl, sym, ◌∙◌, ap, subst, inl, inr, arith}
 use Rattle.std.specs.Prelude.{◌⊎◌, option_map, option_and_then, slice_get}
 use Rattle.std.proofs.lemmas.Option.{slice_get-get_or, slice_get_within, slice_get-map, same_Some, none-some}
-use Rattle.std.proofs.lemmas.List.{length-map}
 use Rattle.fb_types.specs.Names.{Path}
 use Rattle.fb_types.specs.Blocks.{Kind, Basic, Event, Composite}
 use Rattle.fb_types.specs.Flat.{instance_at, kind_of_instance, inside, network_at, network_of}

@@ -8,7 +8,6 @@ use Rattle.fb_types.specs.Headline.{Inputs, system_of}
 use Rattle.fb_types.specs.Names.{Path, Port, same_path}
 use Rattle.fb_types.specs.Numbers.{emission_of, event_at, line_of, path_at, ports_at}
 use Rattle.fb_types.specs.Reactions.{Outcome, ReactsAt, World, charted, emitted, emitted_all, sampled, settled, start_of, state_of, taking, with_block}
-use Rattle.fb_types.specs.States.{Line}
 use Rattle.fb_types.specs.States as model
 use Rattle.fb_types.specs.Systems.{System}
 use Rattle.fb_types.specs.Values.{Values}

@@ -12,10 +12,9 @@ use Rattle.fb_read.specs.declared.token.Mark.{Mark}
 use Rattle.fb_read.specs.declared.token.Mark.TheVariants as mark
 use Rattle.fb_read.specs.declared.expression.Nested.{Nested}
 use Rattle.fb_read.specs.Tokens.{Tokens}
-use Rattle.fb_read.specs.Parser.{Outcome, Parser, too_deep, and_then, ◌>>=◌, pure, refuse, eat, expect, name, literal, sees_name, rest_of}
+use Rattle.fb_read.specs.Parser.{Outcome, Parser, too_deep, and_then, ◌>>=◌, pure, refuse, eat, expect, name, literal, sees_name, rest_of, after, sees}
 use Rattle.fb_read.specs.Operators.{next_operator, begins_expression, loosest}
 use Rattle.fb_read.specs.Expressions.{leaf, around, group, prefixed, arguments_from, arguments, call, named, primary, unary, operated, climb, level_at, nested_expression, expression}
-use Rattle.fb_read.specs.Parser.{after, sees}
 use Rattle.fb_read.specs.Nesting.{most_nesting}
 use Rattle.fb_read.proofs.lemmas.rules.Steps.{after-seen, mark-shorter, seen}
 use Rattle.fb_read.proofs.lemmas.rules.Lengths.{level-shorter}

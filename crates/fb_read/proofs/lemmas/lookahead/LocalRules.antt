@@ -6,8 +6,7 @@ use Rattle.fb_types.specs.declared.value.Value.TheVariants as value
 use Rattle.fb_read.specs.declared.token.Mark.{Mark}
 use Rattle.fb_read.specs.declared.token.Mark.TheVariants as mark
 use Rattle.fb_read.specs.Nodes.{port_of, connection_of, parameter_of, instance_of, network_of, application_of, event_of, declaration_of, ports_of}
-use Rattle.fb_read.specs.Parser.{separated_from}
-use Rattle.fb_read.specs.Parser.{Parser, and_then, ◌>>=◌, pure, eat, expect, name, ty_name, whole, literal, separated}
+use Rattle.fb_read.specs.Parser.{separated_from, Parser, and_then, ◌>>=◌, pure, eat, expect, name, ty_name, whole, literal, separated}
 use Rattle.fb_read.specs.Network.{port, connection, constant, parameter, parameters, instance, network, application}
 use Rattle.fb_read.specs.Ports.{with_names, event, initial, declaration, variables_of, variables, ports}
 use Rattle.fb_read.proofs.lemmas.rules.Steps.{both_ok, expected, named, mark-shorter, name-shorter}

@@ -9,7 +9,7 @@ use Rattle.fb_read.specs.declared.token.Mark.{Mark}
 use Rattle.fb_read.specs.Tokens.{Tokens}
 use Rattle.fb_read.specs.Parser.{Outcome, Parser, syntax, too_deep, and_then, ◌>>=◌, eat, is_mark, after, expect, name, name_if, word, ty_of, typed, ty_name, whole, one, literal}
 use Rattle.std.proofs.lemmas.List.{length-append}
-use Rattle.fb_read.proofs.lemmas.lookahead.OneTokenAhead.{IsFlat, Local, Nests, Step, taken, kept, denied, on, stepped, looks-bind, looks-cond, local-step, local-as}
+use Rattle.fb_read.proofs.lemmas.lookahead.OneTokenAhead.{Local, Nests, Step, taken, kept, denied, on, stepped, looks-bind, looks-cond, local-step, local-as}
 
 -- ---- one token
 

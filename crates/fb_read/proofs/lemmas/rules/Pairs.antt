@@ -14,7 +14,7 @@ use Rattle.fb_read.specs.Network.{port, connection, constant, parameter, paramet
 use Rattle.fb_read.specs.Ports.{declaration, initial}
 use Rattle.fb_read.specs.Charts.{condition, transition}
 use Rattle.fb_read.specs.Expressions.{expression}
-use Rattle.fb_read.specs.Statements.{assignment, block, bounds, branches, case_body, case_statement, cases, for_end, for_to, for_statement, loop_body, others, simple, step}
+use Rattle.fb_read.specs.Statements.{assignment, bounds, branches, case_body, case_statement, cases, for_end, for_to, for_statement, loop_body, others, simple, step}
 
 -- a mark and a rule after what was found, and what continues with both
 after_then : {A B C : Type 0} (x : A) (k : Mark) (q : Parser B) (go : A → B → Parser C) (ts : Tokens)

@@ -16,7 +16,6 @@ use Rattle.fb_read.specs.Fits.{fits_library}
 use Rattle.fb_read.specs.Whole.{most_bytes, IsDerived, IsLibraryText, IsNesting, HasTokenFault, HasTokens, RefusesWhere, IsMemory, IsGrammarFault, ended, DeclaresOne}
 use Rattle.fb_read.specs.declared.read.Unread.{Unread}
 use Rattle.fb_read.specs.declared.read.Unread.TheVariants as unread
-use Rattle.fb_read.specs.declared.refused.ReadFault.{ReadFault}
 use Rattle.fb_read.specs.declared.refused.ReadFault.TheVariants as fault
 use Rattle.fb_read.specs.declared.refused.TextFault.{TextFault}
 use Rattle.fb_read.specs.declared.refused.TextFault.TheVariants as text_fault

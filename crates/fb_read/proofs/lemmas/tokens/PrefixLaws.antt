@@ -1,5 +1,5 @@
 -- The tokens of the bytes of a text up to the end of one of its tokens are those up to it.
-use Rattle.std.proofs.Common.{◌≡◌, ℕ, zero, suc, ◌+◌, ◌-◌, ◌<◌, ◌≤◌, Bool, true, false, cond, eqb, List, [], ◌∷◌, ◌++◌, length, take, drop, get_or, Option, Some, None, Ok, refl, sym, ap, subst, ◌∙◌, append_assoc, inl, inr, arith}
+use Rattle.std.proofs.Common.{◌≡◌, ℕ, zero, suc, ◌+◌, ◌-◌, ◌<◌, ◌≤◌, Bool, true, false, cond, eqb, List, [], ◌∷◌, ◌++◌, length, take, drop, Option, Some, None, Ok, refl, sym, ap, subst, ◌∙◌, append_assoc, inl, inr, arith}
 use Rattle.std.specs.Prelude.{◌&&◌}
 use Rattle.std.proofs.lemmas.Bool.{and_parts, cases_lt, eqb-true, false_from_ne_true, true≢false}
 use Rattle.std.proofs.lemmas.List.{drop_all, drop-take, get_or-take, get_or_past, length-drop, length-take, length-take-le, take-append-drop, take-take}
@@ -13,7 +13,7 @@ use Rattle.fb_read.specs.Front.{front}
 use Rattle.fb_read.specs.Tokens.{tokens_of, after_mark, AreTokens}
 use Rattle.fb_read.specs.Tokens as tokens
 use Rattle.fb_read.specs.Located.{AreLocated, no_more, then_token}
-use Rattle.fb_read.specs.Longest.{BeginsLiteral, IsCut}
+use Rattle.fb_read.specs.Longest.{IsCut}
 use Rattle.fb_read.specs.Refusals.{IsNext}
 use Rattle.fb_read.proofs.lemmas.tokens.CutLaws.{cuts-exactly}
 use Rattle.fb_read.proofs.lemmas.tokens.TextEnds.{end-length, skip-end}

@@ -1,4 +1,4 @@
-use Rattle.std.proofs.Common.{◌+◌, ◌-◌, length, take, arith}
+use Rattle.std.proofs.Common.{◌+◌, ◌-◌, length, arith}
 use Rattle.fb_read.specs.Refusals.{IsFirstDeep}
 use Rattle.fb_read.proofs.lemmas.texts.RefusalLaws.{first-front, front-deep, over-deep}
 use Rattle.fb_read.proofs.read.refused_nesting.Goals as goal

@@ -1,4 +1,3 @@
-use Rattle.std.proofs.Common.{◌≡◌}
 use Rattle.fb_read_positions.proofs.lemmas.PassedTokens.{algorithm_alone, no_action, read_as, to_output}
 use Rattle.fb_read_positions.proofs.step.past_action.Goals as goal
 

@@ -1,4 +1,4 @@
-use Rattle.std.proofs.Common.{◌≡◌, [], ◌∷◌, All, refl, sym, ◌∙◌, ap, subst, arith}
+use Rattle.std.proofs.Common.{[], ◌∷◌, All, refl, sym, ◌∙◌, ap, subst, arith}
 use Rattle.fb_types.specs.Headline.{system_of}
 use Rattle.fb_net.specs.declared.effects.Out.{Out}
 use Rattle.fb_net.specs.declared.effects.Out.TheVariants.{Send}

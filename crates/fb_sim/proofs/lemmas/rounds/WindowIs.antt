@@ -17,7 +17,6 @@ use Rattle.fb_laws.specs.Sound.{AreGood}
 use Rattle.fb_system.specs.Lines.{BelongsTo}
 use Rattle.fb_resource.specs.declared.resource.Resource.{Resource}
 use Rattle.fb_resource.specs.declared.resource.WindowDone.{WindowDone}
-use Rattle.fb_trace.specs.Merging.{Lists}
 use Rattle.fb_window.specs.Bounding.{AreGreatest}
 use Rattle.fb_laws.specs.Finality.{core_of}
 use Rattle.fb_window.specs.Jobs.{Does, JobModel, jobs_of}
@@ -32,7 +31,6 @@ use Rattle.fb_window.specs.declared.cores.CoreState.{CoreState}
 use Rattle.fb_window.specs.declared.cores.Reach.{Reach}
 use Rattle.fb_window.specs.declared.cores.Reach.TheVariants as reach
 use Rattle.fb_window.specs.declared.cores.Settled.{Settled}
-use Rattle.fb_window.specs.declared.cores.Settled.TheVariants as settled
 use Rattle.fb_sim.specs.Rounds.{FailsRound, FailsToHandOut, HandsOut, RoundsWithCounts, HasCome, HasTakenTurns, HoldsTo, IsAfter, AreUnwrittenOf, IsHomeAgain, IsHomeOnce, IsOnItsWay, Rounds, WritesPartOf, lines_out, round_of, text_of}
 use Rattle.fb_sim.specs.declared.rounds.unwritten_lines.UnwrittenLines.{UnwrittenLines}
 use Rattle.fb_sim.specs.declared.options.Options.{Options}

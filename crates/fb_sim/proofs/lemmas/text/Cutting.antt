@@ -1,5 +1,5 @@
 -- Marked texts from which the early lines are taken, tick after tick and list by list.
-use Rattle.std.proofs.Common.{◌≡◌, ℕ, suc, ◌+◌, ◌<◌, ◌≤◌, Bool, true, false, cond, Option, Some, None, List, [], ◌∷◌, ◌++◌, length, map, filter, take, drop, set, get_or, refl, sym, ap, ap₂, ◌∙◌, subst, arith, IsPermutation, append-nil, append_assoc}
+use Rattle.std.proofs.Common.{◌≡◌, ℕ, suc, ◌+◌, ◌<◌, ◌≤◌, Bool, true, false, cond, Option, Some, List, [], ◌∷◌, ◌++◌, length, map, filter, take, drop, set, get_or, refl, sym, ap, ap₂, ◌∙◌, subst, arith, IsPermutation, append-nil, append_assoc}
 use Rattle.std.specs.Prelude.{nat_lt, sum_by}
 use Rattle.std.specs.List.{AllZip}
 use Rattle.std.proofs.lemmas.Bool.{cond-false, ltb-true, le-ltb}
@@ -206,13 +206,6 @@ module _ (i : Inputs) (form : Form) (t : ℕ) (lists : List (List Line)) (old : 
     pub text : new ≡ old ++ text_of_lines i form (all_early t (take k lists))
     pub left : AllZip (IsRest i form) (map (late t) (take k lists) ++ drop k lists) rests
     pub least : IsLeast (map (late t) (take k lists)) next
-
-  pub none_put : (rests : List Rest) → AllZip (IsRest i form) lists rests → ArePutTo 0 old rests None
-  none_put rests h = record {
-    text = sym (append-nil old);
-    left = h;
-    least = record { low = tt; greatest = λ m h. tt; none = tt };
-  }
 
   module _ (k : ℕ) (new : List ℕ) (rests : List Rest) (next : Option ℕ) (it : ArePutTo k new rests next) (within : k < length lists) where
     at : length (map (late t) (take k lists)) ≡ k

@@ -1,5 +1,5 @@
 -- Lines of lists of which text is made while they are taken, tick by tick.
-use Rattle.std.proofs.Common.{◌≡◌, ℕ, List, [], ◌++◌, map, refl, sym, ap, ap₂, ◌∙◌, subst, All, Bor, append-nil, append_assoc}
+use Rattle.std.proofs.Common.{◌≡◌, ℕ, List, [], ◌++◌, map, refl, sym, ap, ◌∙◌, subst, All, Bor, append-nil, append_assoc}
 use Rattle.fb_types.specs.Headline.{Inputs, system_of}
 use Rattle.fb_types.specs.Machines.{Each}
 use Rattle.fb_types.specs.Numbers.{line_of}

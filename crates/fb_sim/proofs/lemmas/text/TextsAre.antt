@@ -1,5 +1,5 @@
 -- The texts that jobs made, and the final lines that they are of.
-use Rattle.std.proofs.Common.{◌≡◌, ℕ, zero, suc, ◌+◌, ◌≤◌, Bool, true, false, if◌then◌else◌, List, [], ◌∷◌, ◌++◌, length, take, drop, map, Option, Some, None, refl, sym, ap, ◌∙◌, subst, arith, append-nil}
+use Rattle.std.proofs.Common.{◌≡◌, ℕ, zero, suc, ◌+◌, Bool, true, false, if◌then◌else◌, List, [], ◌∷◌, ◌++◌, length, take, drop, map, Option, Some, None, refl, sym, ap, ◌∙◌, subst, arith, append-nil}
 use Rattle.std.specs.Prelude.{IfSome, slice_get, slice_index_or}
 use Rattle.std.specs.Global.{Vec}
 use Rattle.std.specs.List.{AllZip}
@@ -113,28 +113,15 @@ take_one [] n p e = absurd (let f : None ≡ Some p = e in cc)
 take_one (q ∷ ps) zero p e = let f : q ≡ p = cc in ap (λ z. z ∷ []) f
 take_one (q ∷ ps) (suc n) p e = let f : suc n + 1 ≡ suc (n + 1) = omega arith in rw f (ap (λ z. q ∷ z) (take_one ps n p e))
 
-take_whole : (ps : List (Vec Line)) (n : ℕ) → length ps ≤ n → take n ps ≡ ps
-take_whole [] zero b = refl
-take_whole [] (suc n) b = refl
-take_whole (p ∷ ps) zero b = absurd (omega arith)
-take_whole (p ∷ ps) (suc n) b = ap (λ z. p ∷ z) (take_whole ps n (omega arith))
-
 -- the lists below an index have their texts, and those of the others begin with their lines
 pub record AreMade (i : Inputs) (form : Form) (finals : List (Vec Line)) (made : List MarkedText) (left : List (Option MarkedText)) : Type 0 where
   pub below : AllZip (IsMarkedText i form) (lines_of (take (length made) finals)) made
   pub others : AreTextsFrom i (drop (length made) finals) left
 
 module _ (i : Inputs) (form : Form) (finals : List (Vec Line)) where
-  pub none_made : (left : List (Option MarkedText)) → AreTextsFrom i finals left → AreMade i form finals [] left
-  none_made left h = record { below = tt; others = h }
-
   module _ (made : List MarkedText) (t : Option MarkedText) (left : List (Option MarkedText)) (it : AreMade i form finals made (t ∷ left)) (p : Vec Line) (at : slice_get finals (length made) ≡ Some p) where
     next_left : IsTextFrom i p.items t × AreTextsFrom i (drop (length made + 1) finals) left
     next_left = subst (λ (ps : List (Vec Line)). AreTextsFrom i ps (t ∷ left)) (drop_at finals (length made) p at) it.others
-
-    -- the text there begins with the lines of the list there
-    pub text_there : IsTextFrom i p.items t
-    text_there = next_left.0
 
     pub one_made : (m : MarkedText) → IsMarkedText i form p.items m → AreMade i form finals (made ++ m ∷ []) left
     one_made m is =
@@ -146,10 +133,6 @@ module _ (i : Inputs) (form : Form) (finals : List (Vec Line)) where
               (zip_push (IsMarkedText i form) (lines_of (take (length made) finals)) made p.items m it.below is)));
           others = subst (λ (n : ℕ). AreTextsFrom i (drop n finals) left) (sym more) next_left.1;
         }
-
-  -- all are made
-  pub all_made : (made : List MarkedText) (left : List (Option MarkedText)) → AreMade i form finals made left → length finals ≤ length made → AllZip (IsMarkedText i form) (lines_of finals) made
-  all_made made left it b = subst (λ (ps : List (Vec Line)). AllZip (IsMarkedText i form) (lines_of ps) made) (take_whole finals (length made) b) it.below
 
 -- ---- All together
 

@@ -1,4 +1,4 @@
-use Rattle.std.proofs.Common.{◌≡◌, ℕ, List, All, Ok, map, ◌^◌, ◌≤◌, vec_len, refl, subst, sym, ◌∙◌, arith}
+use Rattle.std.proofs.Common.{ℕ, List, All, Ok, map, ◌^◌, ◌≤◌, vec_len, refl, subst, sym, ◌∙◌, arith}
 use Rattle.std.specs.Io.KnownBytes.{Appends}
 use denote.Param.Send.{sendable}
 use Rattle.fb_resource.proofs.lemmas.Sends.{done_send}

@@ -1,7 +1,5 @@
-use Rattle.std.proofs.Common.{◌≡◌, List, ℕ, length, map, inr, refl, sym, ap, subst, ◌∙◌}
+use Rattle.std.proofs.Common.{◌≡◌, List, ℕ, length, inr, refl, sym, ap, subst, ◌∙◌}
 use Rattle.std.specs.Io.KnownBytes.{Appends}
-use Rattle.std.specs.Global.{Vec}
-use Rattle.fb_types.specs.declared.run.Line as run
 use Rattle.fb_laws.specs.Finality.{core_of}
 use Rattle.fb_laws.specs.Sound.{AreGood}
 use Rattle.fb_trace.specs.Progress.{bounded}

@@ -3,7 +3,7 @@ use Rattle.std.specs.Prelude.{IfSome}
 use Rattle.std.specs.Borrow.{Bor}
 use Rattle.fb_types.specs.Names.{Name}
 use Rattle.fb_types.specs.Repeated.{Twice}
-use Rattle.fb_types.specs.Syntax.{Stmt, Stmts, stmts}
+use Rattle.fb_types.specs.Syntax.{Stmts, stmts}
 use Rattle.fb_types.specs.Bodies.{Point, RunsAll}
 use Rattle.fb_st.specs.Flows.{end_of, point}
 use Rattle.fb_st.specs.Frames.{Declared, declared_in, types_in}

@@ -7,7 +7,7 @@ use Rattle.fb_types.specs.Headline.{Inputs, system_of}
 use Rattle.fb_types.specs.Names.{Name, Path, Port}
 use Rattle.fb_types.specs.Numbers.{event_at, line_of, pair_up, path_at, port_of, ports_at}
 use Rattle.fb_types.specs.Reactions.{World, state_of, with_values}
-use Rattle.fb_types.specs.States.{Event as AnEvent, InState, Memory, State, Stimulated, Expired, Arrived, Raised}
+use Rattle.fb_types.specs.States.{Event as AnEvent, InState, State, Stimulated, Expired, Arrived, Raised}
 use Rattle.fb_types.specs.States as model
 use Rattle.fb_types.specs.Systems.{System}
 use Rattle.fb_types.specs.Takes.{Effect, begun, world_of}

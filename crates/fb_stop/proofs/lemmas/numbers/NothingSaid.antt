@@ -5,7 +5,7 @@ use Rattle.std.proofs.lemmas.Option.{slice_get-map}
 use Rattle.std.specs.List.{filter, find, list_all}
 use Rattle.fb_types.specs.Blocks.{among, named, types_of}
 use Rattle.fb_types.specs.Bodies.{End, Point, RunsAll, RunsBody, Went, Left, Returned, Stopped, ended}
-use Rattle.fb_types.specs.Charts.{Acts, Clears, Fails, Halts, Moving, NoneClears, Performs, Position, Trial, actions_of, algorithm_of, at_point, by_condition, emitting, guard_value, is_present, is_true, leaving, trial_of}
+use Rattle.fb_types.specs.Charts.{Acts, Fails, Halts, Moving, NoneClears, Performs, Position, actions_of, algorithm_of, at_point, by_condition, emitting, guard_value, is_present, is_true, leaving, trial_of}
 use Rattle.fb_types.specs.Names.{Name, same_name}
 use Rattle.fb_types.specs.Syntax.{Stmts, body_of, expr_of, no_stmt}
 use Rattle.fb_types.specs.Values.{Types, Values, and_then, truth, value_of}

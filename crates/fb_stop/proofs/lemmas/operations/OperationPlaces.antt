@@ -11,7 +11,7 @@ use Rattle.fb_types.specs.declared.text.Stmt as read
 use Rattle.fb_types.specs.declared.value.Reason.{Reason}
 use Rattle.fb_st.specs.Flows.{all_of, branch_of, branches_of, choice_of, choices_of}
 use Rattle.fb_stop.specs.Numbers.{next, after, after_all, after_branches, after_choices}
-use Rattle.fb_stop.specs.Statements.{HasOwn, IsAmong, IsExpression, IsInBranches, IsInChoices, IsInList, IsInStatement, IsInside, IsNumbered, IsOfCase, IsOfChoices, IsOfIf}
+use Rattle.fb_stop.specs.Statements.{HasOwn, IsExpression, IsInBranches, IsInChoices, IsInList, IsInStatement, IsInside, IsNumbered, IsOfChoices}
 use Rattle.fb_stop.specs.Statements as spec
 use Rattle.fb_stop.specs.Operations.{FaultIn}
 use Rattle.fb_stop.specs.declared.statement.Anchor.{Anchor}

@@ -15,7 +15,7 @@ use Rattle.fb_types.specs.declared.value.Reason.TheVariants.{Steps}
 use Rattle.fb_types.proofs.lemmas.lists.ByIndex.{element_at}
 use Rattle.fb_net.specs.Worlds.{BasicRepresents}
 use Rattle.fb_net.proofs.lemmas.values.Sampling.{ports-of_kind}
-use Rattle.fb_types.specs.States.{Block, Event as AnEvent, Expired, Meter, State}
+use Rattle.fb_types.specs.States.{Block, Event as AnEvent, Meter, State}
 use Rattle.fb_types.specs.States as model
 use Rattle.fb_types.specs.Systems.{System}
 use Rattle.fb_types.specs.Takes.{Effect, Takes, agenda_after, begun}

@@ -7,7 +7,7 @@ use Rattle.fb_types.specs.Systems.{System}
 use Rattle.fb_types.specs.declared.run.InstanceVariable.{InstanceVariable}
 use Rattle.fb_types.specs.declared.run.Target.{Target}
 use Rattle.fb_system.specs.Ends.{ComesFrom, IsSourceOf, LeadsTo}
-use Rattle.fb_system.specs.Ports.{AreTogether, IsSource, IsTarget, link_of, variable_of}
+use Rattle.fb_system.specs.Ports.{AreTogether, IsSource, IsTarget, link_of}
 use Rattle.fb_system.specs.declared.netlist_target.NetlistTarget.{NetlistTarget}
 use Rattle.fb_system.specs.declared.next_target.NextTarget.{NextTarget}
 use Rattle.fb_system.specs.declared.source.Source.{Source}

@@ -3,10 +3,9 @@ use Rattle.std.proofs.Common.{◌≡◌, ◌⊎◌, ℕ, zero, suc, ◌+◌, ◌
 use Rattle.std.specs.Prelude.{slice_get, option_map, option_and_then, unwrap_or, position, flat_map, codes}
 use Rattle.std.proofs.lemmas.List.Elements.{Contains-append_left, Contains-append_right}
 use Rattle.fb_types.specs.Names.{Name, Path, same_name}
-use Rattle.fb_types.specs.Flat.{instance_in, inside, network_at, instance_at, parent}
+use Rattle.fb_types.specs.Flat.{instance_in, inside, network_at, instance_at, parent, resource_names_of}
 use Rattle.fb_types.specs.Joined.{Holds, Descends, TooHigh}
 use Rattle.fb_types.specs.Repeated.{Twice, OwnedNetwork, NameTwice, networks, instance_names, name_spaces, block_type_names, port_names, basics, algorithm_names, state_names, with_lists, interfaces, parameter_lists}
-use Rattle.fb_types.specs.Flat.{resource_names_of}
 use Rattle.fb_types.specs.Text.{path_text}
 use Rattle.fb_types.specs.declared.library.Library.{Library}
 use Rattle.fb_types.specs.declared.library.BlockType.TheVariants as block

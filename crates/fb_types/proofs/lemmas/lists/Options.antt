@@ -1,5 +1,5 @@
 -- Values that may be none.
-use Rattle.std.proofs.Common.{◌≡◌, true, false, Some, None, Option, MatchOption, refl, subst}
+use Rattle.std.proofs.Common.{◌≡◌, true, false, Some, None, Option, refl}
 use Rattle.std.specs.Prelude.{is_some, option_map, option_and_then}
 use Rattle.std.proofs.lemmas.Option.{same_Some}
 
@@ -18,12 +18,6 @@ is_some-option_map f None = refl
 is_some-option_map f (Some x) = refl
 
 -- ---- What holds of it
-
-pub match_none : {A : Type 0} (o : Option A) (N : Type 0) (P : A → Type 0) → MatchOption o N P → o ≡ None → N
-match_none {A} o N P h e = subst (λ (o : Option A). MatchOption o N P) e h
-
-pub match_some : {A : Type 0} (o : Option A) (N : Type 0) (P : A → Type 0) (x : A) → MatchOption o N P → o ≡ Some x → P x
-match_some {A} o N P x h e = subst (λ (o : Option A). MatchOption o N P) e h
 
 -- ---- What it was made of
 

@@ -1,5 +1,5 @@
 -- Names that are equal in the order of tables are the same.
-use Rattle.std.proofs.Common.{◌≡◌, Bool, true, Ordering, refl, sym, ◌∙◌, ap, subst}
+use Rattle.std.proofs.Common.{◌≡◌, Bool, true, Ordering, sym, ap, subst}
 use Rattle.std.specs.Bool.{Decides, one_answer}
 use Rattle.std.specs.Cmp.Lexicographic.{slice_cmp}
 use Rattle.std.specs.Ordering.{is_eq, nat_cmp, ordering_then}

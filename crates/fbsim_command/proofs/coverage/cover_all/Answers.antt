@@ -1,4 +1,4 @@
-use Rattle.std.proofs.Common.{Bor, List, [], length, refl}
+use Rattle.std.proofs.Common.{Bor, [], refl}
 use Rattle.clap.specs.Words.{Text}
 use Rattle.fbsim_command.specs.Covering.{AreStopped}
 use Rattle.fbsim_command.specs.declared.failure.Failure.TheVariants.{Memory}

@@ -1,4 +1,4 @@
-use Rattle.std.proofs.Common.{◌≡◌, ◌*◌, ◌∙◌, Bool, List, ℕ, ap, if◌then◌else◌, length, subst, sym}
+use Rattle.std.proofs.Common.{◌≡◌, ◌*◌, ◌∙◌, Bool, ℕ, if◌then◌else◌, length, subst, sym}
 use Rattle.std.specs.Prelude.{IfOk}
 use Rattle.fb_expect.specs.Reports.{plan}
 use Rattle.fb_expect.specs.Suites.{suites_head}

@@ -1,6 +1,4 @@
-use Rattle.std.proofs.Common.{◌++◌, ◌*◌, ◌∙◌, Bool, ap, if◌then◌else◌, length, sym}
-use Rattle.fb_expect.specs.Reports.{points}
-use Rattle.fb_expect.specs.Suites.{suite}
+use Rattle.std.proofs.Common.{◌*◌, if◌then◌else◌, length}
 use Rattle.fbsim_command.proofs.lemmas.rules.HeldRules.{put-points, put-suite}
 use Rattle.fbsim_command.proofs.expect.put_part.Goals as goal
 

@@ -1,5 +1,4 @@
-use Rattle.std.proofs.Common.{◌≡◌, ◌++◌, ◌∙◌, [], Bool, List, ℕ, ap, append-nil, if◌then◌else◌, subst, sym}
-use Rattle.std.specs.Prelude.{OnOk}
+use Rattle.std.proofs.Common.{◌++◌, ◌∙◌, [], Bool, ap, append-nil, if◌then◌else◌, sym}
 use Rattle.fb_expect.specs.Suites.{suites_tail}
 use Rattle.fbsim_command.proofs.lemmas.rules.HeldRules.{tail-put}
 use Rattle.fbsim_command.proofs.expect.put_tail.Goals as goal

@@ -1,7 +1,6 @@
 -- How a call that checks its inputs ends.
-use Rattle.std.proofs.Common.{◌≡◌, ℕ, Bool, true, false, Option, Some, None, Ok, Err, codes, refl, sym, subst}
+use Rattle.std.proofs.Common.{◌≡◌, ℕ, Bool, Option, Some, None, Ok, Err, codes, refl, sym, subst}
 use Rattle.std.specs.Prelude.{IsErrAnd}
-use Rattle.std.specs.Io.KnownBytes.{Appends}
 use Rattle.fb_read.specs.declared.error.ReadError.{ReadError}
 use Rattle.fb_read.specs.declared.error.ReadError.TheVariants as read
 use Rattle.fb_check.specs.Refusals as check
@@ -12,11 +11,10 @@ use Rattle.fb_sim.specs.declared.outcome.Refusal as sim
 use Rattle.fb_sim.specs.declared.outcome.Refusal.TheVariants as of
 use Rattle.fb_sim.specs.declared.outcome.RunError.{RunError}
 use Rattle.fb_sim.specs.declared.outcome.RunError.TheVariants as run
-use Rattle.fbsim_command.specs.Command.{Checks, checked_by}
+use Rattle.fbsim_command.specs.Command.{Checks}
 use Rattle.fbsim_command.specs.Failures.{WritesPart, failure_of, numbered_input}
 use Rattle.fbsim_command.specs.Outcomes.{End, Held}
 use Rattle.fbsim_command.specs.declared.failure.Failure.{Failure}
-use Rattle.fbsim_command.specs.declared.statuses.Done.{Done}
 use Rattle.fbsim_command.specs.declared.failure.Failure.TheVariants.{Refused, RefusedTrace, File, Write, Memory, Line, BadOption}
 
 -- a failure that is passed on
@@ -59,8 +57,3 @@ checks_none lint given old run.Memory is = refl
 checks_none lint given old (run.Write n) is = absurd is
 checks_none lint given old run.BadOption is = absurd is
 checks_none lint given old run.Failed is = absurd is
-
--- accepted inputs, with a warning that is denied or without one
-pub checks_by : (given : Given) (old new : Held) (b : Bool) (d : Done) → d ≡ checked_by b → IsDeclared given → Appends old new (codes "accepted\n") → Checks true given old new (Ok d)
-checks_by given old new true d is declared got = subst (λ (x : Done). Checks true given old new (Ok x)) (sym is) (declared, got)
-checks_by given old new false d is declared got = subst (λ (x : Done). Checks true given old new (Ok x)) (sym is) (declared, got)

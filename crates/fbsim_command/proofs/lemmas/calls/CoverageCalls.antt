@@ -1,6 +1,5 @@
 -- Traces that are gone through one after the other, and how the report of what they cover ends.
 use Rattle.std.proofs.Common.{◌≡◌, ◌<◌, ◌≤◌, ◌+◌, ◌⊎◌, ℕ, Bool, true, false, Bor, List, [], ◌∷◌, ◌++◌, drop, get_or, length, map, option_map, take, codes, Option, Some, None, Result, Ok, Err, refl, sym, ◌∙◌, ap, subst, inl, inr}
-use Rattle.std.specs.Global.{Vec}
 use Rattle.std.specs.Io.KnownBytes.{Appends}
 use Rattle.std.specs.Prelude.{IfErr, IfOk, IfSome, IsErrAnd, IsTrue}
 use Rattle.std.proofs.lemmas.List.{drop_more, map-append, take-append-drop, take_all, take_more}
@@ -21,7 +20,7 @@ use Rattle.fb_coverage.specs.declared.marks.Marks.{Marks}
 use Rattle.fb_inspect.specs.Covering.{Covers}
 use Rattle.fb_inspect.specs.declared.walk.Extent.{Extent}
 use Rattle.fb_wave.specs.declared.truncation.Cut.{Cut}
-use Rattle.fbsim_command.specs.Covering.{AreGoneThrough, AreStopped, GoThrough, GoesThrough, IsFirst, IsReport, IsStopped, IsUnreported, MayStop, NotesTrace, RefusesAt, StopsAt, WritesReport, are_several, cut_count, coverage_text, covered_by, cut_line, cut_of, files_of, is_too_little, names_of, note_front}
+use Rattle.fbsim_command.specs.Covering.{AreGoneThrough, AreStopped, GoThrough, GoesThrough, IsFirst, IsReport, IsStopped, IsUnreported, NotesTrace, RefusesAt, StopsAt, WritesReport, are_several, cut_count, coverage_text, covered_by, cut_line, cut_of, files_of, is_too_little, note_front}
 use Rattle.fbsim_command.specs.Failures.{WritesPart, failure_of, failure_of_source, numbered_input}
 use Rattle.fbsim_command.specs.InsideNotes.{SaysLine}
 use Rattle.fbsim_command.specs.Notes.{IsNoteOfName, Notes, NotesOf, rest_note}

@@ -1,5 +1,5 @@
 -- Refusals and notes that name a file of a declaration and the line in it.
-use Rattle.std.proofs.Common.{◌≡◌, ◌<◌, ℕ, zero, suc, Bor, List, [], ◌∷◌, length, get_or, map, arith, Option, Some, None, String, Ok, Err, refl, sym, ap, ◌∙◌, subst, inl, inr, string_bytes}
+use Rattle.std.proofs.Common.{◌≡◌, ◌<◌, ℕ, zero, suc, Bor, List, [], ◌∷◌, length, get_or, map, arith, Option, Some, None, String, Err, refl, sym, ap, ◌∙◌, subst, inl, inr, string_bytes}
 use Rattle.std.specs.Prelude.{IfSome}
 use Rattle.clap.specs.Words.{Text}
 use Rattle.fbsim_command.specs.Joining.{IsLineOf, name_at}

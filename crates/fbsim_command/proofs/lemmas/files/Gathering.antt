@@ -1,11 +1,11 @@
 -- The files of a declaration that are read one after the other.
-use Rattle.std.proofs.Common.{◌≡◌, ℕ, ◌+◌, ◌<◌, ◌≤◌, Bor, List, [], ◌∷◌, ◌++◌, length, get_or, map, take, drop, Result, Ok, Err, refl, sym, ap, ◌∙◌, subst, inl, inr, arith}
+use Rattle.std.proofs.Common.{◌≡◌, ℕ, ◌+◌, ◌<◌, ◌≤◌, Bor, List, [], ◌∷◌, ◌++◌, length, get_or, map, take, drop, Result, Ok, Err, refl, sym, ap, ◌∙◌, subst, inr, arith}
 use Rattle.std.specs.Global.{Vec}
 use Rattle.std.specs.Prelude.{IfErr, IfOk}
 use Rattle.std.proofs.lemmas.List.{drop_more, length-map, length-take-le, map-append, take-append-drop, take_all, take_more}
 use Rattle.clap.specs.Words.{Text}
 use Rattle.fbsim_command.specs.Joining.{line_count, text_of}
-use Rattle.fbsim_command.specs.Reading.{AreJoined, AreTextsRead, IsDeclarationRead, IsDeclarationUnread, IsNextUnread, IsOwnUnread, IsTypeUnread, LacksText, Reading, asked}
+use Rattle.fbsim_command.specs.Reading.{AreTextsRead, IsDeclarationRead, IsDeclarationUnread, IsNextUnread, IsOwnUnread, IsTypeUnread, LacksText, Reading, asked}
 use Rattle.fbsim_command.specs.declared.sources.SourceFault.{SourceFault}
 use Rattle.fbsim_command.specs.declared.sources.SourceFault.TheVariants as source
 use Rattle.fbsim_command.specs.Texts.{texts_of}

@@ -1,6 +1,6 @@
 -- Lines of warnings with their places, one after another.
-use Rattle.std.proofs.Common.{◌≡◌, ℕ, zero, suc, ◌+◌, ◌<◌, ◌≤◌, List, [], ◌∷◌, ◌++◌, ◌⊎◌, get_or, length, map, take, append_assoc, append-nil, Option, Some, None, Result, Ok, Err, inl, inr, refl, sym, ◌∙◌, ap, subst, arith}
-use Rattle.std.proofs.lemmas.List.{length-map, take_more, take_all}
+use Rattle.std.proofs.Common.{◌≡◌, ℕ, zero, suc, ◌+◌, ◌<◌, List, [], ◌∷◌, ◌++◌, ◌⊎◌, get_or, length, map, append_assoc, append-nil, Option, Some, None, Result, Ok, Err, inl, inr, refl, sym, ◌∙◌, ap, subst, arith}
+use Rattle.std.proofs.lemmas.List.{length-map}
 use Rattle.std.proofs.lemmas.Slice.Zip.{AllZip-long}
 use Rattle.std.specs.List.{AllZip}
 use Rattle.std.specs.Prelude.{IfOk}
@@ -15,7 +15,7 @@ use Rattle.fb_sim.specs.Given.{Given}
 use Rattle.fb_inputs.specs.declared.deploy_location.TableLocation.TheVariants as table
 use Rattle.fb_inputs.specs.declared.position.DeployPosition.TheVariants as position
 use Rattle.fb_why.specs.InputStretches.{IsDeployPlace}
-use Rattle.fbsim_command.specs.WarningLines.{AreLines, IsAdded, IsLinkPlace, IsPlace, IsPlaceText, IsPlacedLine, Naming, place_text}
+use Rattle.fbsim_command.specs.WarningLines.{AreLines, IsLinkPlace, IsPlace, IsPlaceText, IsPlacedLine, Naming, place_text}
 
 module _ (n : Naming) (given : Given) (library : Library) where
   -- the text of a location is that of the warning at whose position it is
@@ -63,16 +63,6 @@ module _ (n : Naming) (given : Given) (library : Library) where
   lines_push (v ∷ ws) w text line are is =
       let rest = lines_push ws w are.1 line are.3 is in
       (are.0, are.1 ++ line, are.2, rest, ap (λ (t : List ℕ). t ++ line) are.4 ∙ append_assoc are.0 are.1 line)
-
-  pub lines_next :
-      (ws : List Warning) (i : ℕ) (d : Warning) (old new : List ℕ) → i < length ws → AreLines n given library (take i ws) old
-      → IsAdded n given library (get_or ws i d) old new → AreLines n given library (take (i + 1) ws) new
-  lines_next ws i d old new within before added =
-      subst (λ (vs : List Warning). AreLines n given library vs new) (sym (take_more ws i d within))
-      (subst (λ (t : List ℕ). AreLines n given library (take i ws ++ get_or ws i d ∷ []) t) (sym added.2) (lines_push (take i ws) (get_or ws i d) old added.0 before added.1))
-
-  pub lines_all : (ws : List Warning) (i : ℕ) (text : List ℕ) → length ws ≤ i → AreLines n given library (take i ws) text → AreLines n given library ws text
-  lines_all ws i text past are = subst (λ (vs : List Warning). AreLines n given library vs text) (take_all i ws past) are
 
 -- the text of the place of a link
 pub link_placed :

@@ -13,8 +13,7 @@ use Rattle.fb_stop.specs.Places.{IsStopPosition}
 use Rattle.fb_stop.specs.Shown.{IsStopShown}
 use Rattle.fb_stop.specs.declared.found.FoundStop.{FoundStop}
 use Rattle.fb_stop.specs.declared.shown.Shown.{Shown}
-use Rattle.fb_read_positions.specs.Places.{IsPlaceAt}
-use Rattle.fb_read_positions.specs.Places.{IsPlace, IsStretch}
+use Rattle.fb_read_positions.specs.Places.{IsPlaceAt, IsPlace, IsStretch}
 use Rattle.fb_read_positions.specs.declared.places.Place.{Place}
 use Rattle.fbsim_command.specs.Outcomes.{Held}
 use Rattle.fbsim_command.specs.Stops.{IsNoteAtStop, IsNoteOfRun, IsNoteOfStop, IsStopPlace}

@@ -1,8 +1,8 @@
 -- The declaration in which the names of rules must be, where one is named.
-use Rattle.std.proofs.Common.{◌≡◌, ℕ, Bor, List, [], map, Option, Some, None, Ok, Err, Result, refl, sym, ap, subst, inl, inr}
+use Rattle.std.proofs.Common.{◌≡◌, ℕ, Bor, List, [], map, Option, Some, None, Ok, Err, refl, sym, ap, subst, inl, inr}
 use Rattle.clap.specs.Words.{Text}
 use Rattle.fb_sim.specs.Given.{Given}
-use Rattle.fbsim_command.specs.Expecting.{AreRulesRead, AreUnread, Expects, Holds, IsUndeclared, MayDeclare, NotesRules, asked_rules, files_of, own_of, types_of}
+use Rattle.fbsim_command.specs.Expecting.{AreUnread, Expects, Holds, IsUndeclared, MayDeclare, NotesRules, asked_rules, files_of, own_of, types_of}
 use Rattle.fbsim_command.specs.Failures.{failure_of_source}
 use Rattle.fbsim_command.specs.Outcomes.{End, Held}
 use Rattle.fbsim_command.specs.OwnLines.{EndsIn}

@@ -1,8 +1,7 @@
 -- Rules that are held against traces, one after the other.
-use Rattle.std.proofs.Common.{◌≡◌, ℕ, suc, ◌+◌, ◌*◌, ◌<◌, Bool, true, false, Bor, List, [], ◌∷◌, ◌++◌, length, get_or, map, take, drop, Option, Some, None, Result, Ok, Err, refl, sym, ap, ap₂, ◌∙◌, subst, append_assoc, append-nil, inl, inr, arith}
+use Rattle.std.proofs.Common.{◌≡◌, ℕ, suc, ◌+◌, ◌*◌, ◌<◌, Bool, true, false, Bor, List, [], ◌∷◌, ◌++◌, length, get_or, map, take, drop, Option, Result, Ok, Err, refl, sym, ap, ◌∙◌, subst, append_assoc, append-nil, inl, arith}
 use Rattle.std.specs.Prelude.{◌&&◌, IfErr, IfSome, IsErrAnd, OnOk, if◌then◌else◌, is_ok, nat_lt}
 use Rattle.std.specs.Io.KnownBytes.{Appends}
-use Rattle.std.specs.List.{list_all}
 use Rattle.std.proofs.lemmas.List.{drop_more, length-map, length-take-le, map-append, take-append-drop, take_more}
 use Rattle.std.proofs.lemmas.List.Folds.{list_all-append}
 use Rattle.clap.specs.Words.{Text}
@@ -13,7 +12,7 @@ use Rattle.fb_expect.specs.Suites.{suite, suites_tail}
 use Rattle.fb_expect.specs.declared.judging.Cut.{Cut}
 use Rattle.fb_expect.specs.declared.judging.Judged.{Judged}
 use Rattle.fb_expect.specs.declared.rule.Rule.{Rule}
-use Rattle.fbsim_command.specs.Expecting.{AreHeld, AreRules, AreUnheld, ComesTo, Holds, IsHeld, IsRefusedAt, IsUnheld, Puts, PutsOne, Reports, all_well, cut_of, head_of, names_of, part_of, points_of, tail_of}
+use Rattle.fbsim_command.specs.Expecting.{AreHeld, AreRules, AreUnheld, ComesTo, Holds, IsHeld, IsRefusedAt, IsUnheld, Puts, PutsOne, Reports, all_well, cut_of, head_of, part_of, points_of, tail_of}
 use Rattle.fbsim_command.specs.Failures.{IsPartWritten, WritesPart, failure_of_source}
 use Rattle.fbsim_command.specs.Outcomes.{End, Held}
 use Rattle.fbsim_command.specs.Showing.{Opening}

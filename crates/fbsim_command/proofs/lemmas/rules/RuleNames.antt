@@ -1,8 +1,7 @@
 -- Rules that are read, and whose names a declaration is to have.
-use Rattle.std.proofs.Common.{◌≡◌, ℕ, List, Bool, true, false, Option, Some, None, Result, Ok, Err, refl, sym, ap, ◌∙◌, subst, inl, inr}
-use Rattle.std.specs.Prelude.{IfErr, IfSome, IsErrAnd, OnOk}
+use Rattle.std.proofs.Common.{◌≡◌, ℕ, List, true, Option, Some, None, Ok, Err, refl, sym, subst, inl, inr}
+use Rattle.std.specs.Prelude.{IfSome}
 use Rattle.clap.specs.Words.{Text}
-use Rattle.fb_types.specs.Headline.{Inputs, system_of}
 use Rattle.fb_read.specs.declared.error.ReadError.{ReadError}
 use Rattle.fb_read.specs.declared.error.ReadError.TheVariants as read
 use Rattle.fb_check.specs.Refusals as check
@@ -12,19 +11,18 @@ use Rattle.fb_expect.specs.Refusals as rules
 use Rattle.fb_expect.specs.declared.error.RulesError.{RulesError}
 use Rattle.fb_expect.specs.declared.rule.Rule.{Rule}
 use Rattle.fb_sim.specs.Given.{Given}
-use Rattle.fb_sim.specs.Serial.{Declares, IsRefusal, IsRightly}
+use Rattle.fb_sim.specs.Serial.{IsRefusal, IsRightly}
 use Rattle.fb_sim.specs.declared.outcome.Refusal as sim
 use Rattle.fb_sim.specs.declared.outcome.Refusal.TheVariants as of
 use Rattle.fb_sim.specs.declared.outcome.RunError.{RunError}
 use Rattle.fb_sim.specs.declared.outcome.RunError.TheVariants as run
 use Rattle.fbsim_command.specs.Expecting.{AreRules, Holds, IsUnnamed, Names, RefusesFor}
 use Rattle.fbsim_command.specs.Failures.{failure_of, failure_of_rules, numbered_input}
-use Rattle.fbsim_command.specs.Outcomes.{Held, IsRefused}
+use Rattle.fbsim_command.specs.Outcomes.{Held}
 use Rattle.fbsim_command.specs.Showing.{Opening}
 use Rattle.fbsim_line.specs.declared.bench_line.Expect.{Expect}
 use Rattle.fbsim_command.specs.declared.failure.Failure.{Failure}
 use Rattle.fbsim_command.specs.declared.failure.Failure.TheVariants.{Refused, RefusedTrace, File, Write, Memory, Line, BadOption}
-use Rattle.fbsim_command.specs.declared.failure.RefusalLine.TheVariants.{Numbered}
 
 -- ---- What is declared is refused
 

@@ -1,4 +1,4 @@
-use Rattle.std.proofs.Common.{List, ℕ, ◌++◌, ◌∙◌, ap, length, refl, string_bytes, subst, arith}
+use Rattle.std.proofs.Common.{List, ℕ, ◌++◌, ◌∙◌, ap, refl, string_bytes, subst, arith}
 use Rattle.std.specs.Prelude.{nat_eq}
 use Rattle.std.proofs.lemmas.List.{take_all}
 use Rattle.std.proofs.lemmas.Slice.Zip.{AllZip-long}

@@ -1,4 +1,4 @@
-use Rattle.std.proofs.Common.{false, refl}
+use Rattle.std.proofs.Common.{false}
 use Rattle.fbsim_command.proofs.lemmas.calls.Checking.{checked, checks_none, checks_part}
 use Rattle.fbsim_command.proofs.program.check_inputs.Goals as goal
 

@@ -1,4 +1,4 @@
-use Rattle.std.proofs.Common.{Err, arith, refl, subst, sym}
+use Rattle.std.proofs.Common.{Err, subst, sym}
 use Rattle.fbsim_command.specs.Outcomes.{End}
 use Rattle.fbsim_command.specs.Sessions.{Answers}
 use Rattle.fbsim_command.specs.declared.failure.Failure.{Failure}

@@ -1,4 +1,4 @@
-use Rattle.std.proofs.Common.{◌≡◌, ◌∙◌, ℕ, List, Bor, Option, option_map, subst, sym, ap, codes}
+use Rattle.std.proofs.Common.{◌∙◌, ℕ, List, Bor, Option, option_map, subst, sym, ap, codes}
 use Rattle.clap.specs.Words.{found_of, rows_of}
 use Rattle.clap.proofs.WalkLemmas.{first_value-rows}
 use Rattle.fbsim_line.specs.Line.{IsNumber}

@@ -1,4 +1,4 @@
-use Rattle.std.proofs.Common.{◌≡◌, ◌∙◌, ◌&&◌, Bool, ap, not, sym}
+use Rattle.std.proofs.Common.{◌∙◌, ◌&&◌, Bool, ap, not, sym}
 use Rattle.fbsim_line.proofs.line.asks_why.Goals as goal
 
 pub returns-then-is_given : goal.returns-then-is_given

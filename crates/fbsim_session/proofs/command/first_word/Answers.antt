@@ -1,4 +1,4 @@
-use Rattle.std.proofs.Common.{◌≡◌, ap, ◌∙◌}
+use Rattle.std.proofs.Common.{ap, ◌∙◌}
 use Rattle.fbsim_session.specs.Commands.{words_by}
 use Rattle.fbsim_session.proofs.command.first_word.Goals as goal
 

@@ -1,7 +1,5 @@
 use Rattle.std.proofs.Common.{◌≡◌}
-use Rattle.fb_types.specs.Headline.{Inputs}
 use Rattle.fb_laws.specs.Sound.{AreGood}
-use Rattle.fb_session.specs.Pasts.{Talk}
 use Rattle.fbsim_session.specs.Talks.{Opening, of_talk}
 use Rattle.fbsim_session.proofs.lemmas.Telling.{concludes_lost, nothing_told}
 use Rattle.fbsim_session.proofs.talking.converse.Goals as goal

@@ -1,4 +1,3 @@
-use Rattle.fb_types.specs.Headline.{Inputs}
 use Rattle.fb_laws.specs.Sound.{AreGood}
 use Rattle.fbsim_session.proofs.lemmas.Telling.{concludes_lost}
 use Rattle.fbsim_session.proofs.talking.talk.Goals as goal

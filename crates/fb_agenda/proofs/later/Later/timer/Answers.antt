@@ -1,5 +1,5 @@
 use Rattle.std.proofs.Common.{◌≡◌, ◌<◌, ◌++◌, ◌∙◌, None, ap, length, refl, sym, subst}
-use Rattle.std.specs.Prelude.{IsSome, slice_index}
+use Rattle.std.specs.Prelude.{IsSome}
 use Rattle.std.specs.Map.{lookup}
 use Rattle.std.proofs.lemmas.List.{get_or_default}
 use Rattle.fb_types.specs.Keys.{or_else, same_key, timer_key}

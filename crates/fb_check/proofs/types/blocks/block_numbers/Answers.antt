@@ -9,12 +9,11 @@ use Rattle.fb_check_names.specs.declared.location.Direction.TheVariants.{Input, 
 use Rattle.fb_check_names.specs.declared.location.Site.TheVariants.{Inside}
 use Rattle.fb_check_names.proofs.lemmas.Listing.{none_right}
 use Rattle.fb_check.specs.types.Roles.{Declared}
-use Rattle.fb_check.specs.types.Unknowns.{unknown_in_network, unknown_withs}
+use Rattle.fb_check.specs.types.Unknowns.{unknown_in_network, unknown_withs, unknown_in_block}
 use Rattle.fb_check.proofs.lemmas.types.BlockNumbers.{composite_ports, composite_instances, has_indexes}
 use Rattle.fb_types.specs.declared.library.BlockType.{BlockType}
 use Rattle.fb_check_names.specs.declared.location.UnknownName.{UnknownName}
 use Rattle.fb_check_names.specs.Unknown.{IsBlockNumbers}
-use Rattle.fb_check.specs.types.Unknowns.{unknown_in_block}
 use Rattle.fb_check.proofs.types.blocks.block_numbers.Goals as goal
 
 pub push_in_basic-requires-clause-index : goal.push_in_basic-requires-clause-index

@@ -1,5 +1,4 @@
-use Rattle.std.proofs.Common.{◌++◌, List, sym, ◌∙◌, ap}
-use Rattle.fb_types.specs.declared.library.BasicType.{BasicType}
+use Rattle.std.proofs.Common.{◌++◌, List, sym}
 use Rattle.fb_check_names.specs.Listed.{each_at}
 use Rattle.fb_check_names.specs.declared.location.KindWrongAt.{KindWrongAt}
 use Rattle.fb_check.specs.types.KindWrongLists.{kind_wrong_guard, kinds_wrong_in_body}

@@ -1,4 +1,4 @@
-use Rattle.std.proofs.Common.{◌≡◌, ◌++◌, List, Option, Some, ℕ, ◌∙◌, ap}
+use Rattle.std.proofs.Common.{◌++◌, List, Option, Some, ℕ, ◌∙◌, ap}
 use Rattle.fb_types.specs.declared.library.Connection.{Connection}
 use Rattle.fb_types.specs.declared.library.Instance.{Instance}
 use Rattle.fb_check_names.specs.declared.numbers.TypeNumber.{TypeNumber}

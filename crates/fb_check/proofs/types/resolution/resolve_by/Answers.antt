@@ -1,4 +1,4 @@
-use Rattle.std.proofs.Common.{◌++◌, List, ℕ, refl, ◌∙◌, ap, None}
+use Rattle.std.proofs.Common.{◌++◌, List, ℕ, ◌∙◌, ap, None}
 use Rattle.fb_types.specs.declared.deploy.ResourceEntry.{ResourceEntry}
 use Rattle.fb_check_names.specs.Listed.{each_at}
 use Rattle.fb_check_names.specs.declared.location.Site.TheVariants.{Application}

@@ -2,7 +2,6 @@ use Rattle.std.proofs.Common.{◌≡◌, ℕ, List, Option, false, length, ap, s
 use Rattle.std.specs.Prelude.{is_some}
 use Rattle.std.proofs.lemmas.Bool.{eq-eqb, eqb-true, true≢false}
 use Rattle.fb_expect.specs.Paired.{IsInTime, IsOverdue}
-use Rattle.fb_expect.specs.Traces.{tick_of}
 use Rattle.fb_expect.specs.declared.pairs.Waiting.{Waiting}
 use Rattle.fb_expect.specs.declared.verdict.Breach.{Breach}
 use Rattle.fb_expect.proofs.lemmas.pairs.Coupled.{end-holds, end-late, end-open, end-over}

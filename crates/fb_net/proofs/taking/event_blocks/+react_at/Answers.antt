@@ -1,4 +1,4 @@
-use Rattle.std.proofs.Common.{◌≡◌, Some, rules, arith, sym, ap, ◌∙◌}
+use Rattle.std.proofs.Common.{Some, rules, arith, sym, ap, ◌∙◌}
 use Rattle.fb_net.specs.declared.block.Block.TheVariants as block
 use Rattle.fb_net.proofs.lemmas.blocks.Descents.{changed_below, changed_here, first_there, here_is}
 use Rattle.fb_net.proofs.lemmas.blocks.EventBlockReactions.{all_new, has_answered, typed_here}

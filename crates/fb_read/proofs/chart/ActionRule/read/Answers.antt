@@ -1,4 +1,4 @@
-use Rattle.std.proofs.Common.{◌≡◌, Bool, true, false, if◌then◌else◌, Option, Some, None, Ok, Err, refl, sym, ◌∙◌}
+use Rattle.std.proofs.Common.{◌≡◌, Bool, true, false, if◌then◌else◌, Option, Some, None, Ok, Err, refl}
 use Rattle.std.specs.Prelude.{◌&&◌, is_none}
 use Rattle.std.proofs.lemmas.Result.{err_from_is_err_and}
 use Rattle.fb_types.specs.Names.{Name}
@@ -9,7 +9,7 @@ use Rattle.fb_read.specs.Nodes.{action_of}
 use Rattle.fb_read.specs.Parser.{Parser, Outcome, ◌>>=◌, and_then, pure, refuse, name, name_if, optional, sees, after}
 use Rattle.fb_read.specs.Charts.{action}
 use Rattle.fb_read.proofs.lemmas.rules.Pairs.{alike}
-use Rattle.fb_read.proofs.lemmas.rules.Reading.{read_as, stops, stops_as, stops_later, went_on}
+use Rattle.fb_read.proofs.lemmas.rules.Reading.{stops, stops_as, stops_later}
 use Rattle.fb_read.proofs.chart.ActionRule.read.Goals as goal
 
 -- an action has an algorithm or an output

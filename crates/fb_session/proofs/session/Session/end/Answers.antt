@@ -1,7 +1,5 @@
-use Rattle.std.specs.Io.KnownBytes.{Appends}
-use Rattle.std.proofs.Common.{[], List, append-nil, subst, sym, ℕ}
+use Rattle.std.proofs.Common.{[], append-nil}
 use Rattle.std.proofs.KnownBytes.{Appends-nil}
-use Rattle.fb_types.specs.Headline.{IsTrace}
 use Rattle.fb_session.proofs.lemmas.EndingIs.{whole_stopped}
 use Rattle.fb_session.proofs.session.Session.end.Goals as goal
 

@@ -1,8 +1,7 @@
 use Rattle.std.proofs.Common.{Result, Ok, Err, false, inl, inr, refl, subst, sym, ◌≡◌, ◌≤◌}
-use Rattle.std.specs.Prelude.{IfErr, IfOk, IsTrue}
+use Rattle.std.specs.Prelude.{IfErr, IsTrue}
 use Rattle.std.specs.Result.{IsErrAnd}
-use Rattle.fb_trace.specs.End.{ending_of}
-use Rattle.fb_session.specs.Going.{IsBeginning, IsWhole}
+use Rattle.fb_session.specs.Going.{IsBeginning}
 use Rattle.fb_session.specs.Pasts.{Past, StandsBy, Talk, now}
 use Rattle.fb_session.specs.declared.fault.SessionFault.{SessionFault}
 use Rattle.fb_session.specs.declared.stage.Stage.TheVariants as stage

@@ -1,4 +1,4 @@
-use Rattle.std.proofs.Common.{◌<◌, ◌≤◌, List, [], append-nil, ap, arith, length, map, subst, sym, ◌∙◌}
+use Rattle.std.proofs.Common.{◌<◌, ◌≤◌, List, append-nil, ap, arith, length, map, subst, sym, ◌∙◌}
 use Rattle.std.proofs.lemmas.List.Elements.{All-nil}
 use Rattle.fb_types.specs.Headline.{system_of}
 use Rattle.fb_types.specs.Simulation.{Taken, opening, stimulus_of}

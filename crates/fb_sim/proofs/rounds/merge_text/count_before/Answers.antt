@@ -1,6 +1,5 @@
-use Rattle.std.proofs.Common.{ℕ, List, true, false, subst, sym, rules}
+use Rattle.std.proofs.Common.{rules}
 use Rattle.std.specs.Prelude.{nat_lt}
-use Rattle.std.specs.List.Sorted.{IsPartitionPoint}
 use Rattle.std.proofs.lemmas.List.Sorted.{IsPartitionPoint-from_clause}
 use Rattle.fb_sim.specs.MergedText.{until}
 use Rattle.fb_sim.proofs.lemmas.text.MergedText.{parted, point_before, point_from}

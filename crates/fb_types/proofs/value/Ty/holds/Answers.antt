@@ -1,4 +1,4 @@
-use Rattle.std.proofs.Common.{◌≡◌, ℕ, ℤ, true, false, Bool, Result, Ok, Err, is_ok, rules, arith, sym, ap, ◌∙◌, to_z-of_z}
+use Rattle.std.proofs.Common.{◌≡◌, ℕ, ℤ, Result, Ok, Err, is_ok, rules, arith, sym, ap, ◌∙◌, to_z-of_z}
 use Rattle.std.specs.Int.{FitsUnsigned}
 use Rattle.std.specs.Result.{OkIff}
 use Rattle.std.proofs.lemmas.Int.{ints}

@@ -1,4 +1,3 @@
-use Rattle.std.proofs.Common.{◌≡◌, sym, subst}
 use Rattle.fbsim_session.proofs.lemmas.Telling.{leads_as, leads_flushed, leads_sent}
 use Rattle.fbsim_session.proofs.talking.Console.answer.Goals as goal
 

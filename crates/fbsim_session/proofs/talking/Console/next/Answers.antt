@@ -1,4 +1,4 @@
-use Rattle.std.proofs.Common.{◌≡◌, sym, subst}
+use Rattle.std.proofs.Common.{sym}
 use Rattle.fbsim_session.proofs.lemmas.Telling.{failed, gone_next, leads_same}
 use Rattle.fbsim_session.proofs.talking.Console.next.Goals as goal
 

@@ -1,4 +1,4 @@
-use Rattle.std.proofs.Common.{◌≡◌, sym, subst}
+use Rattle.std.proofs.Common.{sym, subst}
 use Rattle.fb_session.specs.Pasts.{Talk}
 use Rattle.fbsim_session.specs.Talks.{Stays}
 use Rattle.fbsim_session.proofs.lemmas.Telling.{stays_broken}

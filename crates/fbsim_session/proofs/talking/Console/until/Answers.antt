@@ -1,4 +1,4 @@
-use Rattle.std.proofs.Common.{◌≡◌, sym, subst}
+use Rattle.std.proofs.Common.{sym}
 use Rattle.fbsim_session.proofs.lemmas.Telling.{failed, gone_until, leads_same}
 use Rattle.fbsim_session.proofs.talking.Console.until.Goals as goal
 

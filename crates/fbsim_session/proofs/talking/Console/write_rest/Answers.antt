@@ -1,4 +1,3 @@
-use Rattle.std.proofs.Common.{arith}
 use Rattle.fbsim_session.proofs.lemmas.Pieces.{ends_failed, ends_flushed}
 use Rattle.fbsim_session.proofs.lemmas.Telling.{concludes_passed, ended, failed}
 use Rattle.fbsim_session.proofs.talking.Console.write_rest.Goals as goal

@@ -1,4 +1,4 @@
-use Rattle.std.proofs.Common.{◌≡◌, ℕ, List, All, map, length, ◌∙◌, subst, sym, inr}
+use Rattle.std.proofs.Common.{◌≡◌, List, All, map, length, ◌∙◌, subst, sym, inr}
 use Rattle.std.specs.Io.KnownBytes.{Appends}
 use Rattle.fb_types.specs.Headline.{system_of}
 use Rattle.fb_types.specs.Numbers.{line_of}

@@ -1,4 +1,4 @@
-use Rattle.std.proofs.Common.{List, map}
+use Rattle.std.proofs.Common.{map}
 use Rattle.std.specs.Global.{Vec}
 use Rattle.fb_types.specs.declared.run.Line.{Line}
 use Rattle.fb_sim.proofs.lemmas.text.Texts.{one_joined}
